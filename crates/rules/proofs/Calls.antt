@@ -1,0 +1,212 @@
+-- Every call leaves a well-formed register well formed and a supported one supported. Assumes nothing.
+use mathlib.Core.Path.{_≡_, refl, sym, subst, _∙_}
+use mathlib.Core.Logic.{_≢_, _⊎_, inl, inr}
+use mathlib.Core.Bool.{Bool, true, false, not, cond, _||_}
+use mathlib.Core.List.{List, [], _∷_, _++_, List·Memᴰ·head, List·Memᴰ·tail, List·Memᴰ·not-nil}
+use Prim.Native.Nat.{ℕ, suc, _+_, _≤_, _<_, zero-le, suc-le-suc}
+use native.Mathlib.Nat.{le-trans, le-refl}
+use native.Mathlib.Omega.{arith}
+use lib.Bits.{bitAnd}
+use lib.Dec.{T, leb, ltb, eqb, eqb→eq, nleb→lt, nltb→le}
+use lib.ListN.{length, length-append, length-map, List·getD-append}
+use lib.IntN.{ℤ, pos}
+use Rattle.rules.specs.List.{_∈_}
+use Rattle.rules.specs.Limit.{code, _≼_}
+use Rattle.rules.specs.Table.{TableRule}
+use Rattle.rules.specs.Register.{Delegation, Register, reweigh, withDelegations}
+use Rattle.rules.specs.Condition.{meets}
+use Rattle.rules.specs.Chain.{IsChain}
+use Rattle.rules.specs.Support.{allowed, Carried, Supported}
+use Rattle.rules.specs.Pair.{isPair}
+use Rattle.rules.specs.Round.{settle}
+use Rattle.rules.specs.Remainder.{Within}
+use Rattle.rules.specs.Cut.{removal, lowering, named}
+use Rattle.rules.specs.WellFormed.{DelegationFormed, WellFormed}
+use Rattle.rules.specs.Call.{Call, enrol, grant, revoke, downgrade, askReach, askUse, fresh, granted}
+use Rattle.rules.specs.Refusal.{passed, held, refusalOf}
+use Rattle.rules.specs.CallStep.{Outcome, insert, cut, accepted, refused, callStep}
+use Rattle.rules.proofs.Lists.{filter-mem, filter-length, map-mem, eq→eqb, not-or-left, not-or-right, not-not, test-ne}
+use Rattle.rules.proofs.Chains.{mem-snoc}
+use Rattle.rules.proofs.Support.{allowed-carried, carried-mono}
+use Rattle.rules.proofs.Rounds.{AtMost-refl, settle-right, settle-best}
+use Rattle.rules.proofs.WellFormed.{settles-formed}
+use Rattle.rules.proofs.Refusals.{Passes, passes}
+use Rattle.rules.proofs.Pairs.{IsPair, none-stands, insert-mem, mem-insert, insert-length, insert-rising, rising-filter, rising-map}
+
+-- ── well formed ──
+removed-formed : (R : Register) (g r : ℕ) → WellFormed R → WellFormed (named R (removal g r))
+unfolding named
+removed-formed R g r f = record {
+  some = f .some;
+  most = f .most;
+  marked = f .marked;
+  marks = f .marks;
+  owner = f .owner;
+  few = le-trans (filter-length (λ (d : Delegation). not (isPair g r d)) (R .delegations)) (f .few);
+  rising = rising-filter (λ (d : Delegation). not (isPair g r d)) (R .delegations) (f .rising);
+  each = λ d m. f .each d (filter-mem (λ (x : Delegation). not (isPair g r x)) (R .delegations) m .0);
+}
+
+lowered-formed : (R : Register) (g r w : ℕ) → w ≤ 255 → WellFormed R → WellFormed (named R (lowering g r w))
+unfolding named
+lowered-formed R g r w h f = record {
+  some = f .some;
+  most = f .most;
+  marked = f .marked;
+  marks = f .marks;
+  owner = f .owner;
+  few = subst (λ (n : ℕ). n ≤ 256) (sym (length-map (R .delegations) setTo)) (f .few);
+  rising = rising-map setTo (λ d. pair d (isPair g r d)) (R .delegations) (f .rising);
+  each = λ e m.
+      let (d, m′, q) = map-mem setTo (R .delegations) m in
+      subst (λ (x : Delegation). DelegationFormed (R .subjects) x) (sym q) (formed d (isPair g r d) (f .each d m′));
+}
+  where
+    setTo : Delegation → Delegation
+    setTo d = cond (isPair g r d) (reweigh d w) d
+
+    pair : (d : Delegation) (b : Bool) → IsPair (d .giver) (d .receiver) (cond b (reweigh d w) d)
+    pair d true = (refl, refl)
+    pair d false = (refl, refl)
+
+    formed : (d : Delegation) (b : Bool) → DelegationFormed (R .subjects) d → DelegationFormed (R .subjects) (cond b (reweigh d w) d)
+    formed d true k = record { giver = k .giver; receiver = k .receiver; differ = k .differ; notOwner = k .notOwner; weight = h; need = k .need; bar = k .bar; disjoint = k .disjoint }
+    formed d false k = k
+
+-- ── each call ──
+pub fresh-formed : WellFormed fresh
+fresh-formed = record {
+  some = le-refl 1;
+  most = suc-le-suc zero-le;
+  marked = refl;
+  marks = zeros;
+  owner = refl;
+  few = zero-le;
+  rising = tt;
+  each = λ d m. absurd (List·Memᴰ·not-nil m);
+}
+  where
+    zeros : (m : ℕ) → m ∈ (0 ∷ []) → m ≤ 65535
+    zeros m (List·Memᴰ·head q) = omega arith
+    zeros m (List·Memᴰ·tail i) = absurd (List·Memᴰ·not-nil i)
+
+enrol-formed : (R : Register) (m : ℕ) → m ≤ 65535 → R .subjects < 64 → WellFormed R → WellFormed record { subjects = suc (R .subjects); marks = R .marks ++ (m ∷ []); delegations = R .delegations }
+enrol-formed R m h l f = record {
+  some = omega (arith, f .some);
+  most = l;
+  marked = length-append (R .marks) (m ∷ []) ∙ omega (arith, f .marked);
+  marks = λ x i. small x (mem-snoc (R .marks) i);
+  owner = List·getD-append (R .marks) (m ∷ []) 0 0 (omega (arith, f .marked, f .some)) ∙ f .owner;
+  few = f .few;
+  rising = f .rising;
+  each = λ d i. let k = f .each d i in record { giver = omega (arith, k .giver); receiver = omega (arith, k .receiver); differ = k .differ; notOwner = k .notOwner; weight = k .weight; need = k .need; bar = k .bar; disjoint = k .disjoint };
+}
+  where
+    small : (x : ℕ) → (x ∈ R .marks) ⊎ (x ≡ m) → x ≤ 65535
+    small x (inl i) = f .marks x i
+    small x (inr q) = omega arith
+
+insert-formed : (R : Register) (d : Delegation) → DelegationFormed (R .subjects) d → length (R .delegations) < 256 → ((e : Delegation) → e ∈ R .delegations → IsPair (d .giver) (d .receiver) e → ⊥)
+    → WellFormed R → WellFormed (withDelegations R (insert d (R .delegations)))
+insert-formed R d k l n f = record {
+  some = f .some;
+  most = f .most;
+  marked = f .marked;
+  marks = f .marks;
+  owner = f .owner;
+  few = omega (arith, insert-length d (R .delegations));
+  rising = insert-rising d (R .delegations) (f .rising) n;
+  each = λ e m. good e (insert-mem d (R .delegations) m);
+}
+  where
+    good : (e : Delegation) → (e ≡ d) ⊎ (e ∈ R .delegations) → DelegationFormed (R .subjects) e
+    good e (inl q) = subst (λ (x : Delegation). DelegationFormed (R .subjects) x) (sym q) k
+    good e (inr m) = f .each e m
+
+cut-formed : (t : List ℤ) (C : Register) → WellFormed C → WellFormed (cut t C .left)
+unfolding cut
+cut-formed t C f = settles-formed t (settle t C .changed) C (settle t C .left) (settle-right t C) f
+
+accepted-formed : (t : List ℤ) (R : Register) (c : Call) → Passes (passed c ++ held t R c) → WellFormed R → WellFormed (accepted t R c .left)
+unfolding accepted passed held
+accepted-formed t R (enrol m) p f = enrol-formed R m (nltb→le 65535 m (p .0)) (nleb→lt 64 (R .subjects) (p .1 .0)) f
+accepted-formed t R (grant g r w n b) p f =
+    insert-formed R (granted g r w n b) record {
+      giver = nleb→lt (R .subjects) g (not-or-left (leb (R .subjects) g) (leb (R .subjects) r || false) (p .1 .1 .1 .1 .1 .0));
+      receiver = nleb→lt (R .subjects) r (not-or-left (leb (R .subjects) r) false (not-or-right (leb (R .subjects) g) (leb (R .subjects) r || false) (p .1 .1 .1 .1 .1 .0)));
+      differ = test-ne g r (p .1 .1 .1 .0);
+      notOwner = test-ne r 0 (p .1 .1 .1 .1 .0);
+      weight = nltb→le 255 w (p .1 .0);
+      need = nltb→le 65535 n (not-or-left (ltb 65535 n) (ltb 65535 b) masks);
+      bar = nltb→le 65535 b (not-or-right (ltb 65535 n) (ltb 65535 b) masks);
+      disjoint = eqb→eq (bitAnd n b) 0 (not-not (eqb (bitAnd n b) 0) (not-or-right (ltb 65535 n || ltb 65535 b) (not (eqb (bitAnd n b) 0)) (p .1 .1 .0)));
+    }
+    (nleb→lt 256 (length (R .delegations)) (p .1 .1 .1 .1 .1 .1 .1 .0)) (none-stands R g r (p .1 .1 .1 .1 .1 .1 .0)) f
+  where
+    masks : T (not (ltb 65535 n || ltb 65535 b))
+    masks = not-or-left (ltb 65535 n || ltb 65535 b) (not (eqb (bitAnd n b) 0)) (p .1 .1 .0)
+accepted-formed t R (revoke y g r) p f = cut-formed t (named R (removal g r)) (removed-formed R g r f)
+accepted-formed t R (downgrade y g r w) p f = cut-formed t (named R (lowering g r w)) (lowered-formed R g r w (nltb→le 255 w (p .1 .0)) f)
+accepted-formed t R (askReach g r) p f = f
+accepted-formed t R (askUse r) p f = f
+
+-- ── supported ──
+module _ (t : List ℤ) (rule : TableRule t) where
+  -- a chain of an enrolled receiver is one after another subject is enrolled
+  enrol-chain : (R : Register) (m u v : ℕ) (ds : List Delegation) → v < length (R .marks) → IsChain t R u v ds
+      → IsChain t record { subjects = suc (R .subjects); marks = R .marks ++ (m ∷ []); delegations = R .delegations } u v ds
+  enrol-chain R m u v ds l c = record {
+    standing = c .standing;
+    linked = c .linked;
+    distinct = c .distinct;
+    met = λ d i. subst (λ (x : ℕ). T (meets x (d .need) (d .bar))) (sym (List·getD-append (R .marks) (m ∷ []) 0 v l)) (c .met d i);
+    live = c .live;
+  }
+
+  enrol-supported : (R : Register) (m : ℕ) → WellFormed R → Supported t R → Supported t record { subjects = suc (R .subjects); marks = R .marks ++ (m ∷ []); delegations = R .delegations }
+  unfolding Carried
+  enrol-supported R m f s d i =
+      let (ds, c, h) = s d i in
+      (ds, enrol-chain R m (d .giver) (d .receiver) ds (omega (arith, f .marked, f .each d i .receiver)) c, h)
+
+  insert-supported : (R : Register) (d : Delegation) → pos (d .weight) ≼ allowed t R d → Supported t R → Supported t (withDelegations R (insert d (R .delegations)))
+  insert-supported R d h s e m = carried-mono t rule R (withDelegations R (insert d (R .delegations))) e within (old (insert-mem d (R .delegations) m))
+    where
+      within : Within R (withDelegations R (insert d (R .delegations)))
+      within = record { subjects = refl; marks = refl; held = λ x i. (x, mem-insert d (R .delegations) (inr i), AtMost-refl x) }
+
+      old : (e ≡ d) ⊎ (e ∈ R .delegations) → Carried t R e
+      old (inl q) = subst (λ (x : Delegation). Carried t R x) (sym q) (allowed-carried t rule R d h)
+      old (inr i) = s e i
+
+  cut-supported : (C : Register) → Supported t (cut t C .left)
+  unfolding cut
+  cut-supported C = settle-best t rule C .remainder .supported
+
+  accepted-supported : (R : Register) (c : Call) → Passes (passed c ++ held t R c) → WellFormed R → Supported t R → Supported t (accepted t R c .left)
+  unfolding accepted passed held
+  accepted-supported R (enrol m) p f s = enrol-supported R m f s
+  accepted-supported R (grant g r w n b) p f s =
+      let d = granted g r w n b in
+      insert-supported R d (nltb→le (code (allowed t R d)) (suc w) (not-or-left (ltb (code (allowed t R d)) (suc w)) false (p .1 .1 .1 .1 .1 .1 .1 .1 .0))) s
+  accepted-supported R (revoke y g r) p f s = cut-supported (named R (removal g r))
+  accepted-supported R (downgrade y g r w) p f s = cut-supported (named R (lowering g r w))
+  accepted-supported R (askReach g r) p f s = s
+  accepted-supported R (askUse r) p f s = s
+
+-- ── a call, refused or not ──
+-- what a call that is not refused does, where it passed every test; what a refused call does
+pub callStep-cases : (t : List ℤ) (R : Register) (c : Call) (P : Outcome → Type 0) → (refusalOf t R c ≡ 0 → Passes (passed c ++ held t R c) → P (accepted t R c))
+    → (refusalOf t R c ≢ 0 → P (refused (refusalOf t R c) R)) → P (callStep t R c)
+unfolding callStep
+callStep-cases t R c P done turned = go (eqb (refusalOf t R c) 0) refl
+  where
+    go : (b : Bool) → eqb (refusalOf t R c) 0 ≡ b → let o : Outcome = elim b [ true ↦ accepted t R c | false ↦ refused (refusalOf t R c) R ] in P o
+    go true e = let z = eqb→eq (refusalOf t R c) 0 (subst T (sym e) tt) in done z (passes t R c z)
+    go false e = turned (λ z. subst T e (eq→eqb z))
+
+pub callStep-formed : (t : List ℤ) (R : Register) (c : Call) → WellFormed R → WellFormed (callStep t R c .left)
+callStep-formed t R c f = callStep-cases t R c (λ (o : Outcome). WellFormed (o .left)) (λ z p. accepted-formed t R c p f) (λ n. f)
+
+pub callStep-supported : (t : List ℤ) → TableRule t → (R : Register) (c : Call) → WellFormed R → Supported t R → Supported t (callStep t R c .left)
+callStep-supported t rule R c f s = callStep-cases t R c (λ (o : Outcome). Supported t (o .left)) (λ z p. accepted-supported t rule R c p f s) (λ n. s)

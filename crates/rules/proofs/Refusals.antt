@@ -1,0 +1,39 @@
+-- A call that is not refused passed every test of its two lists. Assumes nothing.
+use mathlib.Core.Path.{_≡_}
+use mathlib.Core.Bool.{Bool, true, false, not, cond, _&&_}
+use mathlib.Core.List.{List, [], _∷_, _++_}
+use Prim.Native.Nat.{ℕ}
+use native.Mathlib.Omega.{arith}
+use lib.Dec.{T, ltb, ltb→lt}
+use lib.IntN.{ℤ}
+use Rattle.rules.specs.Register.{Register}
+use Rattle.rules.specs.Call.{Call, enrol, grant, revoke, downgrade, askReach, askUse}
+use Rattle.rules.specs.Refusal.{firstOf, passed, held, refusalOf}
+use Rattle.rules.proofs.Lists.{T-left, T-right}
+
+-- no test of the list applies
+abbrev pub Passes : List (ℕ × Bool) → Type 0
+Passes [] = Unit {0}
+Passes (p ∷ ps) = T (not (p .1)) × Passes ps
+
+-- every number is above 0
+abbrev numbered : List (ℕ × Bool) → Bool
+numbered [] = true
+numbered (p ∷ ps) = ltb 0 (p .0) && numbered ps
+
+firstOf-passes : (ps : List (ℕ × Bool)) → T (numbered ps) → firstOf ps ≡ 0 → Passes ps
+firstOf-passes [] h e = tt
+firstOf-passes (p ∷ ps) h e = go (p .1) (firstOf-passes ps (T-right (ltb 0 (p .0)) (numbered ps) h)) e
+  where
+    go : (b : Bool) → (firstOf ps ≡ 0 → Passes ps) → cond b (p .0) (firstOf ps) ≡ 0 → T (not b) × Passes ps
+    go true f q = absurd (omega (arith, ltb→lt 0 (p .0) (T-left (ltb 0 (p .0)) (numbered ps) h)))
+    go false f q = (tt, f q)
+
+pub passes : (t : List ℤ) (R : Register) (c : Call) → refusalOf t R c ≡ 0 → Passes (passed c ++ held t R c)
+unfolding refusalOf passed held
+passes t R (enrol m) e = firstOf-passes (passed (enrol m) ++ held t R (enrol m)) tt e
+passes t R (grant g r w n b) e = firstOf-passes (passed (grant g r w n b) ++ held t R (grant g r w n b)) tt e
+passes t R (revoke y g r) e = firstOf-passes (passed (revoke y g r) ++ held t R (revoke y g r)) tt e
+passes t R (downgrade y g r w) e = firstOf-passes (passed (downgrade y g r w) ++ held t R (downgrade y g r w)) tt e
+passes t R (askReach g r) e = firstOf-passes (passed (askReach g r) ++ held t R (askReach g r)) tt e
+passes t R (askUse r) e = firstOf-passes (passed (askUse r) ++ held t R (askUse r)) tt e

@@ -1,0 +1,86 @@
+-- A step table keeps the rule where one computed test over its entries passes. Document 01's own table passes it. Assumes nothing.
+use mathlib.Core.Path.{_≡_, refl, sym, ap, subst, _∙_}
+use mathlib.Core.Bool.{Bool, true, false, cond, _&&_}
+use mathlib.Core.List.{List, [], _∷_}
+use Prim.Native.Nat.{ℕ, zero, suc, _+_, _-_, _≤_, _<_}
+use native.Mathlib.Nat.{le-refl, add-zero, zero-add, add-suc, suc-add, le-of-suc-le-suc, not-suc-le-zero}
+use native.Mathlib.Omega.{arith}
+use lib.Dec.{T, leb, eqb, leb→le, eqb→eq}
+use lib.ListN.{length, getD}
+use lib.IntN.{ℤ, pos}
+use Rattle.rules.specs.Limit.{none, code, fromNone}
+use Rattle.rules.specs.Table.{entry, next, TableRule, step, tabled, steps}
+use Rattle.rules.proofs.Lists.{T-left, T-right}
+
+-- x may stand at place i after p
+abbrev pub fits : ℕ → ℤ → ℤ → Bool
+fits i p x = fromNone x && leb (code p) (code x) && leb (code x) (cond (eqb i 255) 256 i)
+
+-- each entry may stand where it stands, counted from i, after p
+abbrev pub ruled : ℕ → ℤ → List ℤ → Bool
+ruled i p [] = true
+ruled i p (x ∷ xs) = fits i p x && ruled (suc i) x xs
+
+-- THE TEST of a table
+abbrev pub tableTest : List ℤ → Bool
+tableTest t = eqb (length t) 256 && ruled 0 none t
+
+from : (xs : List ℤ) (i : ℕ) (p : ℤ) → T (ruled i p xs) → (k : ℕ) → k < length xs → T (fits (i + k) (getD (p ∷ xs) k none) (getD xs k none))
+from [] i p h k l = absurd (not-suc-le-zero l)
+from (x ∷ xs) i p h zero l = subst (λ (j : ℕ). T (fits j p x)) (sym (add-zero i)) (T-left (fits i p x) (ruled (suc i) x xs) h)
+from (x ∷ xs) i p h (suc k) l =
+    subst (λ (j : ℕ). T (fits j (getD (x ∷ xs) k none) (getD xs k none))) (suc-add i k ∙ sym (add-suc i k))
+    (from xs (suc i) x (T-right (fits i p x) (ruled (suc i) x xs) h) k (le-of-suc-le-suc l))
+
+module _ (t : List ℤ) (h : T (tableTest t)) where
+  long : length t ≡ 256
+  long = eqb→eq (length t) 256 (T-left (eqb (length t) 256) (ruled 0 none t) h)
+
+  at : (k : ℕ) → k < 256 → T (fits k (getD (none ∷ t) k none) (entry t k))
+  at k l =
+      subst (λ (j : ℕ). T (fits j (getD (none ∷ t) k none) (entry t k))) (zero-add k)
+      (from t 0 none (T-right (eqb (length t) 256) (ruled 0 none t) h) k (omega (arith, long)))
+
+  bounds : (k : ℕ) → k < 256 → T (fromNone (entry t k)) × (code (getD (none ∷ t) k none) ≤ code (entry t k)) × (code (entry t k) ≤ cond (eqb k 255) 256 k)
+  bounds k l =
+      let a = fromNone (entry t k) in
+      let b = leb (code (getD (none ∷ t) k none)) (code (entry t k)) in
+      let c = leb (code (entry t k)) (cond (eqb k 255) 256 k) in
+      let h₁ = T-left (a && b) c (at k l) in
+      (T-left a b h₁, leb→le _ _ (T-right a b h₁), leb→le _ _ (T-right (a && b) c (at k l)))
+
+  -- a place before the last
+  early : (b : Bool) (k : ℕ) → (T b → k ≡ 255) → k < 255 → cond b 256 k ≡ k
+  early true k f l = absurd (omega (arith, f tt))
+  early false k f l = refl
+
+  -- the rule, at every entry
+  pub tableRule : TableRule t
+  tableRule = record {
+    size = long;
+    low = λ k l. bounds k l .0;
+    rises = λ k l. bounds (suc k) (omega arith) .1;
+    falls = λ k l. subst (λ (n : ℕ). code (entry t k) ≤ n) (early (eqb k 255) k (eqb→eq k 255) l) (bounds k (omega arith) .2);
+    last = bounds 255 (le-refl 256) .2;
+  }
+
+-- ── document 01's table ──
+pub steps-rule : TableRule steps
+unfolding steps step fromNone
+steps-rule = tableRule steps tt
+
+getD-tabled : (f : ℕ → ℤ) (i n k : ℕ) → k < n → getD (tabled f i n) k none ≡ f (i + k)
+getD-tabled f i zero k l = absurd (not-suc-le-zero l)
+getD-tabled f i (suc n) zero l = ap f (sym (add-zero i))
+getD-tabled f i (suc n) (suc k) l = getD-tabled f (suc i) n k (le-of-suc-le-suc l) ∙ ap f (suc-add i k ∙ sym (add-suc i k))
+
+-- the entry for a weight is what the document's text says
+pub steps-entry : (w : ℕ) → w < 256 → entry steps w ≡ step w
+unfolding steps
+steps-entry w l = getD-tabled step 0 256 w l ∙ ap step (zero-add w)
+
+-- the step at -1, 0 and 255, and beside them
+pub steps-edges : (next steps none 0 ∷ next steps none 255 ∷ next steps (pos 0) 255 ∷ next steps (pos 255) 0 ∷ next steps (pos 1) 255 ∷ next steps (pos 255) 254 ∷ next steps (pos 254) 255 ∷ next steps (pos 255) 255 ∷ [])
+    ≡ (none ∷ none ∷ none ∷ none ∷ pos 0 ∷ pos 253 ∷ pos 253 ∷ pos 255 ∷ [])
+unfolding next step steps
+steps-edges = refl

@@ -1,0 +1,31 @@
+-- The calls of a list (document 01, 'Calls'). Every number is what the caller passed, whatever it is. Assumes nothing.
+use mathlib.Core.Path.{_≡_}
+use mathlib.Core.List.{[], _∷_}
+use Prim.Native.Nat.{ℕ}
+use Rattle.rules.specs.Register.{Delegation, Register}
+use Rattle.rules.specs.Cut.{Cut, removal, lowering}
+
+pub data Call : Type 0 where
+  enrol : (marks : ℕ) → Call
+  grant : (giver receiver weight need bar : ℕ) → Call
+  revoke : (by giver receiver : ℕ) → Call
+  downgrade : (by giver receiver weight : ℕ) → Call
+  askReach : (giver receiver : ℕ) → Call
+  askUse : (receiver : ℕ) → Call
+
+-- what open writes: one subject, no delegation
+abbrev pub fresh : Register
+fresh = record { subjects = 1; marks = 0 ∷ []; delegations = [] }
+
+-- the delegation that a grant adds
+abbrev pub granted : ℕ → ℕ → ℕ → ℕ → ℕ → Delegation
+granted g r w n b = record { giver = g; receiver = r; weight = w; need = n; bar = b }
+
+-- the call is this cut
+abbrev pub IsCut : Call → Cut → Type 0
+IsCut (enrol m) k = ⊥
+IsCut (grant g r w n b) k = ⊥
+IsCut (revoke y g r) k = k ≡ removal g r
+IsCut (downgrade y g r w) k = k ≡ lowering g r w
+IsCut (askReach g r) k = ⊥
+IsCut (askUse r) k = ⊥

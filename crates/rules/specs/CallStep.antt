@@ -1,0 +1,58 @@
+-- What a call returns and leaves, on a register (document 01, 'Calls'). Assumes nothing.
+use mathlib.Core.Bool.{Bool, true, false, cond, _&&_, _||_}
+use mathlib.Core.List.{List, [], _∷_, _++_}
+use Prim.Native.Nat.{ℕ, suc}
+use lib.Dec.{ltb, eqb}
+use lib.ListN.{length}
+use lib.IntN.{ℤ, pos}
+use Rattle.rules.specs.Register.{Delegation, Register, withDelegations}
+use Rattle.rules.specs.Reach.{reach}
+use Rattle.rules.specs.Pair.{receives}
+use Rattle.rules.specs.Round.{settle, rounds}
+use Rattle.rules.specs.Cut.{removal, lowering, named, dropped, lowered}
+use Rattle.rules.specs.Call.{Call, enrol, grant, revoke, downgrade, askReach, askUse, granted}
+use Rattle.rules.specs.Refusal.{refusalOf}
+
+-- the refusal number, 0 when accepted; the three answers; the register left
+pub record Outcome : Type 0 where
+  pub refusal : ℕ
+  pub first : ℤ
+  pub second : ℤ
+  pub third : ℤ
+  pub left : Register
+
+abbrev pub answered : ℤ → ℤ → ℤ → Register → Outcome
+answered a b c R = record { refusal = 0; first = a; second = b; third = c; left = R }
+
+-- a refused call answers 0 and leaves the register as it found it
+abbrev pub refused : ℕ → Register → Outcome
+refused n R = record { refusal = n; first = pos 0; second = pos 0; third = pos 0; left = R }
+
+-- d before e: by giver, then receiver, as a test
+abbrev pub before : Delegation → Delegation → Bool
+before d e = ltb (d .giver) (e .giver) || (eqb (d .giver) (e .giver) && ltb (d .receiver) (e .receiver))
+
+-- d at its place
+abbrev pub insert : Delegation → List Delegation → List Delegation
+insert d [] = d ∷ []
+insert d (e ∷ es) = cond (before d e) (d ∷ e ∷ es) (e ∷ insert d es)
+
+-- a cut, from the register C after its named change
+unfoldable pub cut : List ℤ → Register → Outcome
+cut t C =
+    let s = settle t C in
+    answered (pos (dropped C (s .left))) (pos (lowered C (s .left))) (pos (rounds s)) (s .left)
+
+-- a call that is not refused
+unfoldable pub accepted : List ℤ → Register → Call → Outcome
+accepted t R (enrol m) = answered (pos (R .subjects)) (pos 0) (pos 0) record { subjects = suc (R .subjects); marks = R .marks ++ (m ∷ []); delegations = R .delegations }
+accepted t R (grant g r w n b) =
+    let S = withDelegations R (insert (granted g r w n b) (R .delegations)) in
+    answered (pos (length (S .delegations))) (pos 0) (pos 0) S
+accepted t R (revoke y g r) = cut t (named R (removal g r))
+accepted t R (downgrade y g r w) = cut t (named R (lowering g r w))
+accepted t R (askReach g r) = answered (reach t R g r) (pos 0) (pos 0) R
+accepted t R (askUse r) = answered (pos (cond (eqb r 0 || receives r (R .delegations)) 1 0)) (pos 0) (pos 0) R
+
+unfoldable pub callStep : List ℤ → Register → Call → Outcome
+callStep t R c = let n = refusalOf t R c in elim (eqb n 0) [ true ↦ accepted t R c | false ↦ refused n R ]

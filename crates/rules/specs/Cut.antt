@@ -1,0 +1,34 @@
+-- Cuts (document 01, 'Calls'): the named change, and the counts that compare the register C after it with the register F left. Assumes nothing.
+use mathlib.Core.Bool.{Bool, cond, not, _&&_}
+use mathlib.Core.List.{map}
+use Prim.Native.Nat.{ℕ, suc}
+use lib.Dec.{leb}
+use lib.ListN.{length}
+use Rattle.rules.specs.List.{filter}
+use Rattle.rules.specs.Limit.{code}
+use Rattle.rules.specs.Register.{Delegation, Register, reweigh, withDelegations}
+use Rattle.rules.specs.Pair.{isPair, weightAt, stands}
+
+-- what a cut names: a pair whose delegation is removed, or set to a new weight
+pub data Cut : Type 0 where
+  removal : (giver receiver : ℕ) → Cut
+  lowering : (giver receiver weight : ℕ) → Cut
+
+-- the named change (document 01's term)
+unfoldable pub named : Register → Cut → Register
+named R (removal g r) = withDelegations R (filter (λ d. not (isPair g r d)) (R .delegations))
+named R (lowering g r w) = withDelegations R (map (λ d. cond (isPair g r d) (reweigh d w) d) (R .delegations))
+
+abbrev pub isDropped : Register → Delegation → Bool
+isDropped F d = not (stands F (d .giver) (d .receiver))
+
+abbrev pub isLowered : Register → Delegation → Bool
+isLowered F d = stands F (d .giver) (d .receiver) && leb (code (weightAt (F .delegations) (d .giver) (d .receiver))) (d .weight)
+
+-- how many delegations of C do not stand in F
+abbrev pub dropped : Register → Register → ℕ
+dropped C F = length (filter (isDropped F) (C .delegations))
+
+-- how many stand in F at a smaller weight
+abbrev pub lowered : Register → Register → ℕ
+lowered C F = length (filter (isLowered F) (C .delegations))

@@ -1,0 +1,156 @@
+-- P1 to P8 of document 01 ('Register examples'), as lists of calls with what document 01 says comes out. Assumes nothing.
+use mathlib.Core.List.{List, [], _∷_, _++_, map}
+use Prim.Native.Nat.{ℕ}
+use lib.ListN.{length, take, drop, replicate}
+use lib.IntN.{ℤ, pos}
+use Rattle.rules.specs.Limit.{none}
+use Rattle.rules.specs.Table.{steps}
+use Rattle.rules.specs.Register.{Delegation}
+use Rattle.rules.specs.Call.{Call, enrol, grant, revoke, downgrade, askReach, askUse}
+use Rattle.rules.specs.CallStep.{Outcome}
+use Rattle.rules.specs.Trace.{trace}
+
+-- an outcome as the program prints it: refusal and three answers
+pub record Line : Type 0 where
+  pub refusal : ℕ
+  pub first : ℤ
+  pub second : ℤ
+  pub third : ℤ
+
+abbrev pub line : ℕ → ℤ → ℤ → ℤ → Line
+line n a b c = record { refusal = n; first = a; second = b; third = c }
+
+abbrev pub lineOf : Outcome → Line
+lineOf o = line (o .refusal) (o .first) (o .second) (o .third)
+
+-- the calls that make the register, all accepted; the calls that the document speaks of; what they answer; the delegations that stand afterwards
+pub record Example : Type 0 where
+  pub given : List Call
+  pub calls : List Call
+  pub printed : List Line
+  pub standing : List Delegation
+
+-- the delegations that the last call left
+abbrev pub lastLeft : List Outcome → List Delegation
+lastLeft [] = []
+lastLeft (o ∷ os) = leftAfter o os
+  where
+    leftAfter : Outcome → List Outcome → List Delegation
+    leftAfter o [] = o .left .delegations
+    leftAfter o (p ∷ ps) = leftAfter p ps
+
+pub record Shown : Type 0 where
+  pub refusals : List ℕ
+  pub printed : List Line
+  pub standing : List Delegation
+
+-- what the definitions make of an example, and what the document says of it
+abbrev pub computed : Example → Shown
+computed e =
+    let os = trace steps (e .given ++ e .calls) in
+    record { refusals = map (λ o. o .refusal) (take (length (e .given)) os); printed = map lineOf (drop (length (e .given)) os); standing = lastLeft os }
+
+abbrev pub said : Example → Shown
+said e = record { refusals = replicate (length (e .given)) 0; printed = e .printed; standing = e .standing }
+
+-- ── the examples ──
+
+abbrev pub plain : ℕ → ℕ → ℕ → Call
+plain g r w = grant g r w 0 0
+
+abbrev pub entry : ℕ → ℕ → ℕ → Delegation
+entry g r w = record { giver = g; receiver = r; weight = w; need = 0; bar = 0 }
+
+abbrev pub needing : ℕ → ℕ → ℕ → ℕ → Delegation
+needing g r w n = record { giver = g; receiver = r; weight = w; need = n; bar = 0 }
+
+abbrev pub one : ℤ → Line
+one a = line 0 a (pos 0) (pos 0)
+
+abbrev pub P1 : Example
+P1 = record {
+  given = [];
+  calls = enrol 0 ∷ enrol 0 ∷ plain 0 1 255 ∷ plain 1 2 255 ∷ plain 2 1 255 ∷ revoke 0 0 1 ∷ askUse 2 ∷ [];
+  printed = one (pos 1) ∷ one (pos 2) ∷ one (pos 1) ∷ one (pos 2) ∷ one (pos 3) ∷ line 0 (pos 2) (pos 0) (pos 2) ∷ one (pos 0) ∷ [];
+  standing = [];
+}
+
+abbrev pub P2 : Example
+P2 = record {
+  given = enrol 0 ∷ enrol 0 ∷ enrol 0 ∷ enrol 0 ∷ plain 0 1 5 ∷ plain 0 2 3 ∷ plain 1 3 4 ∷ plain 2 3 2 ∷ plain 3 4 3 ∷ [];
+  calls = revoke 0 0 1 ∷ [];
+  printed = line 0 (pos 1) (pos 1) (pos 2) ∷ [];
+  standing = entry 0 2 3 ∷ entry 2 3 2 ∷ entry 3 4 1 ∷ [];
+}
+
+-- P3 where subject 4 has the marks m
+abbrev pub P3-given : ℕ → List Call
+P3-given m = enrol 0 ∷ enrol 0 ∷ enrol 1 ∷ enrol m ∷ grant 0 1 6 1 0 ∷ plain 0 2 3 ∷ plain 1 3 5 ∷ plain 2 3 2 ∷ []
+
+abbrev pub P3-standing : List Delegation
+P3-standing = needing 0 1 6 1 ∷ entry 0 2 3 ∷ entry 1 3 5 ∷ entry 2 3 2 ∷ []
+
+abbrev pub P3-with : Example
+P3-with = record { given = P3-given 1; calls = askReach 3 4 ∷ []; printed = one (pos 4) ∷ []; standing = P3-standing }
+
+abbrev pub P3-without : Example
+P3-without = record { given = P3-given 0; calls = askReach 3 4 ∷ []; printed = one (pos 1) ∷ []; standing = P3-standing }
+
+abbrev pub P4 : Example
+P4 = record { given = P3-given 0 ++ (enrol 1 ∷ plain 3 5 4 ∷ []); calls = askReach 5 4 ∷ []; printed = one (pos 0) ∷ []; standing = P3-standing ++ (entry 3 5 4 ∷ []) }
+
+abbrev pub P5 : Example
+P5 = record {
+  given = enrol 0 ∷ enrol 0 ∷ enrol 1 ∷ enrol 1 ∷ enrol 0 ∷ grant 0 1 6 1 0 ∷ plain 1 3 5 ∷ plain 0 2 7 ∷ plain 2 3 6 ∷ plain 3 5 5 ∷ plain 5 4 4 ∷ [];
+  calls = downgrade 0 0 2 2 ∷ [];
+  printed = line 0 (pos 1) (pos 2) (pos 3) ∷ [];
+  standing = needing 0 1 6 1 ∷ entry 0 2 2 ∷ entry 1 3 5 ∷ entry 2 3 1 ∷ entry 3 5 0 ∷ [];
+}
+
+abbrev pub P6 : Example
+P6 = record { given = enrol 0 ∷ []; calls = askReach 0 1 ∷ []; printed = one (pos 255) ∷ []; standing = [] }
+
+abbrev pub P7 : Example
+P7 = record { given = enrol 0 ∷ enrol 0 ∷ plain 0 1 0 ∷ []; calls = askReach 1 2 ∷ []; printed = one none ∷ []; standing = entry 0 1 0 ∷ [] }
+
+abbrev pub P8 : Example
+P8 = record {
+  given = enrol 0 ∷ enrol 0 ∷ plain 0 1 254 ∷ [];
+  calls = askReach 1 2 ∷ plain 1 2 254 ∷ plain 1 2 253 ∷ [];
+  printed = one (pos 253) ∷ line 16 (pos 0) (pos 0) (pos 0) ∷ one (pos 2) ∷ [];
+  standing = entry 0 1 254 ∷ entry 1 2 253 ∷ [];
+}
+
+abbrev pub examples : List Example
+examples = P1 ∷ P2 ∷ P3-with ∷ P3-without ∷ P4 ∷ P5 ∷ P6 ∷ P7 ∷ P8 ∷ []
+
+-- ── several refusals at once: the first in the order of the call's lists is returned ──
+
+-- the calls on P2's register with the refusal that document 01's order gives
+abbrev pub orders : List (Call × ℕ)
+orders =
+    (plain 100 100 256, 2)
+    ∷ (plain 4 4 256, 3)
+    ∷ (grant 0 0 5 0 65536, 4)
+    ∷ (grant 0 0 5 3 1, 4)
+    ∷ (plain 0 0 5, 5)
+    ∷ (plain 7 0 5, 6)
+    ∷ (plain 0 7 5, 9)
+    ∷ (plain 0 1 9, 11)
+    ∷ (plain 4 1 2, 0)
+    ∷ (plain 4 1 3, 16)
+    ∷ (revoke 64 3 3, 2)
+    ∷ (revoke 7 2 0, 6)
+    ∷ (revoke 7 0 1, 9)
+    ∷ (revoke 2 0 4, 13)
+    ∷ (revoke 1 0 1, 14)
+    ∷ (downgrade 0 0 1 256, 3)
+    ∷ (downgrade 1 0 1 5, 14)
+    ∷ (downgrade 0 0 1 5, 15)
+    ∷ (askReach 0 0, 5)
+    ∷ (askReach 5 5, 5)
+    ∷ (askReach 5 0, 6)
+    ∷ (askUse 64, 2)
+    ∷ (askUse 5, 9)
+    ∷ (enrol 65536, 4)
+    ∷ []

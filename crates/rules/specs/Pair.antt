@@ -1,0 +1,24 @@
+-- What stands for a pair of giver and receiver (document 01, 'Subjects, marks, weights'): at most one delegation in a well-formed register. Assumes nothing.
+use mathlib.Core.Bool.{Bool, false, cond, _&&_, _||_}
+use mathlib.Core.List.{List, [], _∷_}
+use Prim.Native.Nat.{ℕ, zero}
+use lib.Dec.{eqb, ltb}
+use lib.IntN.{ℤ, pos}
+use Rattle.rules.specs.Limit.{none, code}
+use Rattle.rules.specs.Register.{Delegation, Register}
+
+abbrev pub isPair : ℕ → ℕ → Delegation → Bool
+isPair g r d = eqb (d .giver) g && eqb (d .receiver) r
+
+-- the weight that stands for a pair, or -1
+abbrev pub weightAt : List Delegation → ℕ → ℕ → ℤ
+weightAt [] g r = none
+weightAt (d ∷ ds) g r = cond (isPair g r d) (pos (d .weight)) (weightAt ds g r)
+
+abbrev pub stands : Register → ℕ → ℕ → Bool
+stands R g r = ltb zero (code (weightAt (R .delegations) g r))
+
+-- some delegation to r stands
+abbrev pub receives : ℕ → List Delegation → Bool
+receives r [] = false
+receives r (d ∷ ds) = eqb (d .receiver) r || receives r ds

@@ -1,0 +1,111 @@
+-- Refusals (document 01, 'Turned back by what was passed' and 'Turned back by what the register holds'): each number with the test under which it applies, and for each call
+-- two ordered lists of them. The refusal is the first that applies of 1, `passed`, 8 and `held`; 1 and 8 speak of bytes and have no place in a register. Assumes nothing.
+use mathlib.Core.Bool.{Bool, cond, not, _||_}
+use mathlib.Core.List.{List, [], _∷_, _++_}
+use Prim.Native.Nat.{ℕ, suc}
+use lib.Bits.{bitAnd}
+use lib.Dec.{leb, ltb, eqb}
+use lib.ListN.{length}
+use lib.IntN.{ℤ}
+use Rattle.rules.specs.List.{filter, any}
+use Rattle.rules.specs.Limit.{code}
+use Rattle.rules.specs.Register.{Delegation, Register}
+use Rattle.rules.specs.Support.{allowed}
+use Rattle.rules.specs.Pair.{isPair, weightAt, stands}
+use Rattle.rules.specs.Call.{Call, enrol, grant, revoke, downgrade, askReach, askUse, granted}
+
+-- the number of the first that applies, or 0
+abbrev pub firstOf : List (ℕ × Bool) → ℕ
+firstOf [] = 0
+firstOf (p ∷ ps) = cond (p .1) (p .0) (firstOf ps)
+
+-- ── by what was passed ──
+
+-- 2: a subject number above 63
+abbrev pub noSubject : List ℕ → ℕ × Bool
+noSubject xs = (2, any (λ x. ltb 63 x) xs)
+
+-- 3: a weight above 255
+abbrev pub noWeight : ℕ → ℕ × Bool
+noWeight w = (3, ltb 255 w)
+
+-- 4: marks above 65,535
+abbrev pub noMarks : ℕ → ℕ × Bool
+noMarks m = (4, ltb 65535 m)
+
+-- 4: need or bar above 65,535, or they share a mark
+abbrev pub noCondition : ℕ → ℕ → ℕ × Bool
+noCondition n b = (4, ltb 65535 n || ltb 65535 b || not (eqb (bitAnd n b) 0))
+
+-- 5: giver and receiver equal
+abbrev pub equalPair : ℕ → ℕ → ℕ × Bool
+equalPair g r = (5, eqb g r)
+
+-- 6: the receiver is the owner
+abbrev pub toOwner : ℕ → ℕ × Bool
+toOwner r = (6, eqb r 0)
+
+-- ── by what the register holds ──
+
+-- 9: a named subject is not enrolled
+abbrev pub notEnrolled : Register → List ℕ → ℕ × Bool
+notEnrolled R xs = (9, any (λ x. leb (R .subjects) x) xs)
+
+-- 10: 64 subjects enrolled
+abbrev pub allEnrolled : Register → ℕ × Bool
+allEnrolled R = (10, leb 64 (R .subjects))
+
+-- 11: the pair stands
+abbrev pub pairStands : Register → ℕ → ℕ → ℕ × Bool
+pairStands R g r = (11, stands R g r)
+
+-- 12: 256 delegations stand
+abbrev pub allStand : Register → ℕ × Bool
+allStand R = (12, leb 256 (length (R .delegations)))
+
+-- 13: the pair does not stand
+abbrev pub noPair : Register → ℕ → ℕ → ℕ × Bool
+noPair R g r = (13, not (stands R g r))
+
+-- 14: by is neither giver nor owner
+abbrev pub mayNot : ℕ → ℕ → ℕ × Bool
+mayNot by g = (14, not (eqb by g || eqb by 0))
+
+-- 15: the new weight is not below the present
+abbrev pub notBelow : Register → ℕ → ℕ → ℕ → ℕ × Bool
+notBelow R g r w = (15, leb (code (weightAt (R .delegations) g r)) (suc w))
+
+-- 16: the reach that counts for one of these delegations is below its weight
+abbrev pub overweight : List ℤ → Register → List Delegation → ℕ × Bool
+overweight t R ds = (16, any (λ d. ltb (code (allowed t R d)) (suc (d .weight))) ds)
+
+-- ── the lists of each call ──
+unfoldable pub passed : Call → List (ℕ × Bool)
+passed (enrol m) = noMarks m ∷ []
+passed (grant g r w n b) = noSubject (g ∷ r ∷ []) ∷ noWeight w ∷ noCondition n b ∷ equalPair g r ∷ toOwner r ∷ []
+passed (revoke y g r) = noSubject (y ∷ g ∷ r ∷ []) ∷ equalPair g r ∷ toOwner r ∷ []
+passed (downgrade y g r w) = noSubject (y ∷ g ∷ r ∷ []) ∷ noWeight w ∷ equalPair g r ∷ toOwner r ∷ []
+passed (askReach g r) = noSubject (g ∷ r ∷ []) ∷ equalPair g r ∷ toOwner r ∷ []
+passed (askUse r) = noSubject (r ∷ []) ∷ []
+
+unfoldable pub held : List ℤ → Register → Call → List (ℕ × Bool)
+held t R (enrol m) = allEnrolled R ∷ []
+held t R (grant g r w n b) = notEnrolled R (g ∷ r ∷ []) ∷ pairStands R g r ∷ allStand R ∷ overweight t R (granted g r w n b ∷ []) ∷ []
+held t R (revoke y g r) = notEnrolled R (y ∷ g ∷ r ∷ []) ∷ noPair R g r ∷ mayNot y g ∷ []
+held t R (downgrade y g r w) = notEnrolled R (y ∷ g ∷ r ∷ []) ∷ noPair R g r ∷ mayNot y g ∷ notBelow R g r w ∷ []
+held t R (askReach g r) = notEnrolled R (g ∷ r ∷ []) ∷ []
+held t R (askUse r) = notEnrolled R (r ∷ []) ∷ []
+
+-- the refusal of a call on a register, or 0
+unfoldable pub refusalOf : List ℤ → Register → Call → ℕ
+refusalOf t R c = firstOf (passed c ++ held t R c)
+
+-- ── the chain call, which is in no list: what it writes is free ──
+abbrev pub chainPassed : ℕ → ℕ → List (ℕ × Bool)
+chainPassed g r = noSubject (g ∷ r ∷ []) ∷ equalPair g r ∷ toOwner r ∷ []
+
+abbrev pub chainHeld : List ℤ → Register → ℕ → ℕ → List (ℕ × Bool)
+chainHeld t R g r = notEnrolled R (g ∷ r ∷ []) ∷ noPair R g r ∷ overweight t R (filter (isPair g r) (R .delegations)) ∷ []
+
+unfoldable pub chainRefusal : List ℤ → Register → ℕ → ℕ → ℕ
+chainRefusal t R g r = firstOf (chainPassed g r ++ chainHeld t R g r)

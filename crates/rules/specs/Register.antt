@@ -1,0 +1,29 @@
+-- Registers (document 01, 'Subjects, marks, weights'; source 004, section 3): one right of one owner, who is subject 0. Assumes nothing.
+use mathlib.Core.List.{List}
+use Prim.Native.Nat.{ℕ}
+use lib.ListN.{getD}
+
+-- weight: how many further steps the right may travel, 255 unlimited. need and bar (document 01's terms): the marks a receiver must and must not have
+pub record Delegation : Type 0 where
+  pub giver : ℕ
+  pub receiver : ℕ
+  pub weight : ℕ
+  pub need : ℕ
+  pub bar : ℕ
+
+-- how many subjects are enrolled; the marks (document 01's term) of each, a number read as bits; the standing delegations
+pub record Register : Type 0 where
+  pub subjects : ℕ
+  pub marks : List ℕ
+  pub delegations : List Delegation
+
+abbrev pub marksOf : Register → ℕ → ℕ
+marksOf R v = getD (R .marks) v 0
+
+-- the delegation at another weight
+abbrev pub reweigh : Delegation → ℕ → Delegation
+reweigh d w = record { giver = d .giver; receiver = d .receiver; weight = w; need = d .need; bar = d .bar }
+
+-- the register with other delegations
+abbrev pub withDelegations : Register → List Delegation → Register
+withDelegations R ds = record { subjects = R .subjects; marks = R .marks; delegations = ds }

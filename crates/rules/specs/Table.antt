@@ -1,0 +1,44 @@
+-- The step table (document 01, 'The step table'; source 004, section 3, the decrement): how much a right falls at each step, indexed by weight.
+-- Every other definition takes the table as a parameter. Assumes nothing.
+use mathlib.Core.Path.{_≡_}
+use mathlib.Core.Bool.{cond}
+use mathlib.Core.List.{List, [], _∷_}
+use Prim.Native.Nat.{ℕ, zero, suc, _≤_, _<_}
+use lib.Dec.{T, eqb}
+use lib.ListN.{length, getD}
+use lib.IntN.{ℤ, pos, negsuc}
+use Rattle.rules.specs.Limit.{none, code, _≼_, smaller, fromNone}
+
+-- the entry for a weight
+abbrev pub entry : List ℤ → ℕ → ℤ
+entry t w = getD t w none
+
+-- the entry for a limit; past none there is none
+abbrev pub entryAt : List ℤ → ℤ → ℤ
+entryAt t (pos n) = entry t n
+entryAt t (negsuc n) = none
+
+-- the limit after a delegation of weight w: the entry for the smaller of the limit and the weight
+unfoldable pub next : List ℤ → ℤ → ℕ → ℤ
+next t l w = entryAt t (smaller l (pos w))
+
+-- what every table keeps to: 256 entries from -1 on, monotone, and falling except that 255 may stay 255
+pub record TableRule (t : List ℤ) : Type 0 where
+  pub size : length t ≡ 256
+  pub low : (w : ℕ) → w < 256 → T (fromNone (entry t w))
+  pub rises : (w : ℕ) → w < 255 → entry t w ≼ entry t (suc w)
+  pub falls : (w : ℕ) → w < 255 → code (entry t w) ≤ w
+  pub last : entry t 255 ≼ pos 255
+
+-- document 01's own table: entry 0 is -1, entry n is n - 1 for 1 to 254, entry 255 is 255
+unfoldable pub step : ℕ → ℤ
+step zero = none
+step (suc n) = cond (eqb n 254) (pos 255) (pos n)
+
+-- f at i, i + 1, and so on: n values
+abbrev pub tabled : (ℕ → ℤ) → ℕ → ℕ → List ℤ
+tabled f i zero = []
+tabled f i (suc n) = f i ∷ tabled f (suc i) n
+
+unfoldable pub steps : List ℤ
+steps = tabled step 0 256
