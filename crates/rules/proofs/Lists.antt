@@ -3,12 +3,12 @@ use mathlib.Core.Path.{_≡_, refl, sym, ap, subst, _∙_}
 use mathlib.Core.Logic.{_≢_, _⊎_, inl, inr}
 use mathlib.Core.Bool.{Bool, true, false, not, _&&_, _||_}
 use mathlib.Core.List.{List, [], _∷_, map, List·Memᴰ·head, List·Memᴰ·tail, List·Memᴰ·not-nil, List·Memᴰ·append-cases, Memᴰ·append-left, Memᴰ·append-right}
-use Prim.Native.Nat.{ℕ, zero, suc, _≤_, _<_, suc-le-suc}
-use native.Mathlib.Nat.{le-trans, le-refl}
+use Prim.Native.Nat.{ℕ, zero, suc, _+_, _≤_, _<_, suc-le-suc}
+use native.Mathlib.Nat.{le-trans, le-refl, add-zero, add-suc, suc-add, le-of-suc-le-suc, not-suc-le-zero}
 use native.Mathlib.Omega.{arith}
 use lib.Dec.{T, eqb, eqb→eq, eqb-refl, T-not}
-use lib.ListN.{length}
-use Rattle.rules.specs.List.{_∈_, keep, filter, any, concatMap}
+use lib.ListN.{length, getD}
+use Rattle.rules.specs.List.{_∈_, keep, filter, any, tabulate, concatMap}
 
 pub T-left : (a b : Bool) → T (a && b) → T a
 T-left true b h = tt
@@ -154,3 +154,9 @@ memOr x (z ∷ zs) = go (eqOr x z) (memOr x zs)
     go (inl e) h = inl (List·Memᴰ·head e)
     go (inr n) (inl m) = inl (List·Memᴰ·tail m)
     go (inr n) (inr h) = inr (neither n h)
+
+-- ── the values of a function ──
+pub getD-tabulate : {A : Type 0} (f : ℕ → A) (d : A) (i n k : ℕ) → k < n → getD (tabulate f i n) k d ≡ f (i + k)
+getD-tabulate f d i zero k l = absurd (not-suc-le-zero l)
+getD-tabulate f d i (suc n) zero l = ap f (sym (add-zero i))
+getD-tabulate f d i (suc n) (suc k) l = getD-tabulate f d (suc i) n k (le-of-suc-le-suc l) ∙ ap f (suc-add i k ∙ sym (add-suc i k))

@@ -9,8 +9,8 @@ use lib.Dec.{T, leb, eqb, leb→le, eqb→eq}
 use lib.ListN.{length, getD}
 use lib.IntN.{ℤ, pos}
 use Rattle.rules.specs.Limit.{none, code, fromNone}
-use Rattle.rules.specs.Table.{entry, next, TableRule, step, tabled, steps}
-use Rattle.rules.proofs.Lists.{T-left, T-right}
+use Rattle.rules.specs.Table.{entry, next, TableRule, step, steps}
+use Rattle.rules.proofs.Lists.{getD-tabulate, T-left, T-right}
 
 -- x may stand at place i after p
 abbrev pub fits : ℕ → ℤ → ℤ → Bool
@@ -69,15 +69,10 @@ pub steps-rule : TableRule steps
 unfolding steps step fromNone
 steps-rule = tableRule steps tt
 
-getD-tabled : (f : ℕ → ℤ) (i n k : ℕ) → k < n → getD (tabled f i n) k none ≡ f (i + k)
-getD-tabled f i zero k l = absurd (not-suc-le-zero l)
-getD-tabled f i (suc n) zero l = ap f (sym (add-zero i))
-getD-tabled f i (suc n) (suc k) l = getD-tabled f (suc i) n k (le-of-suc-le-suc l) ∙ ap f (suc-add i k ∙ sym (add-suc i k))
-
 -- the entry for a weight is what the document's text says
 pub steps-entry : (w : ℕ) → w < 256 → entry steps w ≡ step w
 unfolding steps
-steps-entry w l = getD-tabled step 0 256 w l ∙ ap step (zero-add w)
+steps-entry w l = getD-tabulate step none 0 256 w l ∙ ap step (zero-add w)
 
 -- the step at -1, 0 and 255, and beside them
 pub steps-edges : (next steps none 0 ∷ next steps none 255 ∷ next steps (pos 0) 255 ∷ next steps (pos 255) 0 ∷ next steps (pos 1) 255 ∷ next steps (pos 255) 254 ∷ next steps (pos 254) 255 ∷ next steps (pos 255) 255 ∷ [])

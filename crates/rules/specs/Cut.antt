@@ -1,7 +1,7 @@
 -- Cuts (document 01, 'Calls'): the named change, and the counts that compare the register C after it with the register F left. Assumes nothing.
 use mathlib.Core.Bool.{Bool, cond, not, _&&_}
 use mathlib.Core.List.{map}
-use Prim.Native.Nat.{ℕ, suc}
+use Prim.Native.Nat.{ℕ}
 use lib.Dec.{leb}
 use lib.ListN.{length}
 use Rattle.rules.specs.List.{filter}

@@ -1,8 +1,9 @@
--- Lists: membership, the elements that pass a test, whether one does, the lists that a function makes of the elements joined, and no number twice. Assumes nothing.
+-- Lists: membership, the elements that pass a test, whether one does, the values of a function, the lists that a function makes of the
+-- elements joined, and no number twice. Assumes nothing.
 use mathlib.Core.Logic.{_≢_}
 use mathlib.Core.Bool.{Bool, true, false, _||_}
 use mathlib.Core.List.{List, [], _∷_, _++_, List·Memᴰ}
-use Prim.Native.Nat.{ℕ}
+use Prim.Native.Nat.{ℕ, zero, suc}
 
 infix 20 _∈_
 abbrev pub _∈_ {ℓ} : {A : Type ℓ} → A → List A → Type ℓ
@@ -22,6 +23,11 @@ module _ {A : Type 0} where
   abbrev pub any : (A → Bool) → List A → Bool
   any f [] = false
   any f (x ∷ xs) = f x || any f xs
+
+  -- f at i, i + 1, and so on: n values
+  abbrev pub tabulate : (ℕ → A) → ℕ → ℕ → List A
+  tabulate f i zero = []
+  tabulate f i (suc n) = f i ∷ tabulate f (suc i) n
 
 module _ {A B : Type 0} where
   -- the lists that f makes of each element, one after another

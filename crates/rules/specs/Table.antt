@@ -2,11 +2,12 @@
 -- Every other definition takes the table as a parameter. Assumes nothing.
 use mathlib.Core.Path.{_≡_}
 use mathlib.Core.Bool.{cond}
-use mathlib.Core.List.{List, [], _∷_}
+use mathlib.Core.List.{List}
 use Prim.Native.Nat.{ℕ, zero, suc, _≤_, _<_}
 use lib.Dec.{T, eqb}
 use lib.ListN.{length, getD}
 use lib.IntN.{ℤ, pos, negsuc}
+use Rattle.rules.specs.List.{tabulate}
 use Rattle.rules.specs.Limit.{none, code, _≼_, smaller, fromNone}
 
 -- the entry for a weight
@@ -35,10 +36,5 @@ unfoldable pub step : ℕ → ℤ
 step zero = none
 step (suc n) = cond (eqb n 254) (pos 255) (pos n)
 
--- f at i, i + 1, and so on: n values
-abbrev pub tabled : (ℕ → ℤ) → ℕ → ℕ → List ℤ
-tabled f i zero = []
-tabled f i (suc n) = f i ∷ tabled f (suc i) n
-
 unfoldable pub steps : List ℤ
-steps = tabled step 0 256
+steps = tabulate step 0 256
