@@ -1,0 +1,153 @@
+//! The calls, on any bytes and any numbers.
+
+use crate::block::{encode, Delegation, Register, BLOCK_LEN};
+use crate::cut::settle;
+use crate::engine::{Engine, FAST};
+use crate::refusal::{admit, Call, Passed, WRONG_LENGTH};
+use crate::search::Search;
+
+/// The refusal number, 0 when accepted, and three answers, 0 where unused.
+#[derive(Clone, Copy, Debug, PartialEq, Eq)]
+pub struct Outcome {
+    pub refusal: u32,
+    pub answers: [i32; 3],
+}
+
+/// The refusal number of a chain call and how many bytes of the buffer it filled.
+#[derive(Clone, Copy, Debug, PartialEq, Eq)]
+pub struct Written {
+    pub refusal: u32,
+    pub filled: usize,
+}
+
+pub fn open(block: &mut [u8]) -> Outcome {
+    if block.len() != BLOCK_LEN {
+        return refused(WRONG_LENGTH);
+    }
+    block.copy_from_slice(&encode(&Register::fresh()));
+    accepted([0, 0, 0])
+}
+
+pub fn enrol(block: &mut [u8], marks: u32) -> Outcome {
+    run(&FAST, &Passed { need: marks, ..blank(Call::Enrol) }, block)
+}
+
+pub fn grant(block: &mut [u8], giver: u32, receiver: u32, weight: u32, need: u32, bar: u32) -> Outcome {
+    run(&FAST, &Passed { giver, receiver, weight, need, bar, ..blank(Call::Grant) }, block)
+}
+
+pub fn revoke(block: &mut [u8], by: u32, giver: u32, receiver: u32) -> Outcome {
+    run(&FAST, &Passed { by, giver, receiver, ..blank(Call::Revoke) }, block)
+}
+
+pub fn downgrade(block: &mut [u8], by: u32, giver: u32, receiver: u32, weight: u32) -> Outcome {
+    run(&FAST, &Passed { by, giver, receiver, weight, ..blank(Call::Downgrade) }, block)
+}
+
+pub fn reach(block: &[u8], giver: u32, receiver: u32) -> Outcome {
+    answer(&FAST, &Passed { giver, receiver, ..blank(Call::Reach) }, block)
+}
+
+/// Document 01's call "use".
+pub fn use_right(block: &[u8], receiver: u32) -> Outcome {
+    answer(&FAST, &Passed { receiver, ..blank(Call::Use) }, block)
+}
+
+/// Writes a chain of the pair's largest limit, owner's end first.
+pub fn chain(block: &[u8], giver: u32, receiver: u32, buffer: &mut [u8]) -> Written {
+    let n = Passed { giver, receiver, ..blank(Call::Chain) };
+    let register = match admit(&FAST, &n, block, buffer.len()) {
+        Err(refusal) => return Written { refusal, filled: 0 },
+        Ok(register) => register,
+    };
+    let links = Search::new(&register).chain(giver, receiver).unwrap_or_default();
+    for (place, link) in buffer.chunks_exact_mut(2).zip(&links) {
+        place.copy_from_slice(&[link.giver, link.receiver]);
+    }
+    Written { refusal: 0, filled: 2 * links.len() }
+}
+
+/// A call whose numbers are all 0.
+pub fn blank(call: Call) -> Passed {
+    Passed { call, by: 0, giver: 0, receiver: 0, weight: 0, need: 0, bar: 0 }
+}
+
+/// Any call but chain, with the engine named. Chain needs a buffer and has its
+/// own function; here it has none and is refused.
+pub fn run(engine: &Engine, n: &Passed, block: &mut [u8]) -> Outcome {
+    match n.call {
+        Call::Open => open(block),
+        Call::Reach | Call::Use | Call::Chain => answer(engine, n, block),
+        Call::Enrol | Call::Grant | Call::Revoke | Call::Downgrade => change(engine, n, block),
+    }
+}
+
+fn change(engine: &Engine, n: &Passed, block: &mut [u8]) -> Outcome {
+    let mut register = match admit(engine, n, block, 0) {
+        Err(refusal) => return refused(refusal),
+        Ok(register) => register,
+    };
+    let answers = match n.call {
+        Call::Enrol => add_subject(n, &mut register),
+        Call::Grant => add_delegation(n, &mut register),
+        _ => cut(engine, n, &mut register),
+    };
+    block.copy_from_slice(&encode(&register));
+    accepted(answers)
+}
+
+fn answer(engine: &Engine, n: &Passed, block: &[u8]) -> Outcome {
+    let register = match admit(engine, n, block, 0) {
+        Err(refusal) => return refused(refusal),
+        Ok(register) => register,
+    };
+    match n.call {
+        Call::Use => accepted([may_use(&register, n.receiver) as i32, 0, 0]),
+        _ => accepted([(engine.reach)(&register, n.giver, n.receiver) as i32, 0, 0]),
+    }
+}
+
+/// Answers the new subject's number.
+fn add_subject(n: &Passed, register: &mut Register) -> [i32; 3] {
+    register.marks.push(n.need as u16);
+    [register.marks.len() as i32 - 1, 0, 0]
+}
+
+/// Answers the delegations now standing.
+fn add_delegation(n: &Passed, register: &mut Register) -> [i32; 3] {
+    let new = Delegation {
+        giver: n.giver as u8,
+        receiver: n.receiver as u8,
+        weight: n.weight as u8,
+        need: n.need as u16,
+        bar: n.bar as u16,
+    };
+    if let Err(at) = register.place(n.giver, n.receiver) {
+        register.delegations.insert(at, new);
+    }
+    [register.delegations.len() as i32, 0, 0]
+}
+
+/// The named change, then the rounds.
+fn cut(engine: &Engine, n: &Passed, register: &mut Register) -> [i32; 3] {
+    if let Ok(at) = register.place(n.giver, n.receiver) {
+        match n.call {
+            Call::Revoke => drop(register.delegations.remove(at)),
+            _ => register.delegations[at].weight = n.weight as u8,
+        }
+    }
+    let counts = settle(engine, register);
+    [counts.dropped as i32, counts.lowered as i32, counts.rounds as i32]
+}
+
+fn may_use(register: &Register, receiver: u32) -> bool {
+    receiver == 0 || register.delegations.iter().any(|d| d.receiver as u32 == receiver)
+}
+
+fn accepted(answers: [i32; 3]) -> Outcome {
+    Outcome { refusal: 0, answers }
+}
+
+fn refused(refusal: u32) -> Outcome {
+    Outcome { refusal, answers: [0, 0, 0] }
+}

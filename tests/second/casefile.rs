@@ -1,0 +1,132 @@
+//! Case files. A line is seven numbers and the block that the call is handed:
+//! `call by giver receiver weight need bar BLOCK`. Calls 0 to 5 are those of
+//! the call file, 6 is open, 7 is chain with its buffer's length as the weight.
+//! BLOCK is `=`, the block as the line before left it, or `LENGTH:BYTES`.
+//! The expected line is `refusal first second third BLOCK`, with `=` if no byte
+//! changed. An accepted chain answers 1 if the chain written is right.
+
+use crate::call::{chain, run, Outcome};
+use crate::callfile::{from_values, joined, read_values, used_only, values_of};
+use crate::engine::Engine;
+use crate::judge::judge;
+use crate::refusal::{Call, Passed};
+
+pub const MOST_BYTES: usize = 4096;
+
+/// What the chain call's buffer holds before the call.
+const UNWRITTEN: u8 = 0xA5;
+
+/// A call and its block; without one, the block as the case before left it.
+#[derive(Clone, Debug, PartialEq, Eq)]
+pub struct Case {
+    pub passed: Passed,
+    pub block: Option<Vec<u8>>,
+}
+
+/// `LENGTH:BYTES`, a dot for a zero byte, trailing zero bytes left out.
+pub fn block_text(block: &[u8]) -> String {
+    let kept = block.iter().rposition(|&byte| byte != 0).map_or(0, |last| last + 1);
+    let mut text = format!("{}:", block.len());
+    for &byte in &block[..kept] {
+        match byte {
+            0 => text.push('.'),
+            _ => text.push_str(&format!("{byte:02x}")),
+        }
+    }
+    text
+}
+
+/// The block that a text writes, or nothing if it writes none.
+pub fn read_block(text: &[u8]) -> Option<Vec<u8>> {
+    let colon = text.iter().position(|&byte| byte == b':')?;
+    let length: usize = std::str::from_utf8(&text[..colon]).ok()?.parse().ok()?;
+    if length > MOST_BYTES {
+        return None;
+    }
+    let mut block = read_bytes(&text[colon + 1..])?;
+    if block.len() > length {
+        return None;
+    }
+    block.resize(length, 0);
+    Some(block)
+}
+
+fn read_bytes(text: &[u8]) -> Option<Vec<u8>> {
+    let mut bytes = Vec::new();
+    let mut at = 0;
+    while at < text.len() {
+        if text[at] == b'.' {
+            bytes.push(0);
+            at += 1;
+            continue;
+        }
+        let digits = std::str::from_utf8(text.get(at..at + 2)?).ok()?;
+        bytes.push(u8::from_str_radix(digits, 16).ok()?);
+        at += 2;
+    }
+    Some(bytes)
+}
+
+/// A line of a case file.
+pub fn case_line(case: &Case) -> String {
+    let block = case.block.as_deref().map_or("=".to_string(), block_text);
+    format!("{} {block}\n", joined(&values_of(&case.passed)))
+}
+
+/// The case on a line without its byte 10.
+pub fn read_case(line: &[u8]) -> Option<Case> {
+    let space = line.iter().rposition(|&byte| byte == b' ')?;
+    let passed = from_values(read_values(&line[..space])?)?;
+    let block = match &line[space + 1..] {
+        b"=" => None,
+        text => Some(read_block(text)?),
+    };
+    Some(Case { passed, block })
+}
+
+/// Runs a case on the block left before it; answers the expected line and
+/// leaves the new block.
+pub fn expected_line(engine: &Engine, case: &Case, current: &mut Vec<u8>) -> String {
+    if let Some(block) = &case.block {
+        current.clone_from(block);
+    }
+    let before = current.clone();
+    let outcome = answer(engine, &case.passed, current);
+    let [first, second, third] = outcome.answers;
+    let block = if *current == before { "=".to_string() } else { block_text(current) };
+    format!("{} {first} {second} {third} {block}\n", outcome.refusal)
+}
+
+/// The outcome of any call; for chain the first answer is 1 if it is right.
+pub fn answer(engine: &Engine, n: &Passed, block: &mut [u8]) -> Outcome {
+    let n = used_only(n);
+    match n.call {
+        Call::Chain => chain_outcome(&n, block),
+        _ => run(engine, &n, block),
+    }
+}
+
+fn chain_outcome(n: &Passed, block: &[u8]) -> Outcome {
+    let mut buffer = vec![UNWRITTEN; (n.weight as usize).min(MOST_BYTES)];
+    let written = chain(block, n.giver, n.receiver, &mut buffer);
+    let rest_kept = buffer[written.filled..].iter().all(|&byte| byte == UNWRITTEN);
+    if written.refusal != 0 {
+        return Outcome { refusal: written.refusal, answers: [0, 0, 0] };
+    }
+    let right = rest_kept && judge(block, n.giver, n.receiver, &buffer[..written.filled]).is_ok();
+    Outcome { refusal: 0, answers: [right as i32, 0, 0] }
+}
+
+/// The expected text of a whole case file, or the number of a line that is no case.
+pub fn expected_text(engine: &Engine, text: &[u8]) -> Result<String, usize> {
+    let mut current = Vec::new();
+    let mut output = String::new();
+    for (at, line) in text.split_inclusive(|&byte| byte == b'\n').enumerate() {
+        let case = line.strip_suffix(b"\n").and_then(read_case).ok_or(at + 1)?;
+        if at == 0 && case.block.is_none() {
+            return Err(1);
+        }
+        output.push_str(&expected_line(engine, &case, &mut current));
+    }
+    Ok(output)
+}

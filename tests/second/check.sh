@@ -1,0 +1,49 @@
+#!/usr/bin/env bash
+# Builds the second implementation, runs its tests, generates the cases and
+# compares them with the committed ones.
+set -euo pipefail
+
+here="$(cd "$(dirname "${BASH_SOURCE[0]}")" && pwd)"
+root="$(cd "$here/../.." && pwd)"
+out="$root/target/second"
+mkdir -p "$out"
+
+# step WHAT COMMAND...: one line for the step; its output only if it fails.
+step() {
+    local what="$1" log="$out/step.log"
+    shift
+    if ! "$@" >"$log" 2>&1; then
+        grep -v '^test result' "$log" || true
+        echo "second: $what: FAILED"
+        exit 1
+    fi
+    echo "second: $what: ok"
+}
+
+compile() {
+    rustc --edition 2021 -D warnings -L "dependency=$out" "$@"
+}
+
+second=(--extern "second=$out/libsecond.rlib")
+generate=(--extern "generate=$out/libgenerate.rlib")
+
+build() {
+    compile -O -C overflow-checks=on --crate-type rlib --crate-name second "$here/lib.rs" --out-dir "$out"
+    compile "${second[@]}" --crate-type rlib --crate-name generate "$here/generate/lib.rs" --out-dir "$out"
+    compile "${second[@]}" "${generate[@]}" --crate-name program "$here/main.rs" -o "$out/second"
+}
+
+build_tests() {
+    compile "${second[@]}" "${generate[@]}" --test --crate-name checks "$here/checks/lib.rs" -o "$out/tests"
+}
+
+generate() {
+    rm -rf "$out/cases"
+    "$out/second" generate "$out/cases"
+}
+
+step "build" build
+step "build of the tests" build_tests
+step "tests" "$out/tests" --test-threads 1
+step "generated cases" generate
+step "comparison with the committed cases" diff -r "$root/tests/cases" "$out/cases"

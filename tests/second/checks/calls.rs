@@ -1,0 +1,140 @@
+//! What holds for every call: refused calls change no byte, accepted ones
+//! leave a well-formed block, reach, use and chain change nothing, and no input
+//! makes a call panic.
+
+use super::same;
+use crate::faults::{ONE_ROUND, VISITED_ONCE};
+use generate::{lists, unsupported};
+use second::block::{encode, well_formed, Register, BLOCK_LEN};
+use second::call::{self, Outcome};
+use second::casefile::answer;
+use second::engine::{Engine, FAST, LITERAL};
+use second::random::Random;
+use second::refusal::{applying, tests, Call, Passed, CALLS};
+
+/// Runs a call and checks what it did to the block.
+fn checked(engine: &Engine, n: &Passed, block: &mut Vec<u8>) -> Result<Outcome, String> {
+    let before = block.clone();
+    let outcome = answer(engine, n, block);
+    let reads_only = matches!(n.call, Call::Reach | Call::Use | Call::Chain);
+    if (outcome.refusal != 0 || reads_only) && *block != before {
+        return Err(format!("{n:?} changed the block"));
+    }
+    if outcome.refusal != 0 {
+        same("answers of a refused call", outcome.answers, [0, 0, 0])?;
+    }
+    if outcome.refusal == 0 && !well_formed(block) {
+        return Err(format!("{n:?} left a block that is not well formed"));
+    }
+    Ok(outcome)
+}
+
+/// The refusal is the first that applies in the order of the lists.
+fn first_applying(n: &Passed, block: &[u8]) -> u32 {
+    let all = applying(&LITERAL, n, block, n.weight as usize);
+    let lists = tests(n.call);
+    let mut order = vec![1];
+    order.extend(lists.passed.iter().map(|(number, _)| *number));
+    order.push(8);
+    order.extend(lists.held.iter().map(|(number, _)| *number));
+    order.into_iter().find(|number| all.contains(number)).unwrap_or(0)
+}
+
+/// Random lists of calls with an engine and with the definition.
+fn same_lists(engine: &Engine) -> Result<usize, String> {
+    let mut random = Random::new(0x1157);
+    let mut accepted = 0;
+    for _ in 0..250 {
+        let mut block = encode(&Register::fresh());
+        for n in lists::list(&mut random, &lists::CUT, 60) {
+            let mut literal = block.clone();
+            let due = first_applying(&n, &block);
+            let found = checked(engine, &n, &mut block)?;
+            same("outcome", found, answer(&LITERAL, &n, &mut literal))?;
+            same("block", &block, &literal)?;
+            same("refusal", found.refusal, due)?;
+            accepted += (found.refusal == 0) as usize;
+        }
+    }
+    Ok(accepted)
+}
+
+#[test]
+fn lists_are_literal() {
+    assert!(same_lists(&FAST).unwrap() > 5000);
+    assert!(same_lists(&VISITED_ONCE).is_err());
+    assert!(same_lists(&ONE_ROUND).is_err());
+}
+
+/// From random well-formed blocks that are not supported.
+#[test]
+fn calls_on_unsupported_blocks() {
+    let mut random = Random::new(0x0550);
+    let mut accepted = 0;
+    for _ in 0..1500 {
+        let register = unsupported::random_unsupported(&mut random);
+        let start = encode(&register);
+        for d in &register.delegations {
+            let (giver, receiver) = (d.giver as u32, d.receiver as u32);
+            for call in [Call::Revoke, Call::Downgrade, Call::Chain, Call::Reach, Call::Use] {
+                let n = Passed { giver, receiver, weight: 126, ..call::blank(call) };
+                let mut block = start.clone();
+                let found = checked(&FAST, &n, &mut block).unwrap();
+                assert_ne!(found.refusal, 8);
+                accepted += (found.refusal == 0) as u32;
+            }
+        }
+    }
+    assert!(accepted > 5000);
+}
+
+fn any_number(random: &mut Random) -> u32 {
+    match random.below(4) {
+        0 => random.next() as u32,
+        1 => random.pick(&[63, 64, 255, 256, 65_535, 65_536, 4_294_967_295]),
+        _ => random.below(6),
+    }
+}
+
+/// Any bytes and any numbers are answered.
+#[test]
+fn any_input_is_answered() {
+    let mut random = Random::new(0xA11);
+    for _ in 0..30_000 {
+        let length = random.pick(&[0, 1, 4, 131, 132, 2179, 2180, 2180, 2180, 2181, 4096]);
+        let mut block = vec![0; length];
+        for _ in 0..random.below(12) {
+            let near = if random.chance(70) { 160 } else { 4096 };
+            let place = random.below(near) as usize;
+            if place < length {
+                block[place] = random.next() as u8;
+            }
+        }
+        let numbers = [(); 6].map(|_| any_number(&mut random));
+        let [by, giver, receiver, weight, need, bar] = numbers;
+        let n = Passed { call: random.pick(&CALLS), by, giver, receiver, weight, need, bar };
+        let outcome = checked(&FAST, &n, &mut block).unwrap();
+        assert!(length == BLOCK_LEN || outcome.refusal == 1);
+    }
+}
+
+/// The public functions take the numbers in the order of their names.
+#[test]
+fn public_calls() {
+    let mut block = vec![9; BLOCK_LEN];
+    let accepted = |answers| Outcome { refusal: 0, answers };
+    assert_eq!(call::open(&mut block), accepted([0, 0, 0]));
+    assert_eq!(call::enrol(&mut block, 1), accepted([1, 0, 0]));
+    assert_eq!(call::enrol(&mut block, 0), accepted([2, 0, 0]));
+    assert_eq!(call::grant(&mut block, 0, 1, 9, 1, 2), accepted([1, 0, 0]));
+    assert_eq!(call::reach(&block, 1, 2), accepted([-1, 0, 0]));
+    assert_eq!(call::grant(&mut block, 0, 2, 7, 0, 0), accepted([2, 0, 0]));
+    assert_eq!(call::grant(&mut block, 2, 1, 6, 0, 0), accepted([3, 0, 0]));
+    assert_eq!(call::reach(&block, 1, 2), accepted([5, 0, 0]));
+    assert_eq!(call::use_right(&block, 2), accepted([1, 0, 0]));
+    let mut buffer = [7; 126];
+    let written = call::chain(&block, 2, 1, &mut buffer);
+    assert_eq!((written.refusal, written.filled, &buffer[..3]), (0, 2, &[0, 2, 7][..]));
+    assert_eq!(call::downgrade(&mut block, 0, 0, 2, 3), accepted([0, 1, 2]));
+    assert_eq!(call::revoke(&mut block, 2, 2, 1), accepted([0, 0, 1]));
+}

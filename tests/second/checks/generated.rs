@@ -1,0 +1,167 @@
+//! The generated files: sizes, kinds, what they cover, and that the expected
+//! lines of small registers follow from the definition.
+
+use crate::faults::{ONE_ROUND, VISITED_ONCE};
+use crate::relaxed::RELAXED;
+use generate::{callfiles, cases, files, limits, Kind, KINDS};
+use second::block::{decode, BLOCK_LEN};
+use second::callfile::{print, used_columns, values_of, MOST_INPUT};
+use second::casefile::{answer, expected_text, read_case, Case};
+use second::engine::{Engine, FAST, LITERAL};
+use second::refusal::{Call, CALLS};
+use std::collections::BTreeSet;
+
+/// Every case of a kind with the block it is handed.
+fn with_blocks(kind: &Kind) -> Vec<Case> {
+    let mut block = Vec::new();
+    let mut all = Vec::new();
+    for case in cases(kind) {
+        block = case.block.unwrap_or(block);
+        all.push(Case { passed: case.passed, block: Some(block.clone()) });
+        answer(&FAST, &case.passed, &mut block);
+    }
+    all
+}
+
+#[test]
+fn files_are_small_and_read_back() {
+    let mut bytes = 0;
+    for kind in &KINDS {
+        let cases = with_blocks(kind);
+        let mut lines = 0;
+        for file in files(&cases) {
+            assert!(file.cases.len() <= MOST_INPUT && file.expected.len() <= MOST_INPUT);
+            assert_eq!(expected_text(&FAST, file.cases.as_bytes()), Ok(file.expected.clone()));
+            assert!(file.cases.lines().next().is_some_and(|line| !line.ends_with('=')));
+            lines += file.cases.lines().count();
+            bytes += file.cases.len() + file.expected.len();
+        }
+        assert_eq!(lines, cases.len());
+    }
+    bytes += callfiles::all().iter().map(|file| file.input.len() + print(&FAST, &file.input).len()).sum::<usize>();
+    assert!(bytes < 4_000_000);
+}
+
+#[test]
+fn kinds_use_their_calls_only() {
+    for kind in &KINDS {
+        let cases = cases(kind);
+        assert!(cases.iter().all(|case| kind.calls.contains(&case.passed.call)));
+        assert!(kind.calls.iter().all(|call| cases.iter().any(|case| case.passed.call == *call)));
+    }
+}
+
+/// Columns that a call does not use are 0, and lengths are at most 4,096.
+#[test]
+fn lines_keep_the_form() {
+    for case in KINDS.iter().flat_map(with_blocks) {
+        let values = values_of(&case.passed);
+        let used = used_columns(case.passed.call);
+        assert!(values[1..].iter().zip(used).all(|(&value, used)| used || value == 0));
+        assert!(case.block.as_ref().is_some_and(|block| block.len() <= 4096));
+        assert!(case.passed.call != Call::Chain || case.passed.weight <= 4096);
+        let line = second::casefile::case_line(&case);
+        assert_eq!(read_case(line.trim_end().as_bytes()), Some(case));
+    }
+}
+
+/// Every number of the limits in every column that a call uses, every wrong
+/// length and every buffer.
+#[test]
+fn limits_are_covered() {
+    let mut numbers = BTreeSet::new();
+    let mut lengths = BTreeSet::new();
+    let mut buffers = BTreeSet::new();
+    for case in KINDS.iter().flat_map(with_blocks) {
+        let call = case.passed.call;
+        let values = values_of(&case.passed);
+        numbers.extend((1..7).map(|column| (call, column, values[column])));
+        lengths.insert((call, case.block.map_or(0, |block| block.len())));
+        buffers.extend((call == Call::Chain).then_some(case.passed.weight));
+    }
+    for call in CALLS {
+        let used = used_columns(call);
+        let columns = (1..7).filter(|&column| used[column - 1] && !(call == Call::Chain && column == 4));
+        for (column, number) in columns.flat_map(|column| limits::NUMBERS.map(|number| (column, number))) {
+            assert!(numbers.contains(&(call, column, number)), "{call:?} {column} {number}");
+        }
+        assert!(limits::LENGTHS.iter().all(|&length| lengths.contains(&(call, length))));
+    }
+    assert!(limits::BUFFERS.iter().all(|buffer| buffers.contains(buffer)));
+}
+
+/// How many cases were run with an engine too, and how many had another result.
+/// Chain is left out, since it has one search only.
+fn compared(engine: &Engine, of: fn(&[u8]) -> bool) -> (u32, u32) {
+    let (mut all, mut differing) = (0, 0);
+    for case in KINDS.iter().flat_map(with_blocks).filter(|case| case.passed.call != Call::Chain) {
+        let mut due = case.block.unwrap_or_default();
+        if !of(&due) {
+            continue;
+        }
+        let mut found = due.clone();
+        let same = answer(&FAST, &case.passed, &mut due) == answer(engine, &case.passed, &mut found);
+        all += 1;
+        differing += !(same && due == found) as u32;
+    }
+    (all, differing)
+}
+
+fn is_small(block: &[u8]) -> bool {
+    decode(block).is_none_or(|register| register.delegations.len() <= 16)
+}
+
+/// Small registers are run with the literal search, all with the relaxed one.
+#[test]
+fn expected_lines_follow_from_the_definition() {
+    let (small, differing) = compared(&LITERAL, is_small);
+    assert!(small > 3000 && differing == 0);
+    let (all, differing) = compared(&RELAXED, |_| true);
+    assert!(all > 4500 && differing == 0);
+}
+
+#[test]
+fn faults_are_noticed_by_the_cases() {
+    assert!(compared(&ONE_ROUND, |_| true).1 > 50);
+    assert!(compared(&VISITED_ONCE, is_small).1 > 50);
+}
+
+/// Every accepted chain is right.
+#[test]
+fn chains_are_right() {
+    let mut accepted = 0;
+    for case in KINDS.iter().flat_map(with_blocks).filter(|case| case.passed.call == Call::Chain) {
+        let mut block = case.block.unwrap_or_default();
+        let outcome = answer(&FAST, &case.passed, &mut block);
+        assert_eq!(outcome.answers[0], (outcome.refusal == 0) as i32);
+        accepted += outcome.answers[0];
+    }
+    assert!(accepted > 100);
+}
+
+/// Rounds from 1 to over 400, and unsupported blocks among the cut ones.
+#[test]
+fn cuts_are_deep() {
+    let mut rounds = BTreeSet::new();
+    for case in with_blocks(&KINDS[2]) {
+        if matches!(case.passed.call, Call::Revoke | Call::Downgrade) {
+            let mut block = case.block.unwrap_or_default();
+            rounds.insert(answer(&FAST, &case.passed, &mut block).answers[2]);
+        }
+    }
+    assert!([1, 2, 3, 4, 5, 6, 172, 485].iter().all(|number| rounds.contains(number)));
+    assert!(rounds.len() > 20);
+}
+
+#[test]
+fn wrong_lengths_are_refused_with_1() {
+    let mut wrong = 0;
+    for case in KINDS.iter().flat_map(with_blocks) {
+        let mut block = case.block.unwrap_or_default();
+        if block.len() != BLOCK_LEN {
+            assert_eq!(answer(&FAST, &case.passed, &mut block).refusal, 1);
+            wrong += 1;
+        }
+    }
+    assert!(wrong >= 40);
+}

@@ -1,0 +1,23 @@
+//! The tests. Checks are functions that answer a result, so that the tests of
+//! the deliberate faults can ask for an error from the very same checks.
+
+#![cfg(test)]
+
+mod blocks;
+mod callfiles;
+mod calls;
+mod cuts;
+mod examples;
+mod faults;
+mod generated;
+mod pairs;
+mod relaxed;
+mod searches;
+
+/// An error that says what was compared.
+fn same<T: PartialEq + std::fmt::Debug>(what: &str, found: T, due: T) -> Result<(), String> {
+    if found == due {
+        return Ok(());
+    }
+    Err(format!("{what}: {found:?}, due {due:?}"))
+}

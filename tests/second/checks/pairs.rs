@@ -1,0 +1,139 @@
+//! The generated cases realise every refusal of every call, and every two
+//! that can apply at once.
+
+use generate::{cases, KINDS};
+use second::casefile::answer;
+use second::engine::FAST;
+use second::refusal::{applying, tests, Call, CALLS};
+use std::collections::{BTreeMap, BTreeSet};
+
+type Pair = (u32, u32);
+
+/// The refusals that can apply to a call, in order.
+fn table(call: Call) -> &'static [u32] {
+    match call {
+        Call::Open => &[1],
+        Call::Enrol => &[1, 4, 8, 10],
+        Call::Grant => &[1, 2, 3, 4, 5, 6, 8, 9, 11, 12, 16],
+        Call::Reach => &[1, 2, 5, 6, 8, 9],
+        Call::Use => &[1, 2, 8, 9],
+        Call::Revoke => &[1, 2, 5, 6, 8, 9, 13, 14],
+        Call::Downgrade => &[1, 2, 3, 5, 6, 8, 9, 13, 14, 15],
+        Call::Chain => &[1, 2, 5, 6, 8, 9, 13, 16],
+    }
+}
+
+/// The pairs of a call that cannot apply at once.
+fn impossible(call: Call) -> Vec<Pair> {
+    let mut pairs = Vec::new();
+    let table = table(call);
+    let of_register = table.iter().copied().filter(|&number| number > 8 && number != 14);
+    for held in of_register {
+        // What a register holds is not judged on a block that is not well
+        // formed. 14 looks at the numbers only.
+        pairs.push((8, held));
+        // Nor on a block of another length; chain can have 1 from its buffer.
+        if call != Call::Chain {
+            pairs.push((1, held));
+        }
+    }
+    // 8 is judged on 2,180 bytes only; chain can have 1 from its buffer.
+    if !matches!(call, Call::Chain | Call::Open) {
+        pairs.push((1, 8));
+    }
+    pairs.extend(match call {
+        // A standing pair names two enrolled subjects that differ, the
+        // receiver not the owner.
+        Call::Grant => vec![(2, 11), (5, 11), (6, 11), (9, 11)],
+        // 15 compares with a standing pair. The subject above 63 or not
+        // enrolled can still be by.
+        Call::Downgrade => vec![(5, 15), (6, 15), (13, 15)],
+        // 16 compares with a standing pair, and there is no by.
+        Call::Chain => vec![(2, 16), (5, 16), (6, 16), (9, 16), (13, 16)],
+        _ => vec![],
+    });
+    pairs
+}
+
+/// Refusals that never apply alone, with what applies too.
+fn never_alone(call: Call) -> &'static [u32] {
+    match call {
+        Call::Open | Call::Enrol => &[],
+        // 2 with 9: a subject above 63 is never enrolled; or with 1 or 8.
+        // 3 with 16: no reach is above 255.
+        Call::Grant => &[2, 3],
+        Call::Reach | Call::Use => &[2],
+        // 5, 6 with 13: such a pair never stands. 9 with 13, or with 14 if it
+        // is by that isn't enrolled.
+        Call::Revoke => &[2, 5, 6, 9],
+        // 3 with 13 or 15: no weight that stands is above 255.
+        Call::Downgrade => &[2, 3, 5, 6, 9],
+        Call::Chain => &[2, 5, 6, 9],
+    }
+}
+
+/// What the generated cases realise for each call.
+#[derive(Default)]
+struct Realised {
+    pairs: BTreeSet<Pair>,
+    alone: BTreeSet<u32>,
+    returned: BTreeSet<u32>,
+}
+
+fn realised() -> BTreeMap<Call, Realised> {
+    let mut all: BTreeMap<Call, Realised> = BTreeMap::new();
+    for kind in &KINDS {
+        let mut block = Vec::new();
+        for case in cases(kind) {
+            block = case.block.unwrap_or(block);
+            let numbers = applying(&FAST, &case.passed, &block, case.passed.weight as usize);
+            let of_call = all.entry(case.passed.call).or_default();
+            if let [number] = numbers[..] {
+                of_call.alone.insert(number);
+            }
+            for (at, &first) in numbers.iter().enumerate() {
+                of_call.pairs.extend(numbers[at + 1..].iter().map(|&second| (first, second)));
+            }
+            of_call.returned.insert(answer(&FAST, &case.passed, &mut block).refusal);
+        }
+    }
+    all
+}
+
+#[test]
+fn every_pair_that_can_apply_is_realised() {
+    let realised = realised();
+    for call in CALLS {
+        let table = table(call);
+        let all = table.iter().enumerate().flat_map(|(at, &a)| table[at + 1..].iter().map(move |&b| (a, b)));
+        let impossible: BTreeSet<Pair> = impossible(call).into_iter().collect();
+        let due: BTreeSet<Pair> = all.filter(|pair| !impossible.contains(pair)).collect();
+        assert_eq!(realised[&call].pairs, due, "{call:?}");
+    }
+}
+
+#[test]
+fn every_refusal_is_realised() {
+    let realised = realised();
+    for call in CALLS {
+        let alone: BTreeSet<u32> =
+            table(call).iter().copied().filter(|number| !never_alone(call).contains(number)).collect();
+        assert_eq!(realised[&call].alone, alone, "{call:?}");
+        let mut returned: BTreeSet<u32> = table(call).iter().copied().collect();
+        returned.insert(0);
+        assert_eq!(realised[&call].returned, returned, "{call:?}");
+    }
+}
+
+/// The lists in the code are those of the table.
+#[test]
+fn lists_are_the_table() {
+    for call in CALLS {
+        let lists = tests(call);
+        let mut order = vec![1];
+        order.extend(lists.passed.iter().map(|(number, _)| *number));
+        order.extend((call != Call::Open).then_some(8));
+        order.extend(lists.held.iter().map(|(number, _)| *number));
+        assert_eq!(order, table(call), "{call:?}");
+    }
+}

@@ -1,0 +1,125 @@
+//! The cases that every implementation is compared on: block-level ones in
+//! three kinds, and call files.
+
+pub mod broken;
+pub mod callfiles;
+pub mod deep;
+pub mod examples;
+pub mod full;
+pub mod limits;
+pub mod lists;
+pub mod malformed;
+pub mod refusals;
+pub mod rounds;
+pub mod unsupported;
+mod write;
+
+pub use write::{files, write_all};
+
+use second::block::{Delegation, Register};
+use second::call::blank;
+use second::casefile::Case;
+use second::refusal::{Call, Passed};
+
+/// A kind of cases: those of one kind use no call that is not listed.
+pub struct Kind {
+    pub name: &'static str,
+    /// The calls that this kind adds to the one before.
+    pub added: &'static [Call],
+    /// All calls of this kind.
+    pub calls: &'static [Call],
+}
+
+pub const KINDS: [Kind; 3] = [
+    Kind {
+        name: "base",
+        added: &[Call::Open, Call::Enrol, Call::Use],
+        calls: &[Call::Open, Call::Enrol, Call::Use],
+    },
+    Kind {
+        name: "reach",
+        added: &[Call::Grant, Call::Reach, Call::Chain],
+        calls: &[Call::Open, Call::Enrol, Call::Use, Call::Grant, Call::Reach, Call::Chain],
+    },
+    Kind {
+        name: "cut",
+        added: &[Call::Revoke, Call::Downgrade],
+        calls: &second::refusal::CALLS,
+    },
+];
+
+/// All cases of a kind, in a fixed order.
+pub fn cases(kind: &Kind) -> Vec<Case> {
+    let mut cases = Vec::new();
+    cases.extend(examples::cases(kind));
+    cases.extend(refusals::cases(kind));
+    cases.extend(broken::cases(kind));
+    cases.extend(limits::cases(kind));
+    cases.extend(unsupported::cases(kind));
+    cases.extend(full::cases(kind));
+    cases.extend(deep::cases(kind));
+    cases.extend(lists::cases(kind));
+    cases
+}
+
+/// Giver, receiver, weight, need, bar.
+pub type Grant = (u8, u8, u8, u16, u16);
+
+/// A register with these marks, the owner's first, and these delegations in any order.
+pub fn register(marks: &[u16], grants: &[Grant]) -> Register {
+    let mut register = Register { marks: marks.to_vec(), delegations: Vec::new() };
+    for &(giver, receiver, weight, need, bar) in grants {
+        if let Err(at) = register.place(giver as u32, receiver as u32) {
+            register.delegations.insert(at, Delegation { giver, receiver, weight, need, bar });
+        }
+    }
+    register
+}
+
+/// A case with its own block.
+pub fn on(block: &[u8], passed: Passed) -> Case {
+    Case { passed, block: Some(block.to_vec()) }
+}
+
+/// A case on the block as the case before left it.
+pub fn next(passed: Passed) -> Case {
+    Case { passed, block: None }
+}
+
+pub fn open() -> Passed {
+    blank(Call::Open)
+}
+
+pub fn enrol(marks: u32) -> Passed {
+    Passed { need: marks, ..blank(Call::Enrol) }
+}
+
+pub fn grant(giver: u32, receiver: u32, weight: u32, need: u32, bar: u32) -> Passed {
+    Passed { giver, receiver, weight, need, bar, ..blank(Call::Grant) }
+}
+
+pub fn revoke(by: u32, giver: u32, receiver: u32) -> Passed {
+    Passed { by, giver, receiver, ..blank(Call::Revoke) }
+}
+
+pub fn downgrade(by: u32, giver: u32, receiver: u32, weight: u32) -> Passed {
+    Passed { by, giver, receiver, weight, ..blank(Call::Downgrade) }
+}
+
+pub fn reach(giver: u32, receiver: u32) -> Passed {
+    Passed { giver, receiver, ..blank(Call::Reach) }
+}
+
+pub fn use_right(receiver: u32) -> Passed {
+    Passed { receiver, ..blank(Call::Use) }
+}
+
+/// The buffer's length is passed as the weight.
+pub fn chain(giver: u32, receiver: u32, buffer: u32) -> Passed {
+    Passed { giver, receiver, weight: buffer, ..blank(Call::Chain) }
+}
+
+/// The grant call of a listed delegation.
+pub fn grant_of(&(giver, receiver, weight, need, bar): &Grant) -> Passed {
+    grant(giver as u32, receiver as u32, weight as u32, need as u32, bar as u32)
+}

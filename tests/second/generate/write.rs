@@ -1,0 +1,74 @@
+//! Writes the cases: files of at most 65,536 bytes, an index and the counts.
+
+use super::{callfiles, cases, KINDS};
+use second::callfile::{print, MOST_INPUT};
+use second::casefile::{case_line, expected_line, Case};
+use second::engine::FAST;
+use std::fs;
+use std::io;
+use std::path::Path;
+
+/// The text of a case file and what is expected of it.
+#[derive(Default)]
+pub struct File {
+    pub cases: String,
+    pub expected: String,
+}
+
+/// Distributes cases over files. A block that is already there is written `=`.
+pub fn files(cases: &[Case]) -> Vec<File> {
+    let mut files: Vec<File> = Vec::new();
+    let mut current = Vec::new();
+    for case in cases {
+        let block = case.block.clone().unwrap_or_else(|| current.clone());
+        let whole = Case { passed: case.passed, block: Some(block) };
+        let same = whole.block.as_deref() == Some(&current[..]);
+        let short = if same { Case { block: None, ..whole.clone() } } else { whole.clone() };
+        let expected = expected_line(&FAST, &whole, &mut current);
+        match files.last_mut() {
+            Some(file) if file.holds(&case_line(&short), &expected) => file.add(&case_line(&short), &expected),
+            _ => files.push(File { cases: case_line(&whole), expected }),
+        }
+    }
+    files
+}
+
+impl File {
+    fn holds(&self, case: &str, expected: &str) -> bool {
+        self.cases.len() + case.len() <= MOST_INPUT && self.expected.len() + expected.len() <= MOST_INPUT
+    }
+
+    fn add(&mut self, case: &str, expected: &str) {
+        self.cases.push_str(case);
+        self.expected.push_str(expected);
+    }
+}
+
+/// Writes every file into an existing or new folder.
+pub fn write_all(folder: &Path) -> io::Result<()> {
+    fs::create_dir_all(folder)?;
+    let mut counts = String::new();
+    for kind in &KINDS {
+        let cases = cases(kind);
+        counts.push_str(&format!("{} {}\n", kind.name, cases.len()));
+        for (at, file) in files(&cases).iter().enumerate() {
+            fs::write(folder.join(format!("{}-{at:02}.cases", kind.name)), &file.cases)?;
+            fs::write(folder.join(format!("{}-{at:02}.expected", kind.name)), &file.expected)?;
+        }
+    }
+    counts.push_str(&format!("calls {}\n", write_call_files(folder)?));
+    fs::write(folder.join("counts.txt"), counts)
+}
+
+/// Writes the call files and their index; answers how many there are.
+fn write_call_files(folder: &Path) -> io::Result<usize> {
+    let mut index = String::new();
+    let files = callfiles::all();
+    for (at, file) in files.iter().enumerate() {
+        fs::write(folder.join(format!("{at:03}.calls")), &file.input)?;
+        fs::write(folder.join(format!("{at:03}.out")), print(&FAST, &file.input))?;
+        index.push_str(&format!("{at:03} {}\n", file.shows));
+    }
+    fs::write(folder.join("calls.txt"), index)?;
+    Ok(files.len())
+}

@@ -1,0 +1,14 @@
+//! The second implementation of the seat register, read from document 01 alone.
+
+pub mod block;
+pub mod call;
+pub mod callfile;
+pub mod casefile;
+pub mod chain;
+pub mod cut;
+pub mod engine;
+pub mod judge;
+pub mod random;
+pub mod refusal;
+pub mod remainder;
+pub mod search;
