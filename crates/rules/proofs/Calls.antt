@@ -22,7 +22,7 @@ use Rattle.rules.specs.Round.{settle}
 use Rattle.rules.specs.Remainder.{Within}
 use Rattle.rules.specs.Cut.{removal, lowering, named}
 use Rattle.rules.specs.WellFormed.{DelegationFormed, WellFormed}
-use Rattle.rules.specs.Call.{Call, enrol, grant, revoke, downgrade, askReach, askUse, fresh, granted}
+use Rattle.rules.specs.Call.{Call, enrol, grant, revoke, downgrade, askReach, askUse, fresh, granted, enrolled}
 use Rattle.rules.specs.Refusal.{passed, held, refusalOf}
 use Rattle.rules.specs.CallStep.{Outcome, insert, cut, accepted, refused, callStep}
 use Rattle.rules.proofs.Lists.{filter-mem, filter-length, map-mem, eq→eqb, not-or-left, not-or-right, not-not, test-ne}
@@ -90,7 +90,7 @@ fresh-formed = record {
     zeros m (List·Memᴰ·head q) = omega arith
     zeros m (List·Memᴰ·tail i) = absurd (List·Memᴰ·not-nil i)
 
-enrol-formed : (R : Register) (m : ℕ) → m ≤ 65535 → R .subjects < 64 → WellFormed R → WellFormed record { subjects = suc (R .subjects); marks = R .marks ++ (m ∷ []); delegations = R .delegations }
+enrol-formed : (R : Register) (m : ℕ) → m ≤ 65535 → R .subjects < 64 → WellFormed R → WellFormed (enrolled R m)
 enrol-formed R m h l f = record {
   some = omega (arith, f .some);
   most = l;
@@ -154,7 +154,7 @@ accepted-formed t R (askUse r) p f = f
 module _ (t : List ℤ) (rule : TableRule t) where
   -- a chain of an enrolled receiver is one after another subject is enrolled
   enrol-chain : (R : Register) (m u v : ℕ) (ds : List Delegation) → v < length (R .marks) → IsChain t R u v ds
-      → IsChain t record { subjects = suc (R .subjects); marks = R .marks ++ (m ∷ []); delegations = R .delegations } u v ds
+      → IsChain t (enrolled R m) u v ds
   enrol-chain R m u v ds l c = record {
     standing = c .standing;
     linked = c .linked;
@@ -163,7 +163,7 @@ module _ (t : List ℤ) (rule : TableRule t) where
     live = c .live;
   }
 
-  enrol-supported : (R : Register) (m : ℕ) → WellFormed R → Supported t R → Supported t record { subjects = suc (R .subjects); marks = R .marks ++ (m ∷ []); delegations = R .delegations }
+  enrol-supported : (R : Register) (m : ℕ) → WellFormed R → Supported t R → Supported t (enrolled R m)
   unfolding Carried
   enrol-supported R m f s d i =
       let (ds, c, h) = s d i in

@@ -14,7 +14,7 @@ use Rattle.rules.specs.Register.{Delegation, Register}
 use Rattle.rules.specs.Pair.{isPair, weightAt, stands}
 use Rattle.rules.specs.WellFormed.{Before, Rising}
 use Rattle.rules.specs.CallStep.{before, insert}
-use Rattle.rules.proofs.Lists.{T-left, T-right, T-both, either, eq→eqb, filter-mem, map-mem, not-or-left, not-or-right, test-ne}
+use Rattle.rules.proofs.Lists.{T-left, T-right, T-both, T-or-left, T-or-right, either, eq→eqb, filter-mem, map-mem, not-or-left, not-or-right, test-ne}
 use Rattle.rules.proofs.WellFormed.{Before-trans, Before-pairs}
 
 -- ── what a pair's weight says ──
@@ -43,7 +43,7 @@ pub none-stands : (R : Register) (g r : ℕ) → T (not (stands R g r)) → (d :
 none-stands R g r h d m p = T-not (stands R g r) h (lt→ltb zero (code (weightAt (R .delegations) g r)) (weight-stands g r m p))
 
 -- ── a delegation is added ──
-before-Before : (d e : Delegation) → T (before d e) → Before d e
+pub before-Before : (d e : Delegation) → T (before d e) → Before d e
 before-Before d e h = go (either (ltb (d .giver) (e .giver)))
   where
     second : (a b : Bool) → T (not a) → T (a || b) → T b
@@ -55,6 +55,12 @@ before-Before d e h = go (either (ltb (d .giver) (e .giver)))
     go (inr q) =
         let k = second (ltb (d .giver) (e .giver)) (eqb (d .giver) (e .giver) && ltb (d .receiver) (e .receiver)) q h in
         inr (eqb→eq (d .giver) (e .giver) (T-left (eqb (d .giver) (e .giver)) (ltb (d .receiver) (e .receiver)) k), ltb→lt (d .receiver) (e .receiver) (T-right (eqb (d .giver) (e .giver)) (ltb (d .receiver) (e .receiver)) k))
+
+pub Before-before : (d e : Delegation) → Before d e → T (before d e)
+Before-before d e (inl p) = T-or-left (ltb (d .giver) (e .giver)) (eqb (d .giver) (e .giver) && ltb (d .receiver) (e .receiver)) (lt→ltb (d .giver) (e .giver) p)
+Before-before d e (inr p) =
+    T-or-right (ltb (d .giver) (e .giver)) (eqb (d .giver) (e .giver) && ltb (d .receiver) (e .receiver))
+    (T-both (eqb (d .giver) (e .giver)) (ltb (d .receiver) (e .receiver)) (eq→eqb (p .0)) (lt→ltb (d .receiver) (e .receiver) (p .1)))
 
 not-before : (d e : Delegation) → T (not (before d e)) → (IsPair (d .giver) (d .receiver) e → ⊥) → Before e d
 not-before d e h n = go (either (eqb (d .giver) (e .giver)))

@@ -1,7 +1,7 @@
 -- The calls of a list (document 01, 'Calls'). Every number is what the caller passed, whatever it is. Assumes nothing.
 use mathlib.Core.Path.{_≡_}
-use mathlib.Core.List.{[], _∷_}
-use Prim.Native.Nat.{ℕ}
+use mathlib.Core.List.{[], _∷_, _++_}
+use Prim.Native.Nat.{ℕ, suc}
 use Rattle.rules.specs.Register.{Delegation, Register}
 use Rattle.rules.specs.Cut.{Cut, removal, lowering}
 
@@ -16,6 +16,10 @@ pub data Call : Type 0 where
 -- what open writes: one subject, no delegation
 abbrev pub fresh : Register
 fresh = record { subjects = 1; marks = 0 ∷ []; delegations = [] }
+
+-- the register with one more subject, who has these marks
+abbrev pub enrolled : Register → ℕ → Register
+enrolled R m = record { subjects = suc (R .subjects); marks = R .marks ++ (m ∷ []); delegations = R .delegations }
 
 -- the delegation that a grant adds
 abbrev pub granted : ℕ → ℕ → ℕ → ℕ → ℕ → Delegation

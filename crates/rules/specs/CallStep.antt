@@ -1,7 +1,7 @@
 -- What a call returns and leaves, on a register (document 01, 'Calls'). Assumes nothing.
 use mathlib.Core.Bool.{Bool, true, false, cond, _&&_, _||_}
-use mathlib.Core.List.{List, [], _∷_, _++_}
-use Prim.Native.Nat.{ℕ, suc}
+use mathlib.Core.List.{List, [], _∷_}
+use Prim.Native.Nat.{ℕ}
 use lib.Dec.{ltb, eqb}
 use lib.ListN.{length}
 use lib.IntN.{ℤ, pos}
@@ -10,7 +10,7 @@ use Rattle.rules.specs.Reach.{reach}
 use Rattle.rules.specs.Pair.{receives}
 use Rattle.rules.specs.Round.{settle, rounds}
 use Rattle.rules.specs.Cut.{removal, lowering, named, dropped, lowered}
-use Rattle.rules.specs.Call.{Call, enrol, grant, revoke, downgrade, askReach, askUse, granted}
+use Rattle.rules.specs.Call.{Call, enrol, grant, revoke, downgrade, askReach, askUse, granted, enrolled}
 use Rattle.rules.specs.Refusal.{refusalOf}
 
 -- the refusal number, 0 when accepted; the three answers; the register left
@@ -45,7 +45,7 @@ cut t C =
 
 -- a call that is not refused
 unfoldable pub accepted : List ℤ → Register → Call → Outcome
-accepted t R (enrol m) = answered (pos (R .subjects)) (pos 0) (pos 0) record { subjects = suc (R .subjects); marks = R .marks ++ (m ∷ []); delegations = R .delegations }
+accepted t R (enrol m) = answered (pos (R .subjects)) (pos 0) (pos 0) (enrolled R m)
 accepted t R (grant g r w n b) =
     let S = withDelegations R (insert (granted g r w n b) (R .delegations)) in
     answered (pos (length (S .delegations))) (pos 0) (pos 0) S

@@ -1,0 +1,329 @@
+-- A well-formed block holds a well-formed register and is that register written; a well-formed register written is a well-formed block. Assumes nothing.
+use mathlib.Core.Path.{_≡_, refl, sym, ap, subst, _∙_}
+use mathlib.Core.Logic.{_≢_, _⊎_, inl, inr}
+use mathlib.Core.Bool.{Bool, true, false, not, _&&_}
+use mathlib.Core.List.{List, [], _∷_, _++_, append-assoc, append-nil, List·Memᴰ·head, List·Memᴰ·tail, List·Memᴰ·not-nil}
+use Prim.Native.Nat.{ℕ, zero, suc, _+_, _*_, _-_, _≤_, _<_}
+use native.Mathlib.Nat.{le-trans, le-refl, zero-add, le-of-suc-le-suc, not-suc-le-zero}
+use native.Mathlib.Omega.{arith}
+use lib.Bits.{bitAnd}
+use lib.Dec.{T, eqb, ltb, leb, eqb→eq, ltb→lt, lt→ltb, leb→le, le→leb, not-T}
+use lib.ListN.{length, getD, take, drop, replicate, length-drop, length-take, length-replicate, getD-replicate, take-append-drop, List·getD-append}
+use lib.Seq.{getD-drop, getD-append-add, drop-drop, take-all}
+use Rattle.rules.specs.List.{_∈_, tabulate, concatMap}
+use Rattle.rules.specs.Register.{Delegation, Register}
+use Rattle.rules.specs.WellFormed.{Before, Rising, DelegationFormed, WellFormed}
+use Rattle.rules.specs.CallStep.{before}
+use Rattle.rules.proofs.Lists.{T-left, T-right, T-both, T-of, eq→eqb, test-ne}
+use Rattle.rules.proofs.WellFormed.{Before-trans}
+use Rattle.rules.proofs.Pairs.{before-Before, Before-before}
+use Rattle.block.specs.Bytes.{IsBytes, two, twoBytes, readAll, padded, allFrom, zeros}
+use Rattle.block.specs.Block.{marksIn, delegationIn, recordBytes, subjectsIn, countIn, decode, encode}
+use Rattle.block.specs.WellFormed.{headFormed, ownerUnmarked, restUnmarked, delegationFormed, recordFormed, recordsFormed, follows, rises, recordsRise, restZero, wellFormed}
+use Rattle.block.proofs.Bytes.{tabulate-suc, twoBytes-two, two-twoBytes, two-most, bytes-drop, length-tabulate, tabulate-mem, length-written, written-at, written-read, allFrom-at, allFrom-all, padded-zeros}
+use Rattle.block.proofs.Encode.{marksPart, recordsPart, marks-encode, record-wide, record-read, length-encode, subjects-encode, count-encode, records-encode, delegations-encode}
+
+-- ── the rules of a well-formed block, each by itself ──
+pub record Parts (b : List ℕ) : Type 0 where
+  pub size : length b ≡ 2180
+  pub some : 1 ≤ subjectsIn b
+  pub most : subjectsIn b ≤ 64
+  pub second : getD b 1 0 ≡ 0
+  pub few : countIn b ≤ 256
+  pub owner : two b 4 ≡ 0
+  pub unmarked : T (restUnmarked b)
+  pub formed : T (recordsFormed b)
+  pub rise : T (recordsRise b)
+  pub rest : T (restZero b)
+
+pub parts : (b : List ℕ) → T (wellFormed b) → Parts b
+unfolding wellFormed
+parts b h =
+    let h6 = T-left (eqb (length b) 2180 && headFormed b && ownerUnmarked b && restUnmarked b && recordsFormed b && recordsRise b) (restZero b) h in
+    let h5 = T-left (eqb (length b) 2180 && headFormed b && ownerUnmarked b && restUnmarked b && recordsFormed b) (recordsRise b) h6 in
+    let h4 = T-left (eqb (length b) 2180 && headFormed b && ownerUnmarked b && restUnmarked b) (recordsFormed b) h5 in
+    let h3 = T-left (eqb (length b) 2180 && headFormed b && ownerUnmarked b) (restUnmarked b) h4 in
+    let h2 = T-left (eqb (length b) 2180 && headFormed b) (ownerUnmarked b) h3 in
+    let d3 = T-right (eqb (length b) 2180) (headFormed b) h2 in
+    let d2 = T-left (leb 1 (subjectsIn b) && leb (subjectsIn b) 64 && eqb (getD b 1 0) 0) (leb (countIn b) 256) d3 in
+    let d1 = T-left (leb 1 (subjectsIn b) && leb (subjectsIn b) 64) (eqb (getD b 1 0) 0) d2 in
+    record {
+      size = eqb→eq (length b) 2180 (T-left (eqb (length b) 2180) (headFormed b) h2);
+      some = leb→le 1 (subjectsIn b) (T-left (leb 1 (subjectsIn b)) (leb (subjectsIn b) 64) d1);
+      most = leb→le (subjectsIn b) 64 (T-right (leb 1 (subjectsIn b)) (leb (subjectsIn b) 64) d1);
+      second = eqb→eq (getD b 1 0) 0 (T-right (leb 1 (subjectsIn b) && leb (subjectsIn b) 64) (eqb (getD b 1 0) 0) d2);
+      few = leb→le (countIn b) 256 (T-right (leb 1 (subjectsIn b) && leb (subjectsIn b) 64 && eqb (getD b 1 0) 0) (leb (countIn b) 256) d3);
+      owner = eqb→eq (two b 4) 0 (T-right (eqb (length b) 2180 && headFormed b) (ownerUnmarked b) h3);
+      unmarked = T-right (eqb (length b) 2180 && headFormed b && ownerUnmarked b) (restUnmarked b) h4;
+      formed = T-right (eqb (length b) 2180 && headFormed b && ownerUnmarked b && restUnmarked b) (recordsFormed b) h5;
+      rise = T-right (eqb (length b) 2180 && headFormed b && ownerUnmarked b && restUnmarked b && recordsFormed b) (recordsRise b) h6;
+      rest = T-right (eqb (length b) 2180 && headFormed b && ownerUnmarked b && restUnmarked b && recordsFormed b && recordsRise b) (restZero b) h;
+    }
+
+pub whole : (b : List ℕ) → Parts b → T (wellFormed b)
+unfolding wellFormed
+whole b p =
+    T-both (eqb (length b) 2180 && headFormed b && ownerUnmarked b && restUnmarked b && recordsFormed b && recordsRise b) (restZero b)
+    (T-both (eqb (length b) 2180 && headFormed b && ownerUnmarked b && restUnmarked b && recordsFormed b) (recordsRise b)
+    (T-both (eqb (length b) 2180 && headFormed b && ownerUnmarked b && restUnmarked b) (recordsFormed b)
+    (T-both (eqb (length b) 2180 && headFormed b && ownerUnmarked b) (restUnmarked b)
+    (T-both (eqb (length b) 2180 && headFormed b) (ownerUnmarked b) (T-both (eqb (length b) 2180) (headFormed b) (eq→eqb (p .size)) head) (eq→eqb (p .owner)))
+    (p .unmarked)) (p .formed)) (p .rise)) (p .rest)
+  where
+    head : T (headFormed b)
+    head =
+        T-both (leb 1 (subjectsIn b) && leb (subjectsIn b) 64 && eqb (getD b 1 0) 0) (leb (countIn b) 256)
+        (T-both (leb 1 (subjectsIn b) && leb (subjectsIn b) 64) (eqb (getD b 1 0) 0)
+        (T-both (leb 1 (subjectsIn b)) (leb (subjectsIn b) 64) (le→leb 1 (subjectsIn b) (p .some)) (le→leb (subjectsIn b) 64 (p .most)))
+        (eq→eqb (p .second)))
+        (le→leb (countIn b) 256 (p .few))
+
+-- ── rising, as a test and as a statement ──
+pub rises-Rising : (ds : List Delegation) → T (rises ds) → Rising ds
+rises-Rising [] h = tt
+rises-Rising (d ∷ []) h = (λ e m. absurd (List·Memᴰ·not-nil m), tt)
+rises-Rising (d ∷ e ∷ es) h = let ih = rises-Rising (e ∷ es) (T-right (before d e) (rises (e ∷ es)) h) in (later ih, ih)
+  where
+    next : Before d e
+    next = before-Before d e (T-left (before d e) (rises (e ∷ es)) h)
+
+    later : Rising (e ∷ es) → (x : Delegation) → x ∈ (e ∷ es) → Before d x
+    later ih x (List·Memᴰ·head q) = subst (λ (y : Delegation). Before d y) (sym q) next
+    later ih x (List·Memᴰ·tail m) = Before-trans d e x next (ih .0 x m)
+
+pub Rising-rises : (ds : List Delegation) → Rising ds → T (rises ds)
+Rising-rises [] r = tt
+Rising-rises (d ∷ []) r = tt
+Rising-rises (d ∷ e ∷ es) r = T-both (before d e) (rises (e ∷ es)) (Before-before d e (r .0 e (List·Memᴰ·head refl))) (Rising-rises (e ∷ es) (r .1))
+
+-- ── a formed delegation, as a test and as a statement ──
+module _ (n : ℕ) (d : Delegation) where
+  pub formed-of : d .weight ≤ 255 → d .need ≤ 65535 → d .bar ≤ 65535 → T (delegationFormed n d) → DelegationFormed n d
+  formed-of w x y h =
+      let a = ltb (d .giver) n in
+      let b = ltb (d .receiver) n in
+      let c = not (eqb (d .giver) (d .receiver)) in
+      let e = not (eqb (d .receiver) 0) in
+      let f = eqb (bitAnd (d .need) (d .bar)) 0 in
+      let h3 = T-left (a && b && c && e) f h in
+      let h2 = T-left (a && b && c) e h3 in
+      let h1 = T-left (a && b) c h2 in
+      record {
+        giver = ltb→lt (d .giver) n (T-left a b h1);
+        receiver = ltb→lt (d .receiver) n (T-right a b h1);
+        differ = test-ne (d .giver) (d .receiver) (T-right (a && b) c h2);
+        notOwner = test-ne (d .receiver) 0 (T-right (a && b && c) e h3);
+        weight = w;
+        need = x;
+        bar = y;
+        disjoint = eqb→eq (bitAnd (d .need) (d .bar)) 0 (T-right (a && b && c && e) f h);
+      }
+
+  pub formed-test : DelegationFormed n d → T (delegationFormed n d)
+  formed-test k =
+      let a = ltb (d .giver) n in
+      let b = ltb (d .receiver) n in
+      let c = not (eqb (d .giver) (d .receiver)) in
+      let e = not (eqb (d .receiver) 0) in
+      let f = eqb (bitAnd (d .need) (d .bar)) 0 in
+      T-both (a && b && c && e) f
+      (T-both (a && b && c) e
+      (T-both (a && b) c (T-both a b (lt→ltb (d .giver) n (k .giver)) (lt→ltb (d .receiver) n (k .receiver))) (not-T (eqb (d .giver) (d .receiver)) (λ q. k .differ (eqb→eq (d .giver) (d .receiver) q))))
+      (not-T (eqb (d .receiver) 0) (λ q. k .notOwner (eqb→eq (d .receiver) 0 q))))
+      (eq→eqb (k .disjoint))
+
+-- the fourth byte of a formed record is zero
+record-third : (n : ℕ) (s : List ℕ) → T (recordFormed n s) → getD s 3 0 ≡ 0
+unfolding recordFormed
+record-third n s h = eqb→eq (getD s 3 0) 0 (T-right (delegationFormed n (delegationIn s)) (eqb (getD s 3 0) 0) h)
+
+-- a formed delegation written passes the test of a record
+record-test : (n : ℕ) (d : Delegation) (r : List ℕ) → DelegationFormed n d → T (recordFormed n (recordBytes d ++ r))
+unfolding recordFormed
+record-test n d r k =
+    T-both (delegationFormed n (delegationIn (recordBytes d ++ r))) true
+    (subst (λ (e : Delegation). T (delegationFormed n e)) (sym (record-read d (k .need) (k .bar) r)) (formed-test n d k)) tt
+
+-- any delegation, for places past the end of a list
+none-given : Delegation
+none-given = record { giver = 0; receiver = 0; weight = 0; need = 0; bar = 0 }
+
+-- the first marks of a block
+first-marks : (b : List ℕ) (n : ℕ) → 1 ≤ n → getD (readAll marksIn 2 (drop 4 b) n) 0 0 ≡ two b 4
+first-marks b zero l = absurd (not-suc-le-zero l)
+first-marks b (suc n) l = λ j. getD-drop 4 b 0 0 j + getD-drop 4 b 1 0 j * 256
+
+-- ── a well-formed block holds a well-formed register ──
+module _ (b : List ℕ) (bytes : IsBytes b) (p : Parts b) where
+  -- record k passes its test
+  pub record-at : (k : ℕ) → k < countIn b → T (recordFormed (subjectsIn b) (drop (8 * k) (drop 132 b)))
+  record-at k l = subst (λ (j : ℕ). T (recordFormed (subjectsIn b) (drop (8 * j) (drop 132 b)))) (zero-add k) (allFrom-at (λ k. recordFormed (subjectsIn b) (drop (8 * k) (drop 132 b))) 0 (countIn b) (p .formed) k l)
+
+  delegation-at : (k : ℕ) → k < countIn b → DelegationFormed (subjectsIn b) (delegationIn (drop (8 * k) (drop 132 b)))
+  unfolding recordFormed
+  delegation-at k l =
+      let s = drop (8 * k) (drop 132 b) in
+      let h = bytes-drop (8 * k) (drop 132 b) (bytes-drop 132 b bytes) in
+      formed-of (subjectsIn b) (delegationIn s) (omega (arith, h 2)) (two-most s h 4) (two-most s h 6)
+      (T-left (delegationFormed (subjectsIn b) (delegationIn s)) (eqb (getD s 3 0) 0) (record-at k l))
+
+  pub decode-formed : WellFormed (decode b)
+  unfolding decode
+  decode-formed = record {
+    some = p .some;
+    most = p .most;
+    marked = length-tabulate (λ k. marksIn (drop (2 * k) (drop 4 b))) 0 (subjectsIn b);
+    marks = λ m i. mark m (tabulate-mem (λ k. marksIn (drop (2 * k) (drop 4 b))) 0 (subjectsIn b) i);
+    owner = first-marks b (subjectsIn b) (p .some) ∙ p .owner;
+    few = subst (λ (n : ℕ). n ≤ 256) (sym (length-tabulate (λ k. delegationIn (drop (8 * k) (drop 132 b))) 0 (countIn b))) (p .few);
+    rising = rises-Rising (readAll delegationIn 8 (drop 132 b) (countIn b)) (p .rise);
+    each = λ d i. one d (tabulate-mem (λ k. delegationIn (drop (8 * k) (drop 132 b))) 0 (countIn b) i);
+  }
+    where
+      mark : (m : ℕ) → (k : ℕ) × (k < subjectsIn b) × (m ≡ marksIn (drop (2 * (0 + k)) (drop 4 b))) → m ≤ 65535
+      mark m r = subst (λ (x : ℕ). x ≤ 65535) (sym (r .2)) (two-most (drop (2 * (0 + r .0)) (drop 4 b)) (bytes-drop (2 * (0 + r .0)) (drop 4 b) (bytes-drop 4 b bytes)) 0)
+
+      one : (d : Delegation) → (k : ℕ) × (k < countIn b) × (d ≡ delegationIn (drop (8 * (0 + k)) (drop 132 b))) → DelegationFormed (subjectsIn b) d
+      one d r = subst (λ (x : Delegation). DelegationFormed (subjectsIn b) x) (sym (r .2)) (delegation-at (0 + r .0) (omega (arith, r .1)))
+
+-- ── a well-formed block is its register written ──
+take-tabulate : (n : ℕ) (s : List ℕ) → n ≤ length s → take n s ≡ tabulate (λ i. getD s i 0) 0 n
+take-tabulate zero s l = refl
+take-tabulate (suc n) [] l = absurd (not-suc-le-zero l)
+take-tabulate (suc n) (x ∷ xs) l = let e = take-tabulate n xs (le-of-suc-le-suc l) ∙ sym (tabulate-suc (λ i. getD (x ∷ xs) i 0) 0 n) in λ j. x ∷ e j
+
+marks-back : (s : List ℕ) → 2 ≤ length s → IsBytes s → twoBytes (marksIn s) ≡ take 2 s
+marks-back s l h = twoBytes-two (getD s 0 0) (getD s 1 0) (h 0) (h 1) ∙ sym (take-tabulate 2 s l)
+
+record-back : (s : List ℕ) → 8 ≤ length s → IsBytes s → getD s 3 0 ≡ 0 → recordBytes (delegationIn s) ≡ take 8 s
+record-back s l h z =
+    let p = twoBytes-two (getD s 4 0) (getD s 5 0) (h 4) (h 5) in
+    let q = twoBytes-two (getD s 6 0) (getD s 7 0) (h 6) (h 7) in
+    let z′ = sym z in
+    (λ j. getD s 0 0 ∷ getD s 1 0 ∷ getD s 2 0 ∷ z′ j ∷ (p j ++ q j)) ∙ sym (take-tabulate 8 s l)
+
+-- the zero bytes that a test names
+zeros-at : (b : List ℕ) (a n : ℕ) → T (zeros b a n) → (k : ℕ) → a ≤ k → k < a + n → getD b k 0 ≡ 0
+zeros-at b a n h k l m =
+    let e : a + (k - a) ≡ k = omega arith in
+    eqb→eq (getD b k 0) 0 (subst (λ (j : ℕ). T (eqb (getD b j 0) 0)) e (allFrom-at (λ j. eqb (getD b j 0) 0) a n h (k - a) (omega arith)))
+
+module _ (b : List ℕ) (bytes : IsBytes b) (p : Parts b) where
+  marks-written : padded 128 (concatMap twoBytes (readAll marksIn 2 (drop 4 b) (subjectsIn b))) ≡ take 128 (drop 4 b)
+  marks-written =
+      ap (padded 128) (written-read twoBytes 2 (λ n. refl) marksIn (subjectsIn b) (drop 4 b) back)
+      ∙ padded-zeros (drop 4 b) (2 * subjectsIn b) 128 (omega (arith, p .most)) (simp length-drop (omega (arith, p .size))) (λ k l m. getD-drop 4 b k 0 ∙ zero-mark k l m)
+    where
+      back : (k : ℕ) → k < subjectsIn b → twoBytes (marksIn (drop (2 * k) (drop 4 b))) ≡ take 2 (drop (2 * k) (drop 4 b))
+      back k l = marks-back (drop (2 * k) (drop 4 b)) (simp length-drop (omega (arith, p .size, p .most))) (bytes-drop (2 * k) (drop 4 b) (bytes-drop 4 b bytes))
+
+      zero-mark : (k : ℕ) → 2 * subjectsIn b ≤ k → k < 128 → getD b (4 + k) 0 ≡ 0
+      zero-mark k l m = zeros-at b (4 + 2 * subjectsIn b) (132 - (4 + 2 * subjectsIn b)) (p .unmarked) (4 + k) (omega arith) (omega arith)
+
+  records-written : padded 2048 (concatMap recordBytes (readAll delegationIn 8 (drop 132 b) (countIn b))) ≡ drop 132 b
+  records-written =
+      ap (padded 2048) (written-read recordBytes 8 record-wide delegationIn (countIn b) (drop 132 b) back)
+      ∙ padded-zeros (drop 132 b) (8 * countIn b) 2048 (omega (arith, p .few)) (simp length-drop (omega (arith, p .size))) (λ k l m. getD-drop 132 b k 0 ∙ zero-record k l m)
+      ∙ take-all 2048 (drop 132 b) (simp length-drop (omega (arith, p .size)))
+    where
+      third : (k : ℕ) → k < countIn b → getD (drop (8 * k) (drop 132 b)) 3 0 ≡ 0
+      third k l = record-third (subjectsIn b) (drop (8 * k) (drop 132 b)) (record-at b bytes p k l)
+
+      back : (k : ℕ) → k < countIn b → recordBytes (delegationIn (drop (8 * k) (drop 132 b))) ≡ take 8 (drop (8 * k) (drop 132 b))
+      back k l = record-back (drop (8 * k) (drop 132 b)) (simp length-drop (omega (arith, p .size, p .few))) (bytes-drop (8 * k) (drop 132 b) (bytes-drop 132 b bytes)) (third k l)
+
+      zero-record : (k : ℕ) → 8 * countIn b ≤ k → k < 2048 → getD b (132 + k) 0 ≡ 0
+      zero-record k l m = zeros-at b (132 + 8 * countIn b) (2180 - (132 + 8 * countIn b)) (p .rest) (132 + k) (omega arith) (omega (arith, p .few))
+
+  head-written : (subjectsIn b ∷ 0 ∷ twoBytes (length (readAll delegationIn 8 (drop 132 b) (countIn b)))) ≡ take 4 b
+  head-written =
+      let n = length-tabulate (λ k. delegationIn (drop (8 * k) (drop 132 b))) 0 (countIn b) in
+      let e = ap twoBytes n ∙ twoBytes-two (getD b 2 0) (getD b 3 0) (bytes 2) (bytes 3) in
+      let z = sym (p .second) in
+      (λ j. subjectsIn b ∷ z j ∷ e j) ∙ sym (take-tabulate 4 b (omega (arith, p .size)))
+
+  -- what was read is written back
+  pub encode-decode : encode (decode b) ≡ b
+  unfolding decode encode
+  encode-decode =
+      (λ j. head-written j ++ (marks-written j ++ records-written j))
+      ∙ ap (λ (s : List ℕ). take 4 b ++ (take 128 (drop 4 b) ++ s)) (sym (drop-drop 128 4 b))
+      ∙ ap (λ (s : List ℕ). take 4 b ++ s) (take-append-drop 128 (drop 4 b))
+      ∙ take-append-drop 4 b
+
+-- ── a well-formed register written is a well-formed block ──
+getD-mem : {A : Type 0} (xs : List A) (k : ℕ) (d : A) → k < length xs → getD xs k d ∈ xs
+getD-mem [] k d l = absurd (not-suc-le-zero l)
+getD-mem (x ∷ xs) zero d l = List·Memᴰ·head refl
+getD-mem (x ∷ xs) (suc k) d l = List·Memᴰ·tail (getD-mem xs k d (le-of-suc-le-suc l))
+
+-- zeros that stand after a list in a block are zeros of the block
+zeros-after : (b front rest : List ℕ) (at n m : ℕ) → drop at b ≡ (front ++ replicate m 0) ++ rest → n ≤ m → T (zeros b (at + length front) n)
+zeros-after b front rest at n m e l = allFrom-all (λ k. eqb (getD b k 0) 0) (at + length front) n one
+  where
+    one : (k : ℕ) → k < n → T (eqb (getD b (at + length front + k) 0) 0)
+    one k q =
+        let place : at + length front + k ≡ at + (length front + k) = omega arith in
+        eq→eqb
+        (ap (λ (j : ℕ). getD b j 0) place
+        ∙ sym (getD-drop at b (length front + k) 0)
+        ∙ ap (λ (s : List ℕ). getD s (length front + k) 0) (e ∙ append-assoc front (replicate m 0) rest)
+        ∙ getD-append-add front (replicate m 0 ++ rest) k 0
+        ∙ List·getD-append (replicate m 0) rest 0 k (omega (arith, length-replicate {A = ℕ} m 0))
+        ∙ getD-replicate m k 0 0 (omega arith))
+
+module _ (R : Register) (f : WellFormed R) where
+  marks-drop : drop 4 (encode R) ≡ marksPart R ++ recordsPart R
+  unfolding encode
+  marks-drop = refl
+
+  second-zero : getD (encode R) 1 0 ≡ 0
+  unfolding encode
+  second-zero = refl
+
+  owner-zero : two (encode R) 4 ≡ 0
+  owner-zero =
+      sym (first-marks (encode R) (subjectsIn (encode R)) (subst (λ (n : ℕ). 1 ≤ n) (sym (subjects-encode R f)) (f .some)))
+      ∙ ap (λ (ms : List ℕ). getD ms 0 0) (marks-encode R f) ∙ f .owner
+
+  unmarked-zero : T (restUnmarked (encode R))
+  unmarked-zero =
+      let n = length-written twoBytes 2 (λ x. refl) (R .marks) in
+      let e : 4 + length (concatMap twoBytes (R .marks)) ≡ 4 + 2 * subjectsIn (encode R) = omega (arith, n, f .marked, subjects-encode R f) in
+      subst (λ (a : ℕ). T (zeros (encode R) a (132 - a))) e
+      (zeros-after (encode R) (concatMap twoBytes (R .marks)) (recordsPart R) 4 (132 - (4 + length (concatMap twoBytes (R .marks)))) (128 - length (concatMap twoBytes (R .marks))) marks-drop (omega arith))
+
+  records-formed : T (recordsFormed (encode R))
+  records-formed = allFrom-all (λ k. recordFormed (subjectsIn (encode R)) (drop (8 * k) (drop 132 (encode R)))) 0 (countIn (encode R)) one
+    where
+      one : (k : ℕ) → k < countIn (encode R) → T (recordFormed (subjectsIn (encode R)) (drop (8 * (0 + k)) (drop 132 (encode R))))
+      one k l =
+          let m : k < length (R .delegations) = omega (arith, count-encode R f) in
+          let d = getD (R .delegations) k none-given in
+          let i = getD-mem (R .delegations) k none-given m in
+          let (r, e) = written-at recordBytes 8 record-wide (R .delegations) k none-given (replicate (2048 - length (concatMap recordBytes (R .delegations))) 0) m in
+          let z : 0 + k ≡ k = zero-add k in
+          subst (λ (s : List ℕ). T (recordFormed (subjectsIn (encode R)) s)) (sym ((λ j. drop (8 * z j) (records-encode R f j)) ∙ e))
+          (subst (λ (n : ℕ). T (recordFormed n (recordBytes d ++ r))) (sym (subjects-encode R f)) (record-test (R .subjects) d r (f .each d i)))
+
+  pub encode-formed : T (wellFormed (encode R))
+  encode-formed = whole (encode R) record {
+    size = length-encode R f;
+    some = subst (λ (n : ℕ). 1 ≤ n) (sym (subjects-encode R f)) (f .some);
+    most = subst (λ (n : ℕ). n ≤ 64) (sym (subjects-encode R f)) (f .most);
+    second = second-zero;
+    few = subst (λ (n : ℕ). n ≤ 256) (sym (count-encode R f)) (f .few);
+    owner = owner-zero;
+    unmarked = unmarked-zero;
+    formed = records-formed;
+    rise = subst (λ (ds : List Delegation). T (rises ds)) (sym (delegations-encode R f)) (Rising-rises (R .delegations) (f .rising));
+    rest = rest-zero;
+  }
+    where
+      rest-zero : T (restZero (encode R))
+      rest-zero =
+          let n = length-written recordBytes 8 record-wide (R .delegations) in
+          let e : 132 + length (concatMap recordBytes (R .delegations)) ≡ 132 + 8 * countIn (encode R) = omega (arith, n, count-encode R f) in
+          subst (λ (a : ℕ). T (zeros (encode R) a (2180 - a))) e
+          (zeros-after (encode R) (concatMap recordBytes (R .delegations)) [] 132 (2180 - (132 + length (concatMap recordBytes (R .delegations)))) (2048 - length (concatMap recordBytes (R .delegations)))
+          (records-encode R f ∙ sym (append-nil _)) (omega arith))

@@ -1,0 +1,90 @@
+-- Bytes moved up or down by the size of a record, one a turn. Assumes nothing.
+use mathlib.Core.Path.{_≡_, refl, ap, sym, _∙_, subst}
+use mathlib.Core.List.{List, [], _∷_, _++_}
+use Prim.Native.Nat.{ℕ, suc, _+_, _-_, _≤_, _<_}
+use native.Mathlib.Omega.{arith}
+use native.Mathlib.Numerals.{add-one}
+use lib.ListN.{length, take, drop, getD, set, take-append-drop, length-drop, List·getD-append}
+use lib.Seq.{paste, paste-zero, paste-suc, drop-paste, length-take-le, set-append-left, drop-cons, take-suc-set, getD-take, getD-drop, append-snoc, take-set-lt}
+use Rattle.block.specs.Shift.{raised, lowered}
+
+-- moved up: the bytes from i to end have their new places
+module _ (b : List ℕ) (end : ℕ) (room : end + 8 ≤ length b) where
+  pub raised-none : b ≡ raised b end end
+  unfolding raised
+  raised-none =
+      let z : end - end ≡ 0 = omega arith in
+      rw z (sym (take-append-drop (end + 8) b))
+
+  -- the byte below, stored 8 further up
+  raised-more : (i : ℕ) → suc i ≤ end → set (raised b (suc i) end) (i + 8) (getD (raised b (suc i) end) i 0) ≡ raised b i end
+  unfolding raised
+  raised-more i h =
+      let rest : List ℕ = take (end - suc i) (drop (suc i) b) ++ drop (end + 8) b in
+      let n : suc i + 8 ≡ suc (i + 8) = omega arith in
+      let k : i + 8 < length b = omega arith in
+      let tl : length (take (suc i + 8) b) ≡ suc i + 8 = length-take-le (suc i + 8) b (omega arith) in
+      let v : getD (take (suc i + 8) b ++ rest) i 0 ≡ getD b i 0 =
+      List·getD-append (take (suc i + 8) b) rest 0 i (omega arith) ∙ getD-take (suc i + 8) b i 0 (omega arith) in
+      let front : set (take (suc i + 8) b) (i + 8) (getD b i 0) ≡ take (i + 8) b ++ (getD b i 0 ∷ []) =
+      rw n (sym (take-set-lt (suc (i + 8)) b (i + 8) (getD b i 0) (omega arith)) ∙ take-suc-set b (i + 8) (getD b i 0) k) in
+      let moved : getD b i 0 ∷ take (end - suc i) (drop (suc i) b) ≡ take (end - i) (drop i b) =
+      let e : end - i ≡ suc (end - suc i) = omega arith in
+      rw (e, drop-cons b i 0 (omega arith)) in
+      ap (set (take (suc i + 8) b ++ rest) (i + 8)) v
+      ∙ set-append-left (take (suc i + 8) b) rest (i + 8) (getD b i 0) (omega arith)
+      ∙ ap (λ (l : List ℕ). l ++ rest) front
+      ∙ append-snoc (take (i + 8) b) (getD b i 0) rest
+      ∙ ap (λ (l : List ℕ). take (i + 8) b ++ (l ++ drop (end + 8) b)) moved
+
+  pub raised-on : (i : ℕ) → 0 < i → i ≤ end → (l : List ℕ) → l ≡ raised b i end → set l (i - 1 + 8) (getD l (i - 1) 0) ≡ raised b (i - 1) end
+  raised-on i p h l e =
+      let s : suc (i - 1) ≡ i = omega arith in
+      let f : l ≡ raised b (suc (i - 1)) end = rw s e in
+      rw f (raised-more (i - 1) (omega arith))
+
+-- moved down: the bytes from at to i have their new values
+module _ (b : List ℕ) (at end : ℕ) (room : end ≤ length b) where
+  pub lowered-none : b ≡ paste b at (drop (at + 8) b) (at - at)
+  lowered-none = let z : at - at ≡ 0 = omega arith in rw z (paste-zero b at (drop (at + 8) b))
+
+  -- what is read is not yet overwritten
+  ahead : (j : ℕ) → at + j + 8 < end → getD (paste b at (drop (at + 8) b) j) (at + j + 8) 0 ≡ getD (drop (at + 8) b) j 0
+  ahead j h =
+      let s = drop (at + 8) b in
+      let e : at + j + 8 ≡ at + 8 + j = omega arith in
+      sym (getD-drop (at + j) (paste b at s j) 8 0)
+      ∙ ap (λ (l : List ℕ). getD l 8 0) (drop-paste b at s j (omega arith) (simp length-drop (omega arith)))
+      ∙ getD-drop (at + j) b 8 0
+      ∙ ap (λ (n : ℕ). getD b n 0) e
+      ∙ sym (getD-drop (at + 8) b j 0)
+
+  pub lowered-on : (i : ℕ) → at ≤ i → i + 8 < end → (l : List ℕ) → l ≡ paste b at (drop (at + 8) b) (i - at) → set l i (getD l (i + 8) 0) ≡ paste b at (drop (at + 8) b) (i + 1 - at)
+  lowered-on i p h l e =
+      let j = i - at in
+      let s = drop (at + 8) b in
+      let q : at + (i - at) ≡ i = omega arith in
+      let n : i + 1 - at ≡ suc (i - at) = omega arith in
+      let one : set (paste b at s (i - at)) (at + (i - at)) (getD (paste b at s (i - at)) (at + (i - at) + 8) 0) ≡ paste b at s (suc (i - at)) =
+      ap (set (paste b at s (i - at)) (at + (i - at))) (ahead (i - at) (omega arith)) ∙ paste-suc b at s (i - at) 0 (omega arith) (simp length-drop (omega arith)) in
+      rw (e, n) (subst (λ (k : ℕ). set (paste b at s (i - at)) k (getD (paste b at s (i - at)) (k + 8) 0) ≡ paste b at s (suc (i - at))) q one)
+
+  pub lowered-end : (i : ℕ) → at + 8 ≤ end → i + 8 ≡ end → (l : List ℕ) → l ≡ paste b at (drop (at + 8) b) (i - at) → l ≡ lowered b at end
+  unfolding lowered
+  lowered-end i h q l e = let n : i - at ≡ end - (at + 8) = omega arith in e ∙ ap (paste b at (drop (at + 8) b)) n
+
+-- ── a place some bytes on, as the code and as the laws write it ──
+pub plus1 : (i : ℕ) → i + 1 ≡ suc i
+plus1 i = omega arith
+
+pub plus2 : (i : ℕ) → i + 2 ≡ suc (suc i)
+plus2 i = omega arith
+
+pub plus3 : (i : ℕ) → i + 3 ≡ suc (suc (suc i))
+plus3 i = omega arith
+
+pub plus4 : (i : ℕ) → i + 4 ≡ suc (suc (suc (suc i)))
+plus4 i = omega arith
+
+pub plus6 : (i : ℕ) → i + 6 ≡ suc (suc (suc (suc (suc (suc i)))))
+plus6 i = omega arith

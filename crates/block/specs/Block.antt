@@ -1,0 +1,40 @@
+-- A register as a block of bytes, and back (document 01, 'The block'). Assumes nothing.
+use mathlib.Core.List.{List, [], _∷_, _++_}
+use Prim.Native.Nat.{ℕ}
+use lib.ListN.{length, getD, drop}
+use Rattle.rules.specs.List.{concatMap}
+use Rattle.rules.specs.Register.{Delegation, Register}
+use Rattle.block.specs.Layout.{countAt, marksAt, recordsAt, markSize, recordSize}
+use Rattle.block.specs.Bytes.{two, twoBytes, readAll, padded}
+
+-- the marks that begin a list of bytes
+abbrev pub marksIn : List ℕ → ℕ
+marksIn s = two s 0
+
+-- the delegation whose record begins a list of bytes: giver, receiver, weight, zero, need, bar
+abbrev pub delegationIn : List ℕ → Delegation
+delegationIn s = record { giver = getD s 0 0; receiver = getD s 1 0; weight = getD s 2 0; need = two s 4; bar = two s 6 }
+
+abbrev pub recordBytes : Delegation → List ℕ
+recordBytes d = d .giver ∷ d .receiver ∷ d .weight ∷ 0 ∷ (twoBytes (d .need) ++ twoBytes (d .bar))
+
+-- how many subjects are enrolled, and how many delegations stand
+abbrev pub subjectsIn : List ℕ → ℕ
+subjectsIn b = getD b 0 0
+
+abbrev pub countIn : List ℕ → ℕ
+countIn b = two b countAt
+
+-- the register that a block holds
+unfoldable pub decode : List ℕ → Register
+decode b = record {
+  subjects = subjectsIn b;
+  marks = readAll marksIn markSize (drop marksAt b) (subjectsIn b);
+  delegations = readAll delegationIn recordSize (drop recordsAt b) (countIn b);
+}
+
+-- the block that holds a register: four bytes, 128 bytes of marks, 2,048 bytes of records
+unfoldable pub encode : Register → List ℕ
+encode R =
+    (R .subjects ∷ 0 ∷ twoBytes (length (R .delegations)))
+    ++ (padded 128 (concatMap twoBytes (R .marks)) ++ padded 2048 (concatMap recordBytes (R .delegations)))

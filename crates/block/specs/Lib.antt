@@ -1,0 +1,5 @@
+pub mod Layout
+pub mod Bytes
+pub mod Block
+pub mod WellFormed
+pub mod Shift
