@@ -13,6 +13,6 @@ pub mod Calls
 pub mod History
 pub mod Certificate
 pub mod Search
-pub mod Trail
+pub mod Links
 pub mod Answers
 pub mod BadOutcomes

@@ -5,6 +5,7 @@ pub mod Register
 pub mod Condition
 pub mod Chain
 pub mod Reach
+pub mod Links
 pub mod Support
 pub mod Pair
 pub mod Round
