@@ -1,17 +1,19 @@
 -- Laws of two-byte numbers, of values of a fixed width written and read back, and of tests over places. Assumes nothing.
 use mathlib.Core.Path.{_≡_, refl, sym, ap, subst, _∙_}
 use mathlib.Core.Logic.{_⊎_, inl, inr}
-use mathlib.Core.Bool.{Bool, true, false, not, _&&_}
+use mathlib.Core.Bool.{Bool, not}
 use mathlib.Core.List.{List, [], _∷_, _++_, append-assoc, List·Memᴰ·head, List·Memᴰ·tail, List·Memᴰ·not-nil}
-use Prim.Native.Nat.{ℕ, zero, suc, _+_, _*_, _-_, _/_, _%_, _≤_, _<_, zero-le}
-use native.Mathlib.Nat.{le-trans, le-refl, add-zero, add-suc, suc-add, mul-zero, mul-suc, add-mul-mod-self-right, add-mul-div-right, mod-eq-of-lt, div-eq-of-lt, le-of-suc-le-suc, not-suc-le-zero}
+use Prim.Native.Nat.{ℕ, zero, suc, _+_, _*_, _-_, _/_, _%_, _≤_, _<_}
+use native.Mathlib.Nat.{add-zero, add-suc, suc-add, mul-zero, mul-suc, add-mul-mod-self-right, add-mul-div-right, mod-eq-of-lt, div-eq-of-lt, le-of-suc-le-suc, not-suc-le-zero}
 use native.Mathlib.Omega.{arith}
-use lib.Dec.{T, eqb, ltb, eqb→eq, ltb→lt, nltb→le}
-use lib.ListN.{length, getD, take, drop, replicate, length-append, length-take, length-drop, length-replicate, getD-replicate, take-append-drop, List·getD-append, List·getD-eq-default}
-use lib.Seq.{getD-drop, getD-append-add, drop-at, take-add, drop-drop, drop-append-add, take-all}
+use mir.Syntax.{w8}
+use mir.Val.{Fits}
+use lib.Dec.{T, ltb, ltb→lt, nltb→le}
+use lib.ListN.{length, getD, take, drop, replicate, length-append, length-take, length-drop, List·getD-append}
+use lib.Seq.{getD-drop, getD-append-add, drop-at, take-add, drop-drop, drop-append-add}
 use Rattle.rules.specs.List.{_∈_, tabulate, concatMap}
 use Rattle.rules.proofs.Lists.{T-left, T-right, T-both, either}
-use Rattle.block.specs.Bytes.{IsBytes, two, twoBytes, readAll, padded, allFrom, zeros}
+use Rattle.block.specs.Bytes.{IsBytes, two, twoBytes, readAll, padded, allFrom}
 
 -- ── two-byte numbers ──
 pub twoBytes-two : (a b : ℕ) → a < 256 → b < 256 → twoBytes (a + b * 256) ≡ (a ∷ b ∷ [])
@@ -28,6 +30,11 @@ pub two-most : (s : List ℕ) → IsBytes s → (i : ℕ) → two s i ≤ 65535
 two-most s h i = omega (arith, h i, h (i + 1))
 
 -- ── bytes ──
+
+-- what a slice of bytes holds
+pub fits-bytes : (s : List ℕ) → ((i : ℕ) → Fits w8 (getD s i 0)) → IsBytes s
+fits-bytes s h i = omega (arith, h i)
+
 pub bytes-drop : (n : ℕ) (s : List ℕ) → IsBytes s → IsBytes (drop n s)
 bytes-drop n s h i = subst (λ (x : ℕ). x < 256) (sym (getD-drop n s i 0)) (h (n + i))
 

@@ -1,18 +1,15 @@
 -- A well-formed register written as a block: its size, its bytes, and that it reads back. Assumes nothing.
-use mathlib.Core.Path.{_≡_, refl, sym, ap, subst, _∙_}
-use mathlib.Core.Logic.{_⊎_, inl, inr}
-use mathlib.Core.Bool.{Bool, true, false, not, _&&_}
-use mathlib.Core.List.{List, [], _∷_, _++_, append-assoc, List·Memᴰ·head, List·Memᴰ·tail, List·Memᴰ·not-nil}
-use Prim.Native.Nat.{ℕ, zero, suc, _+_, _*_, _-_, _/_, _%_, _≤_, _<_, zero-le}
-use native.Mathlib.Nat.{le-trans, le-refl, mod-lt}
+use mathlib.Core.Path.{_≡_, refl, sym, ap, _∙_}
+use mathlib.Core.List.{List, [], _∷_, _++_, append-assoc, List·Memᴰ·head, List·Memᴰ·tail}
+use Prim.Native.Nat.{ℕ, zero, suc, _+_, _-_, _/_, _≤_}
+use native.Mathlib.Nat.{mod-lt}
 use native.Mathlib.Omega.{arith}
-use lib.Dec.{T, eqb, ltb, eqb→eq}
-use lib.ListN.{length, getD, take, drop, replicate, length-append, length-replicate}
+use lib.ListN.{length, drop, replicate, length-append, length-replicate}
 use lib.Seq.{drop-at}
 use Rattle.rules.specs.List.{_∈_, concatMap}
 use Rattle.rules.specs.Register.{Delegation, Register}
 use Rattle.rules.specs.WellFormed.{DelegationFormed, WellFormed}
-use Rattle.block.specs.Bytes.{IsBytes, two, twoBytes, readAll, padded}
+use Rattle.block.specs.Bytes.{IsBytes, twoBytes, readAll, padded}
 use Rattle.block.specs.Block.{marksIn, delegationIn, recordBytes, subjectsIn, countIn, decode, encode}
 use Rattle.block.proofs.Bytes.{two-twoBytes, bytes-append, bytes-zeros, length-written, read-written}
 

@@ -1,26 +1,25 @@
 -- A well-formed block holds a well-formed register and is that register written; a well-formed register written is a well-formed block. Assumes nothing.
 use mathlib.Core.Path.{_≡_, refl, sym, ap, subst, _∙_}
-use mathlib.Core.Logic.{_≢_, _⊎_, inl, inr}
-use mathlib.Core.Bool.{Bool, true, false, not, _&&_}
+use mathlib.Core.Bool.{true, not, _&&_}
 use mathlib.Core.List.{List, [], _∷_, _++_, append-assoc, append-nil, List·Memᴰ·head, List·Memᴰ·tail, List·Memᴰ·not-nil}
 use Prim.Native.Nat.{ℕ, zero, suc, _+_, _*_, _-_, _≤_, _<_}
-use native.Mathlib.Nat.{le-trans, le-refl, zero-add, le-of-suc-le-suc, not-suc-le-zero}
+use native.Mathlib.Nat.{zero-add, le-of-suc-le-suc, not-suc-le-zero}
 use native.Mathlib.Omega.{arith}
 use lib.Bits.{bitAnd}
 use lib.Dec.{T, eqb, ltb, leb, eqb→eq, ltb→lt, lt→ltb, leb→le, le→leb, not-T}
-use lib.ListN.{length, getD, take, drop, replicate, length-drop, length-take, length-replicate, getD-replicate, take-append-drop, List·getD-append}
+use lib.ListN.{length, getD, take, drop, replicate, length-drop, length-replicate, getD-replicate, take-append-drop, List·getD-append}
 use lib.Seq.{getD-drop, getD-append-add, drop-drop, take-all}
 use Rattle.rules.specs.List.{_∈_, tabulate, concatMap}
 use Rattle.rules.specs.Register.{Delegation, Register}
 use Rattle.rules.specs.WellFormed.{Before, Rising, DelegationFormed, WellFormed}
 use Rattle.rules.specs.CallStep.{before}
-use Rattle.rules.proofs.Lists.{T-left, T-right, T-both, T-of, eq→eqb, test-ne}
+use Rattle.rules.proofs.Lists.{T-left, T-right, T-both, eq→eqb, test-ne}
 use Rattle.rules.proofs.WellFormed.{Before-trans}
 use Rattle.rules.proofs.Pairs.{before-Before, Before-before}
-use Rattle.block.specs.Bytes.{IsBytes, two, twoBytes, readAll, padded, allFrom, zeros}
+use Rattle.block.specs.Bytes.{IsBytes, two, twoBytes, readAll, padded, zeros}
 use Rattle.block.specs.Block.{marksIn, delegationIn, recordBytes, subjectsIn, countIn, decode, encode}
-use Rattle.block.specs.WellFormed.{headFormed, ownerUnmarked, restUnmarked, delegationFormed, recordFormed, recordsFormed, follows, rises, recordsRise, restZero, wellFormed}
-use Rattle.block.proofs.Bytes.{tabulate-suc, twoBytes-two, two-twoBytes, two-most, bytes-drop, length-tabulate, tabulate-mem, length-written, written-at, written-read, allFrom-at, allFrom-all, padded-zeros}
+use Rattle.block.specs.WellFormed.{headFormed, ownerUnmarked, restUnmarked, delegationFormed, recordFormed, recordsFormed, rises, recordsRise, restZero, wellFormed}
+use Rattle.block.proofs.Bytes.{tabulate-suc, twoBytes-two, two-most, bytes-drop, length-tabulate, tabulate-mem, length-written, written-at, written-read, allFrom-at, allFrom-all, padded-zeros}
 use Rattle.block.proofs.Encode.{marksPart, recordsPart, marks-encode, record-wide, record-read, length-encode, subjects-encode, count-encode, records-encode, delegations-encode}
 
 -- ── the rules of a well-formed block, each by itself ──

@@ -3,4 +3,7 @@ pub mod Encode
 pub mod Form
 pub mod Shift
 pub mod Splice
-pub mod Change
+pub mod Rewrite
+pub mod Held
+pub mod Fields
+pub mod Loops

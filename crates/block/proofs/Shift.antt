@@ -1,9 +1,8 @@
 -- Bytes moved up or down by the size of a record, one a turn. Assumes nothing.
-use mathlib.Core.Path.{_≡_, refl, ap, sym, _∙_, subst}
+use mathlib.Core.Path.{_≡_, ap, sym, _∙_, subst}
 use mathlib.Core.List.{List, [], _∷_, _++_}
 use Prim.Native.Nat.{ℕ, suc, _+_, _-_, _≤_, _<_}
 use native.Mathlib.Omega.{arith}
-use native.Mathlib.Numerals.{add-one}
 use lib.ListN.{length, take, drop, getD, set, take-append-drop, length-drop, List·getD-append}
 use lib.Seq.{paste, paste-zero, paste-suc, drop-paste, length-take-le, set-append-left, drop-cons, take-suc-set, getD-take, getD-drop, append-snoc, take-set-lt}
 use Rattle.block.specs.Shift.{raised, lowered}

@@ -1,22 +1,22 @@
 -- A record put into a run of bytes, taken out of it, or changed; and the same in a list of delegations. Assumes nothing.
 use mathlib.Core.Path.{_≡_, refl, sym, ap, subst, _∙_}
-use mathlib.Core.Bool.{Bool, true, false, not, cond, _&&_}
-use mathlib.Core.List.{List, [], _∷_, _++_, append-assoc, append-nil, map, List·Memᴰ·head, List·Memᴰ·tail, List·Memᴰ·not-nil}
-use Prim.Native.Nat.{ℕ, zero, suc, _+_, _*_, _-_, _≤_, _<_, zero-le, suc-le-suc}
-use native.Mathlib.Nat.{le-trans, le-refl, le-of-suc-le-suc, not-suc-le-zero}
+use mathlib.Core.Bool.{Bool, true, false, not, cond}
+use mathlib.Core.List.{List, [], _∷_, _++_, append-assoc, map, List·Memᴰ·head, List·Memᴰ·tail}
+use Prim.Native.Nat.{ℕ, zero, suc, _+_, _-_, _≤_, _<_, zero-le, suc-le-suc}
+use native.Mathlib.Nat.{le-of-suc-le-suc, not-suc-le-zero}
 use native.Mathlib.Omega.{arith}
-use lib.Dec.{T, eqb, T-not, not-T}
-use lib.ListN.{length, getD, take, drop, set, replicate, length-append, length-drop, length-take, length-replicate}
-use lib.Seq.{sets, sets-eq, paste, take-at, drop-at, take-take, take-append-le, take-append-add, drop-append-add, take-append-seam, drop-append-seam, drop-drop, length-take-le, set-at}
-use Rattle.rules.specs.List.{_∈_, keep, filter, concatMap}
+use lib.Dec.{T, not-T}
+use lib.ListN.{length, getD, take, drop, length-append, length-drop}
+use lib.Seq.{sets, sets-eq, take-at, drop-at, take-take, take-append-le, drop-append-add, drop-append-seam, drop-drop, length-take-le}
+use Rattle.rules.specs.List.{_∈_, keep, filter}
 use lib.IntN.{pos}
 use Rattle.rules.specs.Register.{Delegation, reweigh}
 use Rattle.rules.specs.Limit.{none}
 use Rattle.rules.specs.Pair.{isPair, weightAt}
-use Rattle.rules.specs.WellFormed.{Before, Rising}
+use Rattle.rules.specs.WellFormed.{Rising}
 use Rattle.rules.specs.CallStep.{before, insert}
 use Rattle.rules.proofs.WellFormed.{Before-irrefl}
-use Rattle.rules.proofs.Pairs.{IsPair, pair-test, test-pair}
+use Rattle.rules.proofs.Pairs.{test-pair}
 use Rattle.block.specs.Bytes.{leading}
 use Rattle.block.specs.Shift.{raised, lowered}
 

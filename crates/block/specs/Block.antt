@@ -1,5 +1,5 @@
 -- A register as a block of bytes, and back (document 01, 'The block'). Assumes nothing.
-use mathlib.Core.List.{List, [], _∷_, _++_}
+use mathlib.Core.List.{List, _∷_, _++_}
 use Prim.Native.Nat.{ℕ}
 use lib.ListN.{length, getD, drop}
 use Rattle.rules.specs.List.{concatMap}

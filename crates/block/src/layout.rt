@@ -1,5 +1,7 @@
-// The layout of the block: the one home of its sizes and offsets in the code.
+// The sizes and offsets of the block of 2,180 bytes: their one home in the code.
 pub const BLOCK_SIZE: usize = 2180;
+
+pub const FREE_AT: usize = 1;
 
 pub const COUNT_AT: usize = 2;
 
@@ -10,3 +12,21 @@ pub const RECORDS_AT: usize = 132;
 pub const MARK_SIZE: usize = 2;
 
 pub const RECORD_SIZE: usize = 8;
+
+// The most subjects and the most records.
+pub const MOST_SUBJECTS: u8 = 64;
+
+pub const MOST_RECORDS: usize = 256;
+
+// Where each field of a record begins; its byte `REST` is zero.
+pub const GIVER: usize = 0;
+
+pub const RECEIVER: usize = 1;
+
+pub const WEIGHT: usize = 2;
+
+pub const REST: usize = 3;
+
+pub const NEED: usize = 4;
+
+pub const BAR: usize = 6;

@@ -1,7 +1,32 @@
-// The block of 2,180 bytes.
+// The block of 2,180 bytes: its layout, its reads, its changes.
+mod change;
 mod layout;
+mod read;
 mod write;
 
+pub use change::add_subject;
+pub use change::insert;
+pub use change::remove;
+pub use change::set_weight;
+pub use change::write_fresh;
+pub use read::bar;
+pub use read::count;
+pub use read::find;
+pub use read::giver;
+pub use read::marks;
+pub use read::need;
+pub use read::place;
+pub use read::read_two;
+pub use read::receiver;
+pub use read::receives;
+pub use read::record_formed;
+pub use read::records_formed;
+pub use read::records_rise;
+pub use read::run_start;
+pub use read::subjects;
+pub use read::weight;
+pub use read::well_formed;
+pub use read::zero_range;
 pub use write::put_record;
 pub use write::put_two;
 pub use write::shift_down;

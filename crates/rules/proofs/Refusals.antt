@@ -17,7 +17,7 @@ Passes [] = Unit {0}
 Passes (p ∷ ps) = T (not (p .1)) × Passes ps
 
 -- every number is above 0
-abbrev numbered : List (ℕ × Bool) → Bool
+abbrev pub numbered : List (ℕ × Bool) → Bool
 numbered [] = true
 numbered (p ∷ ps) = ltb 0 (p .0) && numbered ps
 
@@ -37,3 +37,12 @@ passes t R (revoke y g r) e = firstOf-passes (passed (revoke y g r) ++ held t R 
 passes t R (downgrade y g r w) e = firstOf-passes (passed (downgrade y g r w) ++ held t R (downgrade y g r w)) tt e
 passes t R (askReach g r) e = firstOf-passes (passed (askReach g r) ++ held t R (askReach g r)) tt e
 passes t R (askUse r) e = firstOf-passes (passed (askUse r) ++ held t R (askUse r)) tt e
+
+pub passed-numbered : (c : Call) → T (numbered (passed c))
+unfolding passed
+passed-numbered (enrol m) = tt
+passed-numbered (grant g r w n b) = tt
+passed-numbered (revoke y g r) = tt
+passed-numbered (downgrade y g r w) = tt
+passed-numbered (askReach g r) = tt
+passed-numbered (askUse r) = tt

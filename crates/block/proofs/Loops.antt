@@ -1,0 +1,86 @@
+-- A loop over places: x is the whole answer, e says that it is the answer from place i on. Each form at its end, stopped at i, and gone on. Assumes nothing.
+use mathlib.Core.Path.{_≡_, refl, sym, _∙_}
+use mathlib.Core.Bool.{Bool, true, false}
+use mathlib.Core.List.{[], _∷_}
+use Prim.Native.Nat.{ℕ, zero, suc, _+_, _-_, _≤_, _<_}
+use native.Mathlib.Numerals.{add-one}
+use native.Mathlib.Nat.{add-zero}
+use native.Mathlib.Omega.{arith}
+use lib.Dec.{eqb}
+use Rattle.rules.specs.List.{tabulate}
+use Rattle.rules.specs.Register.{Delegation}
+use Rattle.rules.specs.Pair.{receives}
+use Rattle.rules.specs.CallStep.{before}
+use Rattle.block.specs.Bytes.{allFrom, leading}
+use Rattle.block.specs.WellFormed.{rises, follows}
+
+-- a test of every place
+module _ {x : Bool} (f : ℕ → Bool) (i n : ℕ) (e : x ≡ allFrom f i (n - i)) where
+  pub all-end : n ≤ i → true ≡ x
+  all-end h = let z : n - i ≡ 0 = omega arith in sym (rw z at e)
+
+  pub all-stop : i < n → f i ≡ false → false ≡ x
+  all-stop h t = let z : n - i ≡ suc (n - (i + 1)) = omega arith in sym (rw (z, t) at e)
+
+  pub all-on : i < n → f i ≡ true → x ≡ allFrom f (i + 1) (n - (i + 1))
+  all-on h t = let z : n - i ≡ suc (n - (i + 1)) = omega arith in rw (z, t, ← add-one i) at e
+
+-- the values from place i on
+module _ {A : Type 0} (f : ℕ → A) (i n : ℕ) where
+  pub rest-end : n ≤ i → tabulate f i (n - i) ≡ []
+  rest-end h = let z : n - i ≡ 0 = omega arith in rw z
+
+  pub rest-on : i < n → tabulate f i (n - i) ≡ f i ∷ tabulate f (i + 1) (n - (i + 1))
+  rest-on h = let z : n - i ≡ suc (n - (i + 1)) = omega arith in rw (z, add-one)
+
+-- all values are those from place 0 on
+pub rest-all : {A : Type 0} (f : ℕ → A) (n : ℕ) → tabulate f 0 n ≡ tabulate f 0 (n - 0)
+rest-all f n = let z : n - 0 ≡ n = omega arith in rw z
+
+-- how many at the front pass: i, and those from place i on
+abbrev pub Counted : {A : Type 0} → (A → Bool) → (ℕ → A) → ℕ → ℕ → Type 0
+Counted g f n i = leading g (tabulate f 0 n) ≡ i + leading g (tabulate f i (n - i))
+
+module _ {A : Type 0} (g : A → Bool) (f : ℕ → A) (i n : ℕ) (e : Counted g f n i) where
+  pub front-end : n ≤ i → i ≡ leading g (tabulate f 0 n)
+  front-end h = sym (rw (rest-end f i n h, add-zero) at e)
+
+  pub front-stop : i < n → g (f i) ≡ false → i ≡ leading g (tabulate f 0 n)
+  front-stop h t = sym (rw (rest-on f i n h, t, add-zero) at e)
+
+  pub front-on : i < n → g (f i) ≡ true → Counted g f n (i + 1)
+  front-on h t = (rw (rest-on f i n h, t) at e) ∙ omega arith
+
+pub front-all : {A : Type 0} (g : A → Bool) (f : ℕ → A) (n : ℕ) → Counted g f n 0
+front-all g f n = rw (← rest-all f n) (omega arith)
+
+-- one value, or none
+alone : (f : ℕ → Delegation) (i m : ℕ) → m ≤ 1 → rises (tabulate f i m) ≡ true
+alone f i zero h = refl
+alone f i (suc zero) h = refl
+alone f i (suc (suc m)) h = absurd (omega arith)
+
+-- each value before the one after it
+module _ {x : Bool} (f : ℕ → Delegation) (i n : ℕ) (e : x ≡ rises (tabulate f i (n - i))) where
+  pub rise-end : n ≤ i + 1 → true ≡ x
+  rise-end h = let l : n - i ≤ 1 = omega arith in sym (e ∙ alone f i (n - i) l)
+
+  pub rise-stop : i + 1 < n → before (f i) (f (i + 1)) ≡ false → false ≡ x
+  rise-stop h t = let l : i < n = omega arith in sym (rw (rest-on f i n l, rest-on f (i + 1) n h, t) at e)
+
+  pub rise-on : i + 1 < n → before (f i) (f (i + 1)) ≡ true → x ≡ rises (tabulate f (i + 1) (n - (i + 1)))
+  rise-on h t =
+      let l : i < n = omega arith in
+      let q : follows (f i) (tabulate f (i + 1) (n - (i + 1))) ≡ true = rw (rest-on f (i + 1) n h) t in
+      rw (rest-on f i n l, q) at e
+
+-- some value has the receiver r
+module _ {x : Bool} (r : ℕ) (f : ℕ → Delegation) (i n : ℕ) (e : x ≡ receives r (tabulate f i (n - i))) where
+  pub some-end : n ≤ i → false ≡ x
+  some-end h = sym (rw (rest-end f i n h) at e)
+
+  pub some-stop : i < n → eqb (f i .receiver) r ≡ true → true ≡ x
+  some-stop h t = sym (rw (rest-on f i n h, t) at e)
+
+  pub some-on : i < n → eqb (f i .receiver) r ≡ false → x ≡ receives r (tabulate f (i + 1) (n - (i + 1)))
+  some-on h t = rw (rest-on f i n h, t) at e

@@ -1,0 +1,69 @@
+-- `block::remove` removes the pair's delegation. Assumes nothing.
+use Prim.Native.Nat.{_-_, _<_}
+use native.Mathlib.Omega.{arith}
+use Rattle.rules.specs.CallStep.{before}
+use Rattle.block.proofs.Bytes.{fits-bytes}
+use Rattle.block.proofs.Held.{size-held, count-most, found-stands, remove-held}
+use Rattle.block.proofs.change.remove.Statement.{statement}
+use Rattle.block.proofs.change.remove.Tie as tie
+
+count-requires : tie.Need-count-requires
+count-requires c κs = omega (arith, size-held (c .before .before .args .b .now) (fits-bytes (c .before .before .args .b .now) (c .before .slice-known .given)) (c .before .before .pre .0))
+
+find-requires : tie.Need-find-requires
+find-requires c κs = omega (arith, size-held (c .before .before .before .before .args .b .now) (fits-bytes (c .before .before .before .before .args .b .now) (c .before .before .before .slice-known .given)) (c .before .before .before .before .pre .0), count-most (c .before .before .before .before .args .b .now) (fits-bytes (c .before .before .before .before .args .b .now) (c .before .before .before .slice-known .given)) (c .before .before .before .before .pre .0), c .before .count .ensures)
+
+mul-end : tie.Need-mul-end
+mul-end c = omega (arith, count-most (c .before .before .before .before .before .args .b .now) (fits-bytes (c .before .before .before .before .before .args .b .now) (c .before .before .before .before .slice-known .given)) (c .before .before .before .before .before .pre .0), c .before .before .count .ensures)
+
+add-end : tie.Need-add-end
+add-end c = omega (arith, count-most (c .before .before .before .before .before .args .b .now) (fits-bytes (c .before .before .before .before .before .args .b .now) (c .before .before .before .before .slice-known .given)) (c .before .before .before .before .before .pre .0), c .before .before .count .ensures)
+
+mul-shift-down : tie.Need-mul-shift-down
+mul-shift-down c = let k : c .before .find .result < c .before .before .before .count .result = rw (c .before .before .before .count .ensures) (found-stands (c .before .before .before .before .before .before .args .b .now) (fits-bytes (c .before .before .before .before .before .before .args .b .now) (c .before .before .before .before .before .slice-known .given)) (c .before .before .before .before .before .before .pre .0) (c .before .before .before .before .before .before .args .giver) (c .before .before .before .before .before .before .args .receiver) (c .before .find .result) (rw (← c .before .before .before .count .ensures) (c .before .find .ensures)) (c .before .before .before .before .before .before .pre .1)) in omega (arith, count-most (c .before .before .before .before .before .before .args .b .now) (fits-bytes (c .before .before .before .before .before .before .args .b .now) (c .before .before .before .before .before .slice-known .given)) (c .before .before .before .before .before .before .pre .0), c .before .before .before .count .ensures)
+
+add-shift-down : tie.Need-add-shift-down
+add-shift-down c = let k : c .before .find .result < c .before .before .before .count .result = rw (c .before .before .before .count .ensures) (found-stands (c .before .before .before .before .before .before .args .b .now) (fits-bytes (c .before .before .before .before .before .before .args .b .now) (c .before .before .before .before .before .slice-known .given)) (c .before .before .before .before .before .before .pre .0) (c .before .before .before .before .before .before .args .giver) (c .before .before .before .before .before .before .args .receiver) (c .before .find .result) (rw (← c .before .before .before .count .ensures) (c .before .find .ensures)) (c .before .before .before .before .before .before .pre .1)) in omega (arith, count-most (c .before .before .before .before .before .before .args .b .now) (fits-bytes (c .before .before .before .before .before .before .args .b .now) (c .before .before .before .before .before .slice-known .given)) (c .before .before .before .before .before .before .pre .0), c .before .before .before .count .ensures)
+
+shift-down-requires : tie.Need-shift-down-requires
+shift-down-requires c κs = let k : c .before .find .result < c .before .before .before .count .result = rw (c .before .before .before .count .ensures) (found-stands (c .before .before .before .before .before .before .args .b .now) (fits-bytes (c .before .before .before .before .before .before .args .b .now) (c .before .before .before .before .before .slice-known .given)) (c .before .before .before .before .before .before .pre .0) (c .before .before .before .before .before .before .args .giver) (c .before .before .before .before .before .before .args .receiver) (c .before .find .result) (rw (← c .before .before .before .count .ensures) (c .before .find .ensures)) (c .before .before .before .before .before .before .pre .1)) in omega (arith, size-held (c .before .before .before .before .before .before .args .b .now) (fits-bytes (c .before .before .before .before .before .before .args .b .now) (c .before .before .before .before .before .slice-known .given)) (c .before .before .before .before .before .before .pre .0), count-most (c .before .before .before .before .before .before .args .b .now) (fits-bytes (c .before .before .before .before .before .before .args .b .now) (c .before .before .before .before .before .slice-known .given)) (c .before .before .before .before .before .before .pre .0), c .before .before .before .count .ensures)
+
+sub-put-record : tie.Need-sub-put-record
+sub-put-record c = omega arith
+
+put-record-requires : tie.Need-put-record-requires
+put-record-requires c κs = let k : c .before .before .before .before .before .find .result < c .before .before .before .before .before .before .before .count .result = rw (c .before .before .before .before .before .before .before .count .ensures) (found-stands (c .before .before .before .before .before .before .before .before .before .before .args .b .now) (fits-bytes (c .before .before .before .before .before .before .before .before .before .before .args .b .now) (c .before .before .before .before .before .before .before .before .before .slice-known .given)) (c .before .before .before .before .before .before .before .before .before .before .pre .0) (c .before .before .before .before .before .before .before .before .before .before .args .giver) (c .before .before .before .before .before .before .before .before .before .before .args .receiver) (c .before .before .before .before .before .find .result) (rw (← c .before .before .before .before .before .before .before .count .ensures) (c .before .before .before .before .before .find .ensures)) (c .before .before .before .before .before .before .before .before .before .before .pre .1)) in omega (arith, size-held (c .before .before .before .before .before .before .before .before .before .before .args .b .now) (fits-bytes (c .before .before .before .before .before .before .before .before .before .before .args .b .now) (c .before .before .before .before .before .before .before .before .before .slice-known .given)) (c .before .before .before .before .before .before .before .before .before .before .pre .0), count-most (c .before .before .before .before .before .before .before .before .before .before .args .b .now) (fits-bytes (c .before .before .before .before .before .before .before .before .before .before .args .b .now) (c .before .before .before .before .before .before .before .before .before .slice-known .given)) (c .before .before .before .before .before .before .before .before .before .before .pre .0), c .before .before .before .before .before .before .before .count .ensures, c .before .before .before .shift-down .kept .0)
+
+sub-put-two : tie.Need-sub-put-two
+sub-put-two c = let k : c .before .before .before .before .before .before .before .before .before .find .result < c .before .before .before .before .before .before .before .before .before .before .before .count .result = rw (c .before .before .before .before .before .before .before .before .before .before .before .count .ensures) (found-stands (c .before .before .before .before .before .before .before .before .before .before .before .before .before .before .args .b .now) (fits-bytes (c .before .before .before .before .before .before .before .before .before .before .before .before .before .before .args .b .now) (c .before .before .before .before .before .before .before .before .before .before .before .before .before .slice-known .given)) (c .before .before .before .before .before .before .before .before .before .before .before .before .before .before .pre .0) (c .before .before .before .before .before .before .before .before .before .before .before .before .before .before .args .giver) (c .before .before .before .before .before .before .before .before .before .before .before .before .before .before .args .receiver) (c .before .before .before .before .before .before .before .before .before .find .result) (rw (← c .before .before .before .before .before .before .before .before .before .before .before .count .ensures) (c .before .before .before .before .before .before .before .before .before .find .ensures)) (c .before .before .before .before .before .before .before .before .before .before .before .before .before .before .pre .1)) in omega arith
+
+cast-put-two : tie.Need-cast-put-two
+cast-put-two c = omega (arith, count-most (c .before .before .before .before .before .before .before .before .before .before .before .before .before .before .args .b .now) (fits-bytes (c .before .before .before .before .before .before .before .before .before .before .before .before .before .before .args .b .now) (c .before .before .before .before .before .before .before .before .before .before .before .before .before .slice-known .given)) (c .before .before .before .before .before .before .before .before .before .before .before .before .before .before .pre .0), c .before .before .before .before .before .before .before .before .before .before .before .count .ensures)
+
+put-two-requires : tie.Need-put-two-requires
+put-two-requires c κs = omega (arith, size-held (c .before .before .before .before .before .before .before .before .before .before .before .before .before .before .args .b .now) (fits-bytes (c .before .before .before .before .before .before .before .before .before .before .before .before .before .before .args .b .now) (c .before .before .before .before .before .before .before .before .before .before .before .before .before .slice-known .given)) (c .before .before .before .before .before .before .before .before .before .before .before .before .before .before .pre .0), c .before .before .before .put-record .kept .0, c .before .before .before .before .before .before .before .shift-down .kept .0)
+
+same-length : tie.Need-same-length
+same-length c = omega (arith, c .before .before .put-two .kept .0, c .before .before .before .before .before .before .put-record .kept .0, c .before .before .before .before .before .before .before .before .before .before .shift-down .kept .0)
+
+returns : tie.Need-returns
+returns c = rw (c .before .before .put-two .ensures, c .before .before .before .before .before .before .put-record .ensures, c .before .before .before .before .before .before .before .before .before .before .shift-down .ensures, c .before .before .before .before .before .before .before .before .before .before .before .before .before .before .count .ensures) (remove-held (c .before .before .before .before .before .before .before .before .before .before .before .before .before .before .before .before .before .args .b .now) (fits-bytes (c .before .before .before .before .before .before .before .before .before .before .before .before .before .before .before .before .before .args .b .now) (c .before .before .before .before .before .before .before .before .before .before .before .before .before .before .before .before .slice-known .given)) (c .before .before .before .before .before .before .before .before .before .before .before .before .before .before .before .before .before .pre .0) (c .before .before .before .before .before .before .before .before .before .before .before .before .before .before .before .before .before .args .giver) (c .before .before .before .before .before .before .before .before .before .before .before .before .before .before .before .before .before .args .receiver) (c .before .before .before .before .before .before .before .before .before .before .before .before .find .result) (rw (← c .before .before .before .before .before .before .before .before .before .before .before .before .before .before .count .ensures) (c .before .before .before .before .before .before .before .before .before .before .before .before .find .ensures)) (c .before .before .before .before .before .before .before .before .before .before .before .before .before .before .before .before .before .pre .1))
+
+pub remove-spec : {M : Type 1} → statement M
+remove-spec =
+    tie.close
+    (tie.spec
+    count-requires
+    find-requires
+    mul-end
+    add-end
+    mul-shift-down
+    add-shift-down
+    shift-down-requires
+    sub-put-record
+    put-record-requires
+    sub-put-two
+    cast-put-two
+    put-two-requires
+    same-length
+    returns)

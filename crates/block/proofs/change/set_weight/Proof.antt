@@ -1,0 +1,39 @@
+-- `block::set_weight` sets the weight of the pair's delegation. Assumes nothing.
+use mathlib.Core.Path.{_≡_, refl}
+use Prim.Native.Nat.{_+_, _*_, _-_, _<_}
+use native.Mathlib.Omega.{arith}
+use lib.ListN.{length-set}
+use Rattle.rules.specs.CallStep.{before}
+use Rattle.block.proofs.Bytes.{fits-bytes}
+use Rattle.block.proofs.Held.{size-held, count-most, found-stands, lower-held}
+use Rattle.block.proofs.change.set_weight.Statement.{statement}
+use Rattle.block.proofs.change.set_weight.Tie as tie
+
+count-requires : tie.Need-count-requires
+count-requires c κs = omega (arith, size-held (c .before .before .args .b .now) (fits-bytes (c .before .before .args .b .now) (c .before .slice-known .given)) (c .before .before .pre .0))
+
+find-requires : tie.Need-find-requires
+find-requires c κs = omega (arith, size-held (c .before .before .before .before .args .b .now) (fits-bytes (c .before .before .before .before .args .b .now) (c .before .before .before .slice-known .given)) (c .before .before .before .before .pre .0), count-most (c .before .before .before .before .args .b .now) (fits-bytes (c .before .before .before .before .args .b .now) (c .before .before .before .slice-known .given)) (c .before .before .before .before .pre .0), c .before .count .ensures)
+
+mul-b : tie.Need-mul-b
+mul-b c = let k : c .find .result < c .before .before .count .result = rw (c .before .before .count .ensures) (found-stands (c .before .before .before .before .before .args .b .now) (fits-bytes (c .before .before .before .before .before .args .b .now) (c .before .before .before .before .slice-known .given)) (c .before .before .before .before .before .pre .0) (c .before .before .before .before .before .args .giver) (c .before .before .before .before .before .args .receiver) (c .find .result) (rw (← c .before .before .count .ensures) (c .find .ensures)) (c .before .before .before .before .before .pre .1)) in omega (arith, count-most (c .before .before .before .before .before .args .b .now) (fits-bytes (c .before .before .before .before .before .args .b .now) (c .before .before .before .before .slice-known .given)) (c .before .before .before .before .before .pre .0), c .before .before .count .ensures)
+
+add-b : tie.Need-add-b
+add-b c = let k : c .find .result < c .before .before .count .result = rw (c .before .before .count .ensures) (found-stands (c .before .before .before .before .before .args .b .now) (fits-bytes (c .before .before .before .before .before .args .b .now) (c .before .before .before .before .slice-known .given)) (c .before .before .before .before .before .pre .0) (c .before .before .before .before .before .args .giver) (c .before .before .before .before .before .args .receiver) (c .find .result) (rw (← c .before .before .count .ensures) (c .find .ensures)) (c .before .before .before .before .before .pre .1)) in omega (arith, count-most (c .before .before .before .before .before .args .b .now) (fits-bytes (c .before .before .before .before .before .args .b .now) (c .before .before .before .before .slice-known .given)) (c .before .before .before .before .before .pre .0), c .before .before .count .ensures)
+
+add-b-2 : tie.Need-add-b-2
+add-b-2 c = let k : c .find .result < c .before .before .count .result = rw (c .before .before .count .ensures) (found-stands (c .before .before .before .before .before .args .b .now) (fits-bytes (c .before .before .before .before .before .args .b .now) (c .before .before .before .before .slice-known .given)) (c .before .before .before .before .before .pre .0) (c .before .before .before .before .before .args .giver) (c .before .before .before .before .before .args .receiver) (c .find .result) (rw (← c .before .before .count .ensures) (c .find .ensures)) (c .before .before .before .before .before .pre .1)) in omega (arith, count-most (c .before .before .before .before .before .args .b .now) (fits-bytes (c .before .before .before .before .before .args .b .now) (c .before .before .before .before .slice-known .given)) (c .before .before .before .before .before .pre .0), c .before .before .count .ensures)
+
+slice-write-b : tie.Need-slice-write-b
+slice-write-b c = let k : c .find .result < c .before .before .count .result = rw (c .before .before .count .ensures) (found-stands (c .before .before .before .before .before .args .b .now) (fits-bytes (c .before .before .before .before .before .args .b .now) (c .before .before .before .before .slice-known .given)) (c .before .before .before .before .before .pre .0) (c .before .before .before .before .before .args .giver) (c .before .before .before .before .before .args .receiver) (c .find .result) (rw (← c .before .before .count .ensures) (c .find .ensures)) (c .before .before .before .before .before .pre .1)) in omega (arith, size-held (c .before .before .before .before .before .args .b .now) (fits-bytes (c .before .before .before .before .before .args .b .now) (c .before .before .before .before .slice-known .given)) (c .before .before .before .before .before .pre .0), count-most (c .before .before .before .before .before .args .b .now) (fits-bytes (c .before .before .before .before .before .args .b .now) (c .before .before .before .before .slice-known .given)) (c .before .before .before .before .before .pre .0), c .before .before .count .ensures)
+
+same-length : tie.Need-same-length
+same-length c = simp length-set refl
+
+returns : tie.Need-returns
+returns c = let e : 132 + 8 * c .find .result + 2 ≡ 134 + 8 * c .find .result = omega arith in rw e (lower-held (c .before .before .before .before .before .args .b .now) (fits-bytes (c .before .before .before .before .before .args .b .now) (c .before .before .before .before .slice-known .given)) (c .before .before .before .before .before .pre .0) (c .before .before .before .before .before .args .giver) (c .before .before .before .before .before .args .receiver) (c .find .result) (rw (← c .before .before .count .ensures) (c .find .ensures)) (c .before .before .before .before .before .args .weight) (c .before .before .before .before .before .pre .1))
+
+pub set-weight-spec : {M : Type 1} → statement M
+set-weight-spec =
+    tie.close
+    (tie.spec count-requires find-requires mul-b add-b add-b-2 slice-write-b same-length returns)

@@ -1,0 +1,67 @@
+-- `block::place` is the number of records at the front that a pair does not come before. Assumes nothing.
+use mathlib.Core.Path.{ap, sym, _∙_}
+use mathlib.Core.Bool.{Bool, not}
+use Prim.Native.Nat.{ℕ, _-_}
+use native.Mathlib.Omega.{arith}
+use Rattle.rules.specs.Register.{Delegation}
+use Rattle.rules.specs.Call.{granted}
+use Rattle.rules.specs.CallStep.{before}
+use Rattle.block.proofs.Fields.{recordAt}
+use Rattle.block.proofs.Loops.{Counted, front-all, front-end, front-stop, front-on}
+use Rattle.block.proofs.read.place.Statement.{statement}
+use Rattle.block.proofs.read.place.Tie as tie
+
+abbrev test : ℕ → ℕ → Delegation → Bool
+test g r d = not (before (granted g r 0 0 0) d)
+
+abbrev Inv-loop : tie.InvT-loop
+Inv-loop b count giver receiver k₀ k = Counted (test giver receiver) (recordAt b) count k
+
+abbrev μ-loop : tie.MeasureT-loop
+μ-loop b count giver receiver k₀ k = count - k
+
+loop-holds : tie.Need-loop-holds Inv-loop μ-loop
+loop-holds c =
+    let a = c .before .args in
+    front-all (test (a .giver) (a .receiver)) (recordAt (a .b .now)) (a .count)
+
+is-before-requires : tie.Need-is-before-requires Inv-loop μ-loop
+is-before-requires c κs = omega arith
+
+returns : tie.Need-returns Inv-loop μ-loop
+returns c =
+    let a = c .before .before .before .before .before .args in
+    let l = c .before .before .before .loop in
+    front-stop (test (a .giver) (a .receiver)) (recordAt (a .b .now)) (l .k) (a .count) (l .inv) (omega arith) (ap not (sym (c .before .is-before .ensures) ∙ c .if1 .taken))
+
+add-k : tie.Need-add-k Inv-loop μ-loop
+add-k c = omega arith
+
+loop-less : tie.Need-loop-less Inv-loop μ-loop
+loop-less c = omega arith
+
+loop-again : tie.Need-loop-again Inv-loop μ-loop
+loop-again c =
+    let a = c .before .before .before .before .before .args in
+    let l = c .before .before .before .loop in
+    front-on (test (a .giver) (a .receiver)) (recordAt (a .b .now)) (l .k) (a .count) (l .inv) (omega arith) (ap not (sym (c .before .is-before .ensures) ∙ c .if1 .left))
+
+returns-2 : tie.Need-returns-2 Inv-loop μ-loop
+returns-2 c =
+    let a = c .before .before .before .args in
+    let l = c .before .loop in
+    front-end (test (a .giver) (a .receiver)) (recordAt (a .b .now)) (l .k) (a .count) (l .inv) (omega arith)
+
+pub place-spec : {M : Type 1} → statement M
+place-spec =
+    tie.close
+    (tie.spec
+    Inv-loop
+    μ-loop
+    loop-holds
+    is-before-requires
+    returns
+    add-k
+    loop-less
+    loop-again
+    returns-2)

@@ -1,0 +1,311 @@
+// Reads of a block: its fields, whether it is well formed, and where a record is.
+ghost use mathlib.Core.Path.{_≡_};
+ghost use mathlib.Core.Bool.{not};
+ghost use Prim.Native.Nat.{_+_, _-_, _*_, _≤_};
+ghost use lib.Dec.{ltb};
+ghost use lib.ListN.{length, getD, drop};
+ghost use Rattle.rules.specs.Pair.{isPair, receives};
+ghost use Rattle.rules.specs.Call.{granted};
+ghost use Rattle.rules.specs.CallStep.{before};
+ghost use Rattle.block.specs.Bytes.{two, readAll, allFrom, zeros, leading};
+ghost use Rattle.block.specs.Block.{marksIn, delegationIn, subjectsIn, countIn};
+ghost use Rattle.block.specs.WellFormed.{headFormed, recordFormed, rises, wellFormed};
+use crate::layout::BAR;
+use crate::layout::BLOCK_SIZE;
+use crate::layout::COUNT_AT;
+use crate::layout::FREE_AT;
+use crate::layout::GIVER;
+use crate::layout::MARK_SIZE;
+use crate::layout::MARKS_AT;
+use crate::layout::MOST_RECORDS;
+use crate::layout::MOST_SUBJECTS;
+use crate::layout::NEED;
+use crate::layout::RECEIVER;
+use crate::layout::RECORD_SIZE;
+use crate::layout::RECORDS_AT;
+use crate::layout::REST;
+use crate::layout::WEIGHT;
+
+// The two-byte number at `at`, low byte first.
+pub fn read_two(s: &[u8], at: usize) -> u16
+    requires { ⌜ at + 2 ≤ length (now s) ⌝ }
+    ensures { λ r. ⌜ r ≡ two (now (s .entry)) at ⌝ }
+{
+    (s[at] as u16) + (s[at + 1] as u16) * 256
+}
+
+// The bytes from `from` up to `to` are zero.
+pub fn zero_range(s: &[u8], from: usize, to: usize) -> bool
+    requires { ⌜ to ≤ length (now s) ⌝ }
+    ensures { λ r. ⌜ r ≡ zeros (now (s .entry)) from (to - from) ⌝ }
+{
+    let mut i = from;
+    while i < to {
+        if s[i] != 0 {
+            return false;
+        }
+        i += 1;
+    }
+    true
+}
+
+// How many subjects are enrolled.
+pub fn subjects(b: &[u8]) -> u8
+    requires { ⌜ 1 ≤ length (now b) ⌝ }
+    ensures { λ r. ⌜ r ≡ subjectsIn (now (b .entry)) ⌝ }
+{
+    b[0]
+}
+
+// How many delegations stand.
+pub fn count(b: &[u8]) -> usize
+    requires { ⌜ 4 ≤ length (now b) ⌝ }
+    ensures { λ r. ⌜ r ≡ countIn (now (b .entry)) ⌝ }
+{
+    read_two(b, COUNT_AT) as usize
+}
+
+// The marks of a subject.
+pub fn marks(b: &[u8], subject: usize) -> u16
+    requires { ⌜ 4 + 2 * subject + 2 ≤ length (now b) ⌝ }
+    ensures { λ r. ⌜ r ≡ marksIn (drop (2 * subject) (drop 4 (now (b .entry)))) ⌝ }
+{
+    read_two(b, MARKS_AT + MARK_SIZE * subject)
+}
+
+// The byte at `j` of record `k`.
+fn record_byte(b: &[u8], k: usize, j: usize) -> u8
+    requires { ⌜ (j + 1 ≤ 8) × (132 + 8 * k + 8 ≤ length (now b)) ⌝ }
+    ensures { λ r. ⌜ r ≡ getD (drop (8 * k) (drop 132 (now (b .entry)))) j 0 ⌝ }
+{
+    b[RECORDS_AT + RECORD_SIZE * k + j]
+}
+
+// The two-byte number at `j` of record `k`.
+fn record_two(b: &[u8], k: usize, j: usize) -> u16
+    requires { ⌜ (j + 2 ≤ 8) × (132 + 8 * k + 8 ≤ length (now b)) ⌝ }
+    ensures { λ r. ⌜ r ≡ two (drop (8 * k) (drop 132 (now (b .entry)))) j ⌝ }
+{
+    read_two(b, RECORDS_AT + RECORD_SIZE * k + j)
+}
+
+// The fields of record `k`.
+pub fn giver(b: &[u8], k: usize) -> u8
+    requires { ⌜ 132 + 8 * k + 8 ≤ length (now b) ⌝ }
+    ensures { λ r. ⌜ r ≡ (delegationIn (drop (8 * k) (drop 132 (now (b .entry))))) .giver ⌝ }
+{
+    record_byte(b, k, GIVER)
+}
+
+pub fn receiver(b: &[u8], k: usize) -> u8
+    requires { ⌜ 132 + 8 * k + 8 ≤ length (now b) ⌝ }
+    ensures { λ r. ⌜ r ≡ (delegationIn (drop (8 * k) (drop 132 (now (b .entry))))) .receiver ⌝ }
+{
+    record_byte(b, k, RECEIVER)
+}
+
+pub fn weight(b: &[u8], k: usize) -> u8
+    requires { ⌜ 132 + 8 * k + 8 ≤ length (now b) ⌝ }
+    ensures { λ r. ⌜ r ≡ (delegationIn (drop (8 * k) (drop 132 (now (b .entry))))) .weight ⌝ }
+{
+    record_byte(b, k, WEIGHT)
+}
+
+pub fn need(b: &[u8], k: usize) -> u16
+    requires { ⌜ 132 + 8 * k + 8 ≤ length (now b) ⌝ }
+    ensures { λ r. ⌜ r ≡ (delegationIn (drop (8 * k) (drop 132 (now (b .entry))))) .need ⌝ }
+{
+    record_two(b, k, NEED)
+}
+
+pub fn bar(b: &[u8], k: usize) -> u16
+    requires { ⌜ 132 + 8 * k + 8 ≤ length (now b) ⌝ }
+    ensures { λ r. ⌜ r ≡ (delegationIn (drop (8 * k) (drop 132 (now (b .entry))))) .bar ⌝ }
+{
+    record_two(b, k, BAR)
+}
+
+// The record at `at` is formed as one between enrolled subjects.
+pub fn record_formed(s: &[u8], at: usize, subjects: u8) -> bool
+    requires { ⌜ at + 8 ≤ length (now s) ⌝ }
+    ensures { λ r. ⌜ r ≡ recordFormed subjects (drop at (now (s .entry))) ⌝ }
+{
+    let giver = s[at + GIVER];
+    let receiver = s[at + RECEIVER];
+    let rest = s[at + REST];
+    if giver >= subjects {
+        return false;
+    }
+    if receiver >= subjects {
+        return false;
+    }
+    if giver == receiver {
+        return false;
+    }
+    if receiver == 0 {
+        return false;
+    }
+    if read_two(s, at + NEED) & read_two(s, at + BAR) != 0 {
+        return false;
+    }
+    rest == 0
+}
+
+// The first `count` records are each formed.
+pub fn records_formed(b: &[u8], count: usize, subjects: u8) -> bool
+    requires { ⌜ 132 + 8 * count ≤ length (now b) ⌝ }
+    ensures { λ r. ⌜ r ≡ allFrom (λ k. recordFormed subjects (drop (8 * k) (drop 132 (now (b .entry))))) 0 count ⌝ }
+{
+    let mut k: usize = 0;
+    while k < count {
+        if !record_formed(b, RECORDS_AT + RECORD_SIZE * k, subjects) {
+            return false;
+        }
+        k += 1;
+    }
+    true
+}
+
+// Record `k` is of this pair.
+fn is_pair(b: &[u8], k: usize, giver: u8, receiver: u8) -> bool
+    requires { ⌜ 132 + 8 * k + 8 ≤ length (now b) ⌝ }
+    ensures { λ r. ⌜ r ≡ isPair giver receiver (delegationIn (drop (8 * k) (drop 132 (now (b .entry))))) ⌝ }
+{
+    let g = self::giver(b, k);
+    let r = self::receiver(b, k);
+    g == giver && r == receiver
+}
+
+// This pair comes before record `k`: by giver, then receiver.
+fn is_before(b: &[u8], k: usize, giver: u8, receiver: u8) -> bool
+    requires { ⌜ 132 + 8 * k + 8 ≤ length (now b) ⌝ }
+    ensures { λ r. ⌜ r ≡ before (granted giver receiver 0 0 0) (delegationIn (drop (8 * k) (drop 132 (now (b .entry))))) ⌝ }
+{
+    let g = self::giver(b, k);
+    let r = self::receiver(b, k);
+    if giver < g {
+        return true;
+    }
+    giver == g && receiver < r
+}
+
+// The first `count` records rise strictly.
+pub fn records_rise(b: &[u8], count: usize) -> bool
+    requires { ⌜ 132 + 8 * count ≤ length (now b) ⌝ }
+    ensures { λ r. ⌜ r ≡ rises (readAll delegationIn 8 (drop 132 (now (b .entry))) count) ⌝ }
+{
+    let mut k: usize = 0;
+    while k + 1 < count {
+        if !is_before(b, k + 1, giver(b, k), receiver(b, k)) {
+            return false;
+        }
+        k += 1;
+    }
+    true
+}
+
+// The first four bytes are formed.
+fn head_formed(b: &[u8]) -> bool
+    requires { ⌜ 4 ≤ length (now b) ⌝ }
+    ensures { λ r. ⌜ r ≡ headFormed (now (b .entry)) ⌝ }
+{
+    let n = b[0];
+    let free = b[FREE_AT];
+    if n < 1 {
+        return false;
+    }
+    if n > MOST_SUBJECTS {
+        return false;
+    }
+    if free != 0 {
+        return false;
+    }
+    count(b) <= MOST_RECORDS
+}
+
+// Any bytes: they are a well-formed block.
+pub fn well_formed(b: &[u8]) -> bool
+    ensures { λ r. ⌜ r ≡ wellFormed (now (b .entry)) ⌝ }
+{
+    if b.len() != BLOCK_SIZE {
+        return false;
+    }
+    if !head_formed(b) {
+        return false;
+    }
+    let n = subjects(b);
+    let records = count(b);
+    if read_two(b, MARKS_AT) != 0 {
+        return false;
+    }
+    if !zero_range(b, MARKS_AT + MARK_SIZE * (n as usize), RECORDS_AT) {
+        return false;
+    }
+    if !records_formed(b, records, n) {
+        return false;
+    }
+    if !records_rise(b, records) {
+        return false;
+    }
+    zero_range(b, RECORDS_AT + RECORD_SIZE * records, BLOCK_SIZE)
+}
+
+// How many records stand before the first of this pair.
+pub fn find(b: &[u8], count: usize, giver: u8, receiver: u8) -> usize
+    requires { ⌜ 132 + 8 * count ≤ length (now b) ⌝ }
+    ensures { λ r. ⌜ r ≡ leading (λ d. not (isPair giver receiver d)) (readAll delegationIn 8 (drop 132 (now (b .entry))) count) ⌝ }
+{
+    let mut k: usize = 0;
+    while k < count {
+        if is_pair(b, k, giver, receiver) {
+            return k;
+        }
+        k += 1;
+    }
+    k
+}
+
+// How many records at the front this pair does not come before: its place.
+pub fn place(b: &[u8], count: usize, giver: u8, receiver: u8) -> usize
+    requires { ⌜ 132 + 8 * count ≤ length (now b) ⌝ }
+    ensures { λ r. ⌜ r ≡ leading (λ e. not (before (granted giver receiver 0 0 0) e)) (readAll delegationIn 8 (drop 132 (now (b .entry))) count) ⌝ }
+{
+    let mut k: usize = 0;
+    while k < count {
+        if is_before(b, k, giver, receiver) {
+            return k;
+        }
+        k += 1;
+    }
+    k
+}
+
+// How many records at the front have a smaller giver: where a giver's run starts.
+pub fn run_start(b: &[u8], count: usize, giver: u8) -> usize
+    requires { ⌜ 132 + 8 * count ≤ length (now b) ⌝ }
+    ensures { λ r. ⌜ r ≡ leading (λ d. ltb (d .giver) giver) (readAll delegationIn 8 (drop 132 (now (b .entry))) count) ⌝ }
+{
+    let mut k: usize = 0;
+    while k < count {
+        if self::giver(b, k) >= giver {
+            return k;
+        }
+        k += 1;
+    }
+    k
+}
+
+// Some record is to this receiver.
+pub fn receives(b: &[u8], count: usize, receiver: u8) -> bool
+    requires { ⌜ 132 + 8 * count ≤ length (now b) ⌝ }
+    ensures { λ r. ⌜ r ≡ receives receiver (readAll delegationIn 8 (drop 132 (now (b .entry))) count) ⌝ }
+{
+    let mut k: usize = 0;
+    while k < count {
+        if self::receiver(b, k) == receiver {
+            return true;
+        }
+        k += 1;
+    }
+    false
+}

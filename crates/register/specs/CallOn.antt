@@ -1,0 +1,48 @@
+-- The calls on bytes (document 01, 'Calls' and the two lists of refusals): for every block of any length and content, what is returned and what is left. Assumes nothing.
+use mathlib.Core.Bool.{Bool, true, false, cond, not}
+use mathlib.Core.List.{List, [], _∷_, _++_}
+use Prim.Native.Nat.{ℕ}
+use lib.Dec.{eqb}
+use lib.ListN.{length}
+use lib.IntN.{ℤ, pos}
+use Rattle.rules.specs.Call.{Call, fresh}
+use Rattle.rules.specs.Refusal.{firstOf, passed}
+use Rattle.rules.specs.CallStep.{Outcome, callStep}
+use Rattle.block.specs.Layout.{blockSize}
+use Rattle.block.specs.Block.{decode, encode}
+use Rattle.block.specs.WellFormed.{wellFormed}
+
+-- the refusal number, 0 when accepted; the three answers; the bytes afterwards
+pub record Result : Type 0 where
+  pub refusal : ℕ
+  pub first : ℤ
+  pub second : ℤ
+  pub third : ℤ
+  pub bytes : List ℕ
+
+-- 1: the block is not 2,180 bytes
+abbrev pub wrongLength : List ℕ → ℕ × Bool
+wrongLength b = (1, not (eqb (length b) blockSize))
+
+-- 8: the block is not well formed
+abbrev pub notWellFormed : List ℕ → ℕ × Bool
+notWellFormed b = (8, not (wellFormed b))
+
+-- what comes before the refusals by what the register holds: 1, those by what was passed, 8
+abbrev pub early : List ℕ → Call → List (ℕ × Bool)
+early b c = wrongLength b ∷ (passed c ++ (notWellFormed b ∷ []))
+
+-- a refused call answers 0 and changes no byte
+abbrev pub turned : ℕ → List ℕ → Result
+turned n b = record { refusal = n; first = pos 0; second = pos 0; third = pos 0; bytes = b }
+
+-- an outcome on the register that the block holds: an accepted call writes the register left
+abbrev pub written : List ℕ → Outcome → Result
+written b o = record { refusal = o .refusal; first = o .first; second = o .second; third = o .third; bytes = cond (eqb (o .refusal) 0) (encode (o .left)) b }
+
+unfoldable pub callOn : List ℤ → List ℕ → Call → Result
+callOn t b c = let n = firstOf (early b c) in elim (eqb n 0) [ true ↦ written b (callStep t (decode b) c) | false ↦ turned n b ]
+
+-- open overwrites any 2,180 bytes
+unfoldable pub openOn : List ℕ → Result
+openOn b = cond (eqb (length b) blockSize) record { refusal = 0; first = pos 0; second = pos 0; third = pos 0; bytes = encode fresh } (turned 1 b)

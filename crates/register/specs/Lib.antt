@@ -1,0 +1,2 @@
+pub mod CallOn
+pub mod Made
