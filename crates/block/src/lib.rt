@@ -1,6 +1,6 @@
 // The block of 2,180 bytes: its layout, its reads, its changes.
 mod change;
-mod layout;
+pub mod layout;
 mod read;
 mod write;
 

@@ -1,1 +1,3 @@
 pub mod Made
+pub mod Enrolling
+pub mod Using

@@ -10,16 +10,25 @@ use lib.Dec.{T, ltb, eqb, ltb→lt}
 use lib.ListN.{length}
 use lib.IntN.{ℤ, pos}
 use Rattle.rules.specs.Register.{Register}
-use Rattle.rules.specs.Call.{Call}
+use Rattle.rules.specs.Call.{Call, fresh}
 use Rattle.rules.specs.Refusal.{firstOf, passed, held, refusalOf}
 use Rattle.rules.specs.CallStep.{Outcome, accepted, refused, callStep}
 use Rattle.rules.proofs.Lists.{T-left, T-right}
 use Rattle.rules.proofs.Refusals.{numbered, passed-numbered}
 use Rattle.block.specs.Block.{decode, encode}
 use Rattle.block.specs.WellFormed.{wellFormed}
-use Rattle.register.specs.CallOn.{Result, early, turned, written, callOn}
-use Rattle.register.specs.Made.{result, Made}
+use Rattle.register.specs.CallOn.{Result, early, turned, written, callOn, openOn}
+use Rattle.register.specs.Made.{refusedBy, answeredBy, result, Made, MadeOpen}
 use Rattle.register.specs.declared.Answer.{Answer}
+
+-- a test that the code asks the other way round
+pub not-true : (x : Bool) → not x ≡ true → x ≡ false
+not-true true e = let z : _≡_ {A = ℕ} 0 1 = cc in absurd (omega arith)
+not-true false e = refl
+
+pub not-false : (x : Bool) → not x ≡ false → x ≡ true
+not-false true e = refl
+not-false false e = let z : _≡_ {A = ℕ} 0 1 = cc in absurd (omega arith)
 
 -- the first that applies of two lists one after the other
 firstOf-append : (ps qs : List (ℕ × Bool)) → T (numbered ps) → firstOf (ps ++ qs) ≡ cond (eqb (firstOf ps) 0) (firstOf qs) (firstOf ps)
@@ -39,10 +48,6 @@ firstOf-none ps qs h e = firstOf-append ps qs h ∙ rw (eq-eqb (firstOf ps) 0 e)
 
 pub firstOf-some : (ps qs : List (ℕ × Bool)) (n : ℕ) → T (numbered ps) → firstOf ps ≡ n → n ≢ 0 → firstOf (ps ++ qs) ≡ n
 firstOf-some ps qs n h e k = firstOf-append ps qs h ∙ rw (e, ne-eqb n 0 k)
-
--- what a refused call returns
-abbrev pub refusedBy : ℕ → Answer
-refusedBy n = record { refusal = n; first = pos 0; second = pos 0; third = pos 0 }
 
 module _ (t : List ℤ) (c : Call) (b : List ℕ) where
   made-early : (n : ℕ) → firstOf (early b c) ≡ n → n ≢ 0 → Made t c b (refusedBy n) b
@@ -92,15 +97,21 @@ module _ (t : List ℤ) (c : Call) (b : List ℕ) where
             go true q = let z : _≡_ {A = ℕ} 0 1 = cc in absurd (omega arith)
             go false q = ap (λ (m : ℕ). written b (refused m (decode b))) (refusal-held ∙ e) ∙ rw (ne-eqb n 0 k)
 
-        -- accepted: the answer and the bytes are those of the definitions
-        pub made-done : firstOf (held t (decode b) c) ≡ 0 → (o : Answer) (after : List ℕ) → o .refusal ≡ 0 → o .first ≡ accepted t (decode b) c .first → o .second ≡ accepted t (decode b) c .second
-            → o .third ≡ accepted t (decode b) c .third → accepted t (decode b) c .refusal ≡ 0 → after ≡ encode (accepted t (decode b) c .left) → Made t c b o after
+        -- accepted: the answers and the bytes are those of the definitions
+        pub made-done : firstOf (held t (decode b) c) ≡ 0 → (o : Answer) (after : List ℕ) → result o after ≡ written b (accepted t (decode b) c) → Made t c b o after
         unfolding callStep
-        made-done e o after r p q s z w = sym (late ∙ go (eqb (refusalOf t (decode b) c) 0) (eq-eqb (refusalOf t (decode b) c) 0 (refusal-held ∙ e)))
+        made-done e o after q = q ∙ sym (late ∙ go (eqb (refusalOf t (decode b) c) 0) (eq-eqb (refusalOf t (decode b) c) 0 (refusal-held ∙ e)))
           where
-            a : Outcome
-            a = accepted t (decode b) c
-
-            go : (x : Bool) → x ≡ true → let y : Outcome = elim x [ true ↦ accepted t (decode b) c | false ↦ refused (refusalOf t (decode b) c) (decode b) ] in written b y ≡ result o after
-            go true _ = rw (eq-eqb (accepted t (decode b) c .refusal) 0 z) (sym (λ j. record { refusal = (r ∙ sym z) j; first = p j; second = q j; third = s j; bytes = w j }))
+            go : (x : Bool) → x ≡ true → let y : Outcome = elim x [ true ↦ accepted t (decode b) c | false ↦ refused (refusalOf t (decode b) c) (decode b) ] in written b y ≡ written b (accepted t (decode b) c)
+            go true k = refl
             go false k = let n : _≡_ {A = ℕ} 0 1 = cc in absurd (omega arith)
+
+-- ── open ──
+module _ (b : List ℕ) where
+  pub open-refused : length b ≢ 2180 → MadeOpen b (refusedBy 1) b
+  unfolding openOn
+  open-refused h = rw (ne-eqb (length b) 2180 h)
+
+  pub open-done : length b ≡ 2180 → (after : List ℕ) → after ≡ encode fresh → MadeOpen b (answeredBy (pos 0) (pos 0) (pos 0)) after
+  unfolding openOn
+  open-done h after e = rw (eq-eqb (length b) 2180 h) (λ j. record { refusal = 0; first = pos 0; second = pos 0; third = pos 0; bytes = e j })

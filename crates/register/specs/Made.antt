@@ -2,10 +2,17 @@
 use mathlib.Core.Path.{_≡_}
 use mathlib.Core.List.{List}
 use Prim.Native.Nat.{ℕ}
-use lib.IntN.{ℤ}
+use lib.IntN.{ℤ, pos}
 use Rattle.rules.specs.Call.{Call}
 use Rattle.register.specs.CallOn.{Result, callOn, openOn}
 use Rattle.register.specs.declared.Answer.{Answer}
+
+-- what a refused call returns, and an accepted one
+abbrev pub refusedBy : ℕ → Answer
+refusedBy n = record { refusal = n; first = pos 0; second = pos 0; third = pos 0 }
+
+abbrev pub answeredBy : ℤ → ℤ → ℤ → Answer
+answeredBy a b c = record { refusal = 0; first = a; second = b; third = c }
 
 -- the answer of a library call and the bytes afterwards, as a result
 abbrev pub result : Answer → List ℕ → Result

@@ -3,6 +3,7 @@ ghost use lib.ListN.{length};
 ghost use Rattle.rules.specs.Table.{next, steps};
 ghost use Rattle.rules.specs.Condition.{meets};
 
+pub mod most;
 pub mod refusal;
 
 // How much a right falls at each step, indexed by weight: -1 after weight 0, 255 stays 255.

@@ -1,0 +1,105 @@
+-- `register::use_right` answers or refuses. Assumes nothing.
+use borrow.Author.Needs.{needs}
+use mathlib.Core.Path.{_≡_, refl, sym, ap, _∙_}
+use mathlib.Core.Bool.{true, false}
+use mathlib.Core.List.{List}
+use Prim.Native.Nat.{ℕ, _≤_, _<_}
+use native.Mathlib.Omega.{arith}
+use borrow.Author.Tests.{eq-eqb, ne-eqb}
+use mir.Syntax.{w32}
+use mir.Facts.{toZ-pos}
+use lib.Dec.{eqb}
+use Rattle.rules.specs.Table.{steps}
+use Rattle.rules.specs.Call.{enrol, askUse}
+use Rattle.block.proofs.Bytes.{fits-bytes}
+use Rattle.block.proofs.Held.{size-held, count-most}
+use Rattle.register.proofs.Made.{not-true, not-false}
+use Rattle.register.proofs.Made.{made-length, made-form}
+use Rattle.register.proofs.Using.{use-subject, use-through, use-enrolled, use-done}
+use Rattle.register.proofs.use_right.Statement.{statement}
+use Rattle.register.proofs.use_right.Tie as tie
+
+refused-requires : tie.Need-refused-requires
+refused-requires c κs = search needs
+
+returns : tie.Need-returns
+returns c = rw (c .refused .ensures) (made-length steps (askUse (c .before .before .before .args .receiver)) (c .before .before .before .args .block .now) (c .before .if1 .taken))
+
+refused-requires-2 : tie.Need-refused-requires-2
+refused-requires-2 c κs = search needs
+
+returns-2 : tie.Need-returns-2
+returns-2 c = rw (c .refused2 .ensures) (use-subject steps (c .before .before .before .before .args .receiver) (c .before .before .before .before .args .block .now) (c .before .before .if1 .left) (c .before .if2 .taken))
+
+well-formed-requires : tie.Need-well-formed-requires
+well-formed-requires c κs = search needs
+
+refused-requires-3 : tie.Need-refused-requires-3
+refused-requires-3 c κs = search needs
+
+returns-3 : tie.Need-returns-3
+returns-3 c = rw (c .refused3 .ensures) (made-form steps (askUse (c .before .before .before .before .before .before .args .receiver)) (c .before .before .before .before .before .before .args .block .now) (c .before .before .before .before .if1 .left) (use-through steps (c .before .before .before .before .before .before .args .receiver) (c .before .before .before .before .before .before .args .block .now) (c .before .before .before .before .if1 .left) (c .before .before .before .if2 .left)) (sym (c .before .before .well-formed .ensures) ∙ not-true _ (c .before .if3 .taken)))
+
+subjects-requires : tie.Need-subjects-requires
+subjects-requires c κs = search needs
+
+cast-if4 : tie.Need-cast-if4
+cast-if4 c = search needs
+
+refused-requires-4 : tie.Need-refused-requires-4
+refused-requires-4 c κs = search needs
+
+returns-4 : tie.Need-returns-4
+returns-4 c = rw (c .refused4 .ensures) (use-enrolled steps (c .before .before .before .before .before .before .before .before .args .receiver) (c .before .before .before .before .before .before .before .before .args .block .now) (c .before .before .before .before .before .before .if1 .left) (c .before .before .before .before .before .if2 .left) (fits-bytes (c .before .before .before .before .before .before .before .before .args .block .now) (c .before .before .before .before .before .before .before .shared-slice-known .given)) (sym (c .before .before .before .before .well-formed .ensures) ∙ not-false _ (c .before .before .before .if3 .left)) (rw (← c .before .before .subjects .ensures) (c .before .if4 .taken)))
+
+answered-requires : tie.Need-answered-requires
+answered-requires c κs = search needs
+
+returns-5 : tie.Need-returns-5
+returns-5 c = rw (c .answered .ensures) (use-done steps (c .before .before .before .before .before .before .before .before .before .args .receiver) (c .before .before .before .before .before .before .before .before .before .args .block .now) (c .before .before .before .before .before .before .before .if1 .left) (c .before .before .before .before .before .before .if2 .left) (fits-bytes (c .before .before .before .before .before .before .before .before .before .args .block .now) (c .before .before .before .before .before .before .before .before .shared-slice-known .given)) (sym (c .before .before .before .before .before .well-formed .ensures) ∙ not-false _ (c .before .before .before .before .if3 .left)) (rw (← c .before .before .before .subjects .ensures) (c .before .before .if4 .left)) true (rw (eq-eqb (c .before .before .before .before .before .before .before .before .before .args .receiver) 0 (c .before .if5 .taken))))
+
+count-requires : tie.Need-count-requires
+count-requires c κs = search needs
+
+cast-receives : tie.Need-cast-receives
+cast-receives c = search needs
+
+receives-requires : tie.Need-receives-requires
+receives-requires c κs = omega (arith, c .before .before .before .before .before .before .before .if1 .left, count-most (c .before .before .before .before .before .before .before .before .before .args .block .now) (fits-bytes (c .before .before .before .before .before .before .before .before .before .args .block .now) (c .before .before .before .before .before .before .before .before .shared-slice-known .given)) (sym (c .before .before .before .before .before .well-formed .ensures) ∙ not-false _ (c .before .before .before .before .if3 .left)), c .count .ensures)
+
+answered-requires-2 : tie.Need-answered-requires-2
+answered-requires-2 c κs = search needs
+
+returns-6 : tie.Need-returns-6
+returns-6 c = rw (c .answered2 .ensures) (use-done steps (c .before .before .before .before .before .before .before .before .before .before .before .before .args .receiver) (c .before .before .before .before .before .before .before .before .before .before .before .before .args .block .now) (c .before .before .before .before .before .before .before .before .before .before .if1 .left) (c .before .before .before .before .before .before .before .before .before .if2 .left) (fits-bytes (c .before .before .before .before .before .before .before .before .before .before .before .before .args .block .now) (c .before .before .before .before .before .before .before .before .before .before .before .shared-slice-known .given)) (sym (c .before .before .before .before .before .before .before .before .well-formed .ensures) ∙ not-false _ (c .before .before .before .before .before .before .before .if3 .left)) (rw (← c .before .before .before .before .before .before .subjects .ensures) (c .before .before .before .before .before .if4 .left)) true (rw (ne-eqb (c .before .before .before .before .before .before .before .before .before .before .before .before .args .receiver) 0 (c .before .before .before .before .if5 .left), ← c .before .before .before .count .ensures) (sym (c .before .if6 .taken) ∙ c .before .before .receives .ensures)))
+
+answered-requires-3 : tie.Need-answered-requires-3
+answered-requires-3 c κs = search needs
+
+returns-7 : tie.Need-returns-7
+returns-7 c = rw (c .answered3 .ensures) (use-done steps (c .before .before .before .before .before .before .before .before .before .before .before .before .args .receiver) (c .before .before .before .before .before .before .before .before .before .before .before .before .args .block .now) (c .before .before .before .before .before .before .before .before .before .before .if1 .left) (c .before .before .before .before .before .before .before .before .before .if2 .left) (fits-bytes (c .before .before .before .before .before .before .before .before .before .before .before .before .args .block .now) (c .before .before .before .before .before .before .before .before .before .before .before .shared-slice-known .given)) (sym (c .before .before .before .before .before .before .before .before .well-formed .ensures) ∙ not-false _ (c .before .before .before .before .before .before .before .if3 .left)) (rw (← c .before .before .before .before .before .before .subjects .ensures) (c .before .before .before .before .before .if4 .left)) false (rw (ne-eqb (c .before .before .before .before .before .before .before .before .before .before .before .before .args .receiver) 0 (c .before .before .before .before .if5 .left), ← c .before .before .before .count .ensures) (sym (c .before .if6 .left) ∙ c .before .before .receives .ensures)))
+
+pub use-right-spec : {M : Type 1} → statement M
+use-right-spec =
+    tie.close
+    (tie.spec
+    refused-requires
+    returns
+    refused-requires-2
+    returns-2
+    well-formed-requires
+    refused-requires-3
+    returns-3
+    subjects-requires
+    cast-if4
+    refused-requires-4
+    returns-4
+    answered-requires
+    returns-5
+    count-requires
+    cast-receives
+    receives-requires
+    answered-requires-2
+    returns-6
+    answered-requires-3
+    returns-7)

@@ -1,0 +1,6 @@
+// The largest numbers that a call may pass: their one home in the code.
+pub const SUBJECT: u32 = 63;
+
+pub const WEIGHT: u32 = 255;
+
+pub const MARKS: u32 = 65535;
