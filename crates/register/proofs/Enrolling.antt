@@ -1,8 +1,8 @@
 -- The ways of enrol. Assumes nothing.
-use mathlib.Core.Path.{_≡_, refl, sym, ap, subst, _∙_}
+use mathlib.Core.Path.{_≡_, sym}
 use mathlib.Core.Bool.{true}
 use mathlib.Core.List.{List}
-use Prim.Native.Nat.{ℕ, suc, _+_, _≤_, _<_}
+use Prim.Native.Nat.{ℕ, _≤_, _<_}
 use native.Mathlib.Omega.{arith}
 use borrow.Author.Tests.{lt-ltb, le-ltb, le-leb, lt-leb}
 use lib.ListN.{length}
@@ -14,9 +14,8 @@ use Rattle.block.specs.Bytes.{IsBytes}
 use Rattle.block.specs.Block.{subjectsIn, decode, encode}
 use Rattle.block.specs.WellFormed.{wellFormed}
 use Rattle.block.proofs.Held.{subjects-held}
-use Rattle.register.specs.CallOn.{written}
-use Rattle.register.specs.Made.{refusedBy, answeredBy, result, Made}
-use Rattle.register.proofs.Made.{made-passed, made-form, made-held, made-done}
+use Rattle.register.specs.Made.{refusedBy, answeredBy, Made}
+use Rattle.register.proofs.Made.{made-passed, made-held, made-done}
 
 module _ (t : List ℤ) (m : ℕ) (b : List ℕ) (size : length b ≡ 2180) where
   pub enrol-marks : 65535 < m → Made t (enrol m) b (refusedBy 4) b

@@ -1,3 +1,4 @@
 pub mod Made
 pub mod Enrolling
 pub mod Using
+pub mod History

@@ -1,8 +1,8 @@
 -- The ways of use. Assumes nothing.
-use mathlib.Core.Path.{_≡_, refl, sym, ap, subst, _∙_}
-use mathlib.Core.Bool.{Bool, true, false, cond, _||_}
+use mathlib.Core.Path.{_≡_, sym, ap, _∙_}
+use mathlib.Core.Bool.{Bool, true, cond, _||_}
 use mathlib.Core.List.{List}
-use Prim.Native.Nat.{ℕ, suc, _+_, _≤_, _<_}
+use Prim.Native.Nat.{ℕ, _≤_, _<_}
 use native.Mathlib.Omega.{arith}
 use borrow.Author.Tests.{lt-ltb, le-ltb, le-leb, lt-leb}
 use lib.Dec.{eqb}
@@ -13,12 +13,11 @@ use Rattle.rules.specs.Call.{askUse}
 use Rattle.rules.specs.Refusal.{firstOf, passed, held}
 use Rattle.rules.specs.CallStep.{accepted}
 use Rattle.block.specs.Bytes.{IsBytes, readAll}
-use Rattle.block.specs.Block.{delegationIn, subjectsIn, countIn, decode, encode}
+use Rattle.block.specs.Block.{delegationIn, subjectsIn, countIn, decode}
 use Rattle.block.specs.WellFormed.{wellFormed}
 use Rattle.block.proofs.Held.{held-written, subjects-held, delegations-held}
-use Rattle.register.specs.CallOn.{written}
-use Rattle.register.specs.Made.{refusedBy, answeredBy, result, Made}
-use Rattle.register.proofs.Made.{made-passed, made-form, made-held, made-done}
+use Rattle.register.specs.Made.{refusedBy, answeredBy, Made}
+use Rattle.register.proofs.Made.{made-passed, made-held, made-done}
 
 module _ (t : List ℤ) (r : ℕ) (b : List ℕ) (size : length b ≡ 2180) where
   pub use-subject : 63 < r → Made t (askUse r) b (refusedBy 2) b

@@ -1,2 +1,3 @@
 pub mod CallOn
 pub mod Made
+pub mod History

@@ -1,4 +1,6 @@
 // The public calls of the register, on plain numbers and a lent block of any length and content.
+mod passed;
+
 ghost use mathlib.Core.Path.{_≡_};
 ghost use lib.IntN.{pos};
 ghost use Rattle.rules.specs.Table.{steps};

@@ -1,5 +1,5 @@
 -- Every call leaves a well-formed register well formed and a supported one supported. Assumes nothing.
-use mathlib.Core.Path.{_≡_, refl, sym, subst, _∙_}
+use mathlib.Core.Path.{_≡_, refl, sym, ap, subst, _∙_}
 use mathlib.Core.Logic.{_≢_, _⊎_, inl, inr}
 use mathlib.Core.Bool.{Bool, true, false, not, cond, _||_}
 use mathlib.Core.List.{List, [], _∷_, _++_, List·Memᴰ·head, List·Memᴰ·tail, List·Memᴰ·not-nil}
@@ -195,6 +195,20 @@ module _ (t : List ℤ) (rule : TableRule t) where
   accepted-supported R (askUse r) p f s = s
 
 -- ── a call, refused or not ──
+cut-refusal : (t : List ℤ) (C : Register) → cut t C .refusal ≡ 0
+unfolding cut
+cut-refusal t C = refl
+
+-- an accepted call returns no refusal
+pub accepted-refusal : (t : List ℤ) (R : Register) (c : Call) → accepted t R c .refusal ≡ 0
+unfolding accepted
+accepted-refusal t R (enrol m) = refl
+accepted-refusal t R (grant g r w n b) = refl
+accepted-refusal t R (revoke y g r) = cut-refusal t (named R (removal g r))
+accepted-refusal t R (downgrade y g r w) = cut-refusal t (named R (lowering g r w))
+accepted-refusal t R (askReach g r) = refl
+accepted-refusal t R (askUse r) = refl
+
 -- what a call that is not refused does, where it passed every test; what a refused call does
 pub callStep-cases : (t : List ℤ) (R : Register) (c : Call) (P : Outcome → Type 0) → (refusalOf t R c ≡ 0 → Passes (passed c ++ held t R c) → P (accepted t R c))
     → (refusalOf t R c ≢ 0 → P (refused (refusalOf t R c) R)) → P (callStep t R c)
@@ -210,3 +224,6 @@ callStep-formed t R c f = callStep-cases t R c (λ (o : Outcome). WellFormed (o 
 
 pub callStep-supported : (t : List ℤ) → TableRule t → (R : Register) (c : Call) → WellFormed R → Supported t R → Supported t (callStep t R c .left)
 callStep-supported t rule R c f s = callStep-cases t R c (λ (o : Outcome). Supported t (o .left)) (λ z p. accepted-supported t rule R c p f s) (λ n. s)
+
+pub callStep-refused : (t : List ℤ) (R : Register) (c : Call) (n : ℕ) → refusalOf t R c ≡ n → n ≢ 0 → callStep t R c ≡ refused n R
+callStep-refused t R c n e k = callStep-cases t R c (λ (o : Outcome). o ≡ refused n R) (λ z p. absurd (k (sym e ∙ z))) (λ m. ap (λ (x : ℕ). refused x R) e)

@@ -1,18 +1,12 @@
 -- `register::enrol` enrols a subject or refuses. Assumes nothing.
 use borrow.Author.Needs.{needs}
-use mathlib.Core.Path.{_≡_, refl, sym, ap, _∙_}
-use mathlib.Core.Bool.{true, false}
-use mathlib.Core.List.{List}
-use Prim.Native.Nat.{ℕ, _≤_, _<_}
+use mathlib.Core.Path.{sym, _∙_}
 use native.Mathlib.Omega.{arith}
-use borrow.Author.Tests.{eq-eqb, ne-eqb}
 use mir.Syntax.{w32}
 use mir.Facts.{toZ-pos}
-use lib.Dec.{eqb}
 use Rattle.rules.specs.Table.{steps}
-use Rattle.rules.specs.Call.{enrol, askUse}
+use Rattle.rules.specs.Call.{enrol}
 use Rattle.block.proofs.Bytes.{fits-bytes}
-use Rattle.block.proofs.Held.{size-held, count-most}
 use Rattle.register.proofs.Made.{not-true, not-false}
 use Rattle.register.proofs.Made.{made-length, made-form}
 use Rattle.register.proofs.Enrolling.{enrol-marks, enrol-through, enrol-full, enrol-done}
@@ -41,7 +35,7 @@ same-length : tie.Need-same-length
 same-length c = search needs
 
 returns-3 : tie.Need-returns-3
-returns-3 c = rw (c .refused3 .ensures) (made-form steps (enrol (c .before .before .before .before .before .before .before .args .marks)) (c .before .before .before .before .before .before .before .args .block .now) (c .before .before .before .before .before .if1 .left) (enrol-through steps (c .before .before .before .before .before .before .before .args .marks) (c .before .before .before .before .before .before .before .args .block .now) (c .before .before .before .before .before .if1 .left) (c .before .before .before .before .if2 .left)) (sym (c .before .before .well-formed .ensures) ∙ not-true _ ( c .before .if3 .taken)))
+returns-3 c = rw (c .refused3 .ensures) (made-form steps (enrol (c .before .before .before .before .before .before .before .args .marks)) (c .before .before .before .before .before .before .before .args .block .now) (c .before .before .before .before .before .if1 .left) (enrol-through steps (c .before .before .before .before .before .before .before .args .marks) (c .before .before .before .before .before .before .before .args .block .now) (c .before .before .before .before .before .if1 .left) (c .before .before .before .before .if2 .left)) (sym (c .before .before .well-formed .ensures) ∙ not-true _ (c .before .if3 .taken)))
 
 subjects-requires : tie.Need-subjects-requires
 subjects-requires c κs = search needs
@@ -53,13 +47,13 @@ same-length-2 : tie.Need-same-length-2
 same-length-2 c = search needs
 
 returns-4 : tie.Need-returns-4
-returns-4 c = rw (c .refused4 .ensures) (enrol-full steps (c .before .before .before .before .before .before .before .before .before .before .args .marks) (c .before .before .before .before .before .before .before .before .before .before .args .block .now) (c .before .before .before .before .before .before .before .before .if1 .left) (c .before .before .before .before .before .before .before .if2 .left) (fits-bytes (c .before .before .before .before .before .before .before .before .before .before .args .block .now) (c .before .before .before .before .before .before .before .before .before .slice-known .given)) (sym (c .before .before .before .before .before .well-formed .ensures) ∙ not-false _ ( c .before .before .before .before .if3 .left)) (rw (← c .before .before .subjects .ensures) (c .before .if4 .taken)))
+returns-4 c = rw (c .refused4 .ensures) (enrol-full steps (c .before .before .before .before .before .before .before .before .before .before .args .marks) (c .before .before .before .before .before .before .before .before .before .before .args .block .now) (c .before .before .before .before .before .before .before .before .if1 .left) (c .before .before .before .before .before .before .before .if2 .left) (fits-bytes (c .before .before .before .before .before .before .before .before .before .before .args .block .now) (c .before .before .before .before .before .before .before .before .before .slice-known .given)) (sym (c .before .before .before .before .before .well-formed .ensures) ∙ not-false _ (c .before .before .before .before .if3 .left)) (rw (← c .before .before .subjects .ensures) (c .before .if4 .taken)))
 
 cast-add-subject : tie.Need-cast-add-subject
 cast-add-subject c = search needs
 
 add-subject-requires : tie.Need-add-subject-requires
-add-subject-requires c κs = ((sym (c .before .before .before .before .before .well-formed .ensures) ∙ not-false _ ( c .before .before .before .before .if3 .left)), rw (← c .before .before .subjects .ensures) (c .before .if4 .left))
+add-subject-requires c κs = ((sym (c .before .before .before .before .before .well-formed .ensures) ∙ not-false _ (c .before .before .before .before .if3 .left)), rw (← c .before .before .subjects .ensures) (c .before .if4 .left))
 
 cast-answered : tie.Need-cast-answered
 cast-answered c = search needs
@@ -71,7 +65,7 @@ same-length-3 : tie.Need-same-length-3
 same-length-3 c = search needs
 
 returns-5 : tie.Need-returns-5
-returns-5 c = rw (c .answered .ensures, toZ-pos w32 {n = c .before .before .before .before .before .before .subjects .result} (omega arith), c .before .before .before .before .before .before .subjects .ensures) (enrol-done steps (c .before .before .before .before .before .before .before .before .before .before .before .before .before .before .args .marks) (c .before .before .before .before .before .before .before .before .before .before .before .before .before .before .args .block .now) (c .before .before .before .before .before .before .before .before .before .before .before .before .if1 .left) (c .before .before .before .before .before .before .before .before .before .before .before .if2 .left) (fits-bytes (c .before .before .before .before .before .before .before .before .before .before .before .before .before .before .args .block .now) (c .before .before .before .before .before .before .before .before .before .before .before .before .before .slice-known .given)) (sym (c .before .before .before .before .before .before .before .before .before .well-formed .ensures) ∙ not-false _ ( c .before .before .before .before .before .before .before .before .if3 .left)) (rw (← c .before .before .before .before .before .before .subjects .ensures) (c .before .before .before .before .before .if4 .left)) (c .before .before .before .add-subject .last .0) (c .before .before .before .add-subject .ensures))
+returns-5 c = rw (c .answered .ensures, toZ-pos w32 {n = c .before .before .before .before .before .before .subjects .result} (omega arith), c .before .before .before .before .before .before .subjects .ensures) (enrol-done steps (c .before .before .before .before .before .before .before .before .before .before .before .before .before .before .args .marks) (c .before .before .before .before .before .before .before .before .before .before .before .before .before .before .args .block .now) (c .before .before .before .before .before .before .before .before .before .before .before .before .if1 .left) (c .before .before .before .before .before .before .before .before .before .before .before .if2 .left) (fits-bytes (c .before .before .before .before .before .before .before .before .before .before .before .before .before .before .args .block .now) (c .before .before .before .before .before .before .before .before .before .before .before .before .before .slice-known .given)) (sym (c .before .before .before .before .before .before .before .before .before .well-formed .ensures) ∙ not-false _ (c .before .before .before .before .before .before .before .before .if3 .left)) (rw (← c .before .before .before .before .before .before .subjects .ensures) (c .before .before .before .before .before .if4 .left)) (c .before .before .before .add-subject .last .0) (c .before .before .before .add-subject .ensures))
 
 pub enrol-spec : {M : Type 1} → statement M
 enrol-spec =

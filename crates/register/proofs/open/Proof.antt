@@ -1,19 +1,5 @@
 -- `register::open` writes a fresh register or refuses. Assumes nothing.
 use borrow.Author.Needs.{needs}
-use mathlib.Core.Path.{_≡_, refl, sym, ap, _∙_}
-use mathlib.Core.Bool.{true, false}
-use mathlib.Core.List.{List}
-use Prim.Native.Nat.{ℕ, _≤_, _<_}
-use native.Mathlib.Omega.{arith}
-use borrow.Author.Tests.{eq-eqb, ne-eqb}
-use mir.Syntax.{w32}
-use mir.Facts.{toZ-pos}
-use lib.Dec.{eqb}
-use Rattle.rules.specs.Table.{steps}
-use Rattle.rules.specs.Call.{enrol, askUse}
-use Rattle.block.proofs.Bytes.{fits-bytes}
-use Rattle.block.proofs.Held.{size-held, count-most}
-use Rattle.register.proofs.Made.{not-true, not-false}
 use Rattle.register.proofs.Made.{open-refused, open-done}
 use Rattle.register.proofs.open.Statement.{statement}
 use Rattle.register.proofs.open.Tie as tie

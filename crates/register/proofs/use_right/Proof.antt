@@ -1,18 +1,13 @@
 -- `register::use_right` answers or refuses. Assumes nothing.
 use borrow.Author.Needs.{needs}
-use mathlib.Core.Path.{_≡_, refl, sym, ap, _∙_}
+use mathlib.Core.Path.{sym, _∙_}
 use mathlib.Core.Bool.{true, false}
-use mathlib.Core.List.{List}
-use Prim.Native.Nat.{ℕ, _≤_, _<_}
 use native.Mathlib.Omega.{arith}
 use borrow.Author.Tests.{eq-eqb, ne-eqb}
-use mir.Syntax.{w32}
-use mir.Facts.{toZ-pos}
-use lib.Dec.{eqb}
 use Rattle.rules.specs.Table.{steps}
-use Rattle.rules.specs.Call.{enrol, askUse}
+use Rattle.rules.specs.Call.{askUse}
 use Rattle.block.proofs.Bytes.{fits-bytes}
-use Rattle.block.proofs.Held.{size-held, count-most}
+use Rattle.block.proofs.Held.{count-most}
 use Rattle.register.proofs.Made.{not-true, not-false}
 use Rattle.register.proofs.Made.{made-length, made-form}
 use Rattle.register.proofs.Using.{use-subject, use-through, use-enrolled, use-done}
