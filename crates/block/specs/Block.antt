@@ -4,7 +4,7 @@ use Prim.Native.Nat.{ℕ}
 use lib.ListN.{length, getD, drop}
 use Rattle.rules.specs.List.{concatMap}
 use Rattle.rules.specs.Register.{Delegation, Register}
-use Rattle.block.specs.Layout.{countAt, marksAt, recordsAt, markSize, recordSize}
+use Rattle.block.specs.Layout.{countAt, marksAt, recordsAt, markSize, recordSize, marksSize, recordsSize}
 use Rattle.block.specs.Bytes.{two, twoBytes, readAll, padded}
 
 -- the marks that begin a list of bytes
@@ -33,8 +33,8 @@ decode b = record {
   delegations = readAll delegationIn recordSize (drop recordsAt b) (countIn b);
 }
 
--- the block that holds a register: four bytes, 128 bytes of marks, 2,048 bytes of records
+-- the block that holds a register: four bytes, the marks, the records
 unfoldable pub encode : Register → List ℕ
 encode R =
     (R .subjects ∷ 0 ∷ twoBytes (length (R .delegations)))
-    ++ (padded 128 (concatMap twoBytes (R .marks)) ++ padded 2048 (concatMap recordBytes (R .delegations)))
+    ++ (padded marksSize (concatMap twoBytes (R .marks)) ++ padded recordsSize (concatMap recordBytes (R .delegations)))

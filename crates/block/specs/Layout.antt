@@ -20,3 +20,10 @@ markSize = 2
 
 abbrev pub recordSize : ℕ
 recordSize = 8
+
+-- the bytes of all marks, and of all records
+abbrev pub marksSize : ℕ
+marksSize = 128
+
+abbrev pub recordsSize : ℕ
+recordsSize = 2048

@@ -23,10 +23,11 @@ ownerUnmarked b = eqb (two b marksAt) 0
 abbrev pub restUnmarked : List ℕ → Bool
 restUnmarked b = let a = marksAt + markSize * subjectsIn b in zeros b a (recordsAt - a)
 
--- a record, of which the list holds the first bytes: both enrolled and different, the receiver is not 0, the fourth byte is zero, need and bar share no mark
+-- giver and receiver are enrolled and differ, the receiver is not 0, need and bar share no mark
 abbrev pub delegationFormed : ℕ → Delegation → Bool
 delegationFormed n d = ltb (d .giver) n && ltb (d .receiver) n && not (eqb (d .giver) (d .receiver)) && not (eqb (d .receiver) 0) && eqb (bitAnd (d .need) (d .bar)) 0
 
+-- the record that begins a list of bytes: its delegation is formed, and its fourth byte is zero
 unfoldable pub recordFormed : ℕ → List ℕ → Bool
 recordFormed n s = delegationFormed n (delegationIn s) && eqb (getD s 3 0) 0
 
