@@ -1,4 +1,6 @@
 pub mod Made
 pub mod Enrolling
 pub mod Using
+pub mod Searching
+pub mod Holding
 pub mod History

@@ -1,10 +1,12 @@
 // The public calls of the register, on plain numbers and a lent block of any length and content.
+mod held;
 mod passed;
+mod reaching;
 
 ghost use mathlib.Core.Path.{_≡_};
 ghost use lib.IntN.{pos};
 ghost use Rattle.rules.specs.Table.{steps};
-ghost use Rattle.rules.specs.Call.{enrol, askUse};
+ghost use Rattle.rules.specs.Call.{enrol, grant, askReach, askUse};
 ghost use Rattle.register.specs.Made.{refusedBy, answeredBy, Made, MadeOpen};
 use block::layout;
 use rules::most;
@@ -95,4 +97,62 @@ pub fn use_right(block: &[u8], receiver: u32) -> Answer
         return answered(1, 0, 0);
     }
     answered(0, 0, 0)
+}
+
+// Reach of a pair: -1 to 255, also for a standing pair.
+pub fn reach(block: &[u8], giver: u32, receiver: u32) -> Answer
+    ensures { λ r. ⌜ Made steps (askReach giver receiver) (now (block .entry)) r (now (block .entry)) ⌝ }
+{
+    if block.len() != layout::BLOCK_SIZE {
+        return refused(refusal::WRONG_LENGTH);
+    }
+    let n = passed::pair_passed(giver, receiver);
+    if n != 0 {
+        return refused(n);
+    }
+    if !block::well_formed(block) {
+        return refused(refusal::NOT_WELL_FORMED);
+    }
+    if !held::both_enrolled(block, giver, receiver) {
+        return refused(refusal::NOT_ENROLLED);
+    }
+    let k = reaching::reach_of(block, giver as usize, receiver as usize);
+    answered(k as i32, 0, 0)
+}
+
+// Adds a delegation; answers the delegations now standing.
+pub fn grant(
+    block: &mut [u8],
+    giver: u32,
+    receiver: u32,
+    weight: u32,
+    need: u32,
+    bar: u32,
+) -> Answer
+    ensures { λ r. ⌜ Made steps (grant giver receiver weight need bar) (now (block .entry)) r (now (block .exit)) ⌝ }
+{
+    if block.len() != layout::BLOCK_SIZE {
+        return refused(refusal::WRONG_LENGTH);
+    }
+    let n = passed::grant_passed(giver, receiver, weight, need, bar);
+    if n != 0 {
+        return refused(n);
+    }
+    if !block::well_formed(block) {
+        return refused(refusal::NOT_WELL_FORMED);
+    }
+    let m = held::grant_held(block, giver, receiver, weight, need, bar);
+    if m != 0 {
+        return refused(m);
+    }
+    let standing = block::count(block);
+    block::insert(
+        block,
+        giver as u8,
+        receiver as u8,
+        weight as u8,
+        need as u16,
+        bar as u16,
+    );
+    answered((standing + 1) as i32, 0, 0)
 }

@@ -30,7 +30,7 @@ unsnoc-linked [] d a u p = (sym (p .0), p .1)
 unsnoc-linked (x ∷ xs) d a u p = let (q, e) = unsnoc-linked xs d (x .receiver) u (p .1) in ((p .0, q), e)
 
 module _ (parent : ℕ → Delegation) where
-  linksTo-owner : (k u : ℕ) → u ≡ 0 → linksTo parent k u ≡ []
+  pub linksTo-owner : (k u : ℕ) → u ≡ 0 → linksTo parent k u ≡ []
   linksTo-owner zero u e = refl
   linksTo-owner (suc k) u e = go (eqb u 0) (eq→eqb e)
     where
@@ -38,7 +38,7 @@ module _ (parent : ℕ → Delegation) where
       go true h = refl
       go false h = absurd h
 
-  linksTo-step : (k u : ℕ) → u ≢ 0 → linksTo parent (suc k) u ≡ linksTo parent k (parent u .giver) ++ (parent u ∷ [])
+  pub linksTo-step : (k u : ℕ) → u ≢ 0 → linksTo parent (suc k) u ≡ linksTo parent k (parent u .giver) ++ (parent u ∷ [])
   linksTo-step k u n = go (eqb u 0) (not-T (eqb u 0) (λ q. n (eqb→eq u 0 q)))
     where
       go : (b : Bool) → T (not b) → let r : List Delegation = elim b [ true ↦ [] | false ↦ linksTo parent k (parent u .giver) ++ (parent u ∷ []) ] in r ≡ linksTo parent k (parent u .giver) ++ (parent u ∷ [])

@@ -21,7 +21,7 @@ abbrev pub numbered : List (ℕ × Bool) → Bool
 numbered [] = true
 numbered (p ∷ ps) = ltb 0 (p .0) && numbered ps
 
-firstOf-passes : (ps : List (ℕ × Bool)) → T (numbered ps) → firstOf ps ≡ 0 → Passes ps
+pub firstOf-passes : (ps : List (ℕ × Bool)) → T (numbered ps) → firstOf ps ≡ 0 → Passes ps
 firstOf-passes [] h e = tt
 firstOf-passes (p ∷ ps) h e = go (p .1) (firstOf-passes ps (T-right (ltb 0 (p .0)) (numbered ps) h)) e
   where

@@ -1,0 +1,126 @@
+-- Refusals by what the register holds, test by test as the code makes them; and the ways of reach and grant. Assumes nothing.
+use mathlib.Core.Path.{_≡_, refl, sym, ap, subst, _∙_}
+use mathlib.Core.Logic.{_⊎_, inl, inr}
+use mathlib.Core.Bool.{Bool, true, false, cond, not, _||_}
+use mathlib.Core.List.{List}
+use Prim.Native.Nat.{ℕ, suc, _+_, _≤_, _<_}
+use native.Mathlib.Omega.{arith}
+use borrow.Author.Tests.{leb-false, lt-ltb, le-ltb, le-leb, lt-leb}
+use lib.Bits.{bitAnd}
+use lib.Dec.{T, eqb, leb, ltb, leb→le, nleb→lt, nltb→le}
+use lib.ListN.{length}
+use lib.IntN.{ℤ, pos}
+use lib.Signed.{ltZ}
+use Rattle.rules.specs.Limit.{code}
+use Rattle.rules.specs.Register.{withDelegations}
+use Rattle.rules.specs.Reach.{reach}
+use Rattle.rules.specs.Support.{allowed}
+use Rattle.rules.specs.Pair.{stands}
+use Rattle.rules.specs.Call.{grant, askReach, granted}
+use Rattle.rules.specs.Refusal.{firstOf, passed, held}
+use Rattle.rules.specs.CallStep.{insert, accepted}
+use Rattle.rules.proofs.Lists.{either, not-or-left, not-or-right}
+use Rattle.rules.proofs.Refusals.{Passes, firstOf-passes, passed-numbered}
+use Rattle.rules.proofs.Pairs.{insert-length}
+use Rattle.block.specs.Bytes.{IsBytes}
+use Rattle.block.specs.Block.{subjectsIn, countIn, decode, encode}
+use Rattle.block.specs.WellFormed.{wellFormed}
+use Rattle.block.proofs.Held.{held-written, subjects-held, count-held}
+use Rattle.register.specs.Made.{refusedBy, answeredBy, Made}
+use Rattle.register.proofs.Made.{made-held, made-done}
+use Rattle.register.proofs.Searching.{below-weight}
+
+or-false : (x : Bool) → (x || false) ≡ x
+or-false true = refl
+or-false false = refl
+
+-- a strict order, tested the other way round
+pub ltb-leb : (m n : ℕ) → ltb m n ≡ not (leb n m)
+ltb-leb m n = go (either (leb n m))
+  where
+    go : T (leb n m) ⊎ T (not (leb n m)) → ltb m n ≡ not (leb n m)
+    go (inl q) = let h = leb→le n m q in rw (le-ltb m n h, le-leb n m h)
+    go (inr q) = let h = nleb→lt n m q in rw (lt-ltb m n h, lt-leb n m h)
+
+not-or : (x y : Bool) → not (x || y) ≡ true → (x ≡ false) × (y ≡ false)
+not-or true y e = let z : _≡_ {A = ℕ} 0 1 = cc in absurd (omega arith)
+not-or false true e = let z : _≡_ {A = ℕ} 0 1 = cc in absurd (omega arith)
+not-or false false e = (refl, refl)
+
+not-back : (x : Bool) → not x ≡ false → x ≡ true
+not-back true e = refl
+not-back false e = let z : _≡_ {A = ℕ} 0 1 = cc in absurd (omega arith)
+
+not-on : (x : Bool) → not x ≡ true → x ≡ false
+not-on true e = let z : _≡_ {A = ℕ} 0 1 = cc in absurd (omega arith)
+not-on false e = refl
+
+-- both are enrolled
+pub both-in : (s g r : ℕ) → not (leb s g || leb s r) ≡ true → (g < s) × (r < s)
+both-in s g r e = let (p, q) = not-or (leb s g) (leb s r) e in (leb-false s g p, leb-false s r q)
+
+module _ (t : List ℤ) (b : List ℕ) (bytes : IsBytes b) (formed : wellFormed b ≡ true) (g r : ℕ) where
+  -- the test of 9, as the code makes it
+  enrolled-test : (leb (decode b .subjects) g || (leb (decode b .subjects) r || false)) ≡ (leb (subjectsIn b) g || leb (subjectsIn b) r)
+  enrolled-test = ap (λ (s : ℕ). leb s g || (leb s r || false)) (subjects-held b bytes formed) ∙ ap (λ (y : Bool). leb (subjectsIn b) g || y) (or-false (leb (subjectsIn b) r))
+
+  -- ── reach ──
+  module _ (size : length b ≡ 2180) (through : firstOf (passed (askReach g r)) ≡ 0) where
+    pub reach-unenrolled : not (leb (subjectsIn b) g || leb (subjectsIn b) r) ≡ false → Made t (askReach g r) b (refusedBy 9) b
+    unfolding held
+    reach-unenrolled e = made-held t (askReach g r) b size through formed 9 (ap (λ (x : Bool). cond x 9 0) (enrolled-test ∙ not-back (leb (subjectsIn b) g || leb (subjectsIn b) r) e)) (λ q. omega arith)
+
+    pub reach-done : not (leb (subjectsIn b) g || leb (subjectsIn b) r) ≡ true → (k : ℤ) → k ≡ reach t (decode b) g r → Made t (askReach g r) b (answeredBy k (pos 0) (pos 0)) b
+    unfolding held accepted
+    reach-done e k q =
+        made-done t (askReach g r) b size through formed (ap (λ (x : Bool). cond x 9 0) (enrolled-test ∙ not-on (leb (subjectsIn b) g || leb (subjectsIn b) r) e)) (answeredBy k (pos 0) (pos 0)) b
+        (λ j. record { refusal = 0; first = q j; second = pos 0; third = pos 0; bytes = held-written b bytes formed j })
+
+  -- ── grant ──
+  module _ (w n m : ℕ) where
+    heavy-test : (ltb (code (allowed t (decode b) (granted g r w n m))) (suc w) || false) ≡ ltZ (reach t (decode b) g r) (pos w)
+    unfolding allowed
+    heavy-test = or-false (ltb (code (reach t (decode b) g r)) (suc w)) ∙ sym (below-weight (reach t (decode b) g r) w)
+
+    -- the four tests one after another
+    pub grant-first : (x1 x2 x3 x4 : Bool) → (leb (subjectsIn b) g || leb (subjectsIn b) r) ≡ x1 → stands (decode b) g r ≡ x2 → leb 256 (countIn b) ≡ x3 → ltZ (reach t (decode b) g r) (pos w) ≡ x4
+        → firstOf (held t (decode b) (grant g r w n m)) ≡ cond x1 9 (cond x2 11 (cond x3 12 (cond x4 16 0)))
+    unfolding held
+    grant-first x1 x2 x3 x4 e1 e2 e3 e4 =
+        let p1 = enrolled-test ∙ e1 in
+        let p3 = ap (leb 256) (count-held b bytes formed) ∙ e3 in
+        let p4 = heavy-test ∙ e4 in
+        λ j. cond (p1 j) 9 (cond (e2 j) 11 (cond (p3 j) 12 (cond (p4 j) 16 0)))
+
+    pub grant-done : (size : length b ≡ 2180) → firstOf (passed (grant g r w n m)) ≡ 0 → firstOf (held t (decode b) (grant g r w n m)) ≡ 0 → (after : List ℕ)
+        → after ≡ encode (withDelegations (decode b) (insert (granted g r w n m) (decode b .delegations))) → Made t (grant g r w n m) b (answeredBy (pos (countIn b + 1)) (pos 0) (pos 0)) after
+    unfolding accepted
+    grant-done size through light after e =
+        made-done t (grant g r w n m) b size through formed light (answeredBy (pos (countIn b + 1)) (pos 0) (pos 0)) after
+        (λ j. record { refusal = 0; first = pos (c j); second = pos 0; third = pos 0; bytes = e j })
+      where
+        c : countIn b + 1 ≡ length (insert (granted g r w n m) (decode b .delegations))
+        c = omega (arith, insert-length (granted g r w n m) (decode b .delegations), count-held b bytes formed)
+
+-- ── what a grant that passed may rely on ──
+module _ (g r w n m : ℕ) (e : firstOf (passed (grant g r w n m)) ≡ 0) where
+  grant-passes : Passes (passed (grant g r w n m))
+  grant-passes = firstOf-passes (passed (grant g r w n m)) (passed-numbered (grant g r w n m)) e
+
+  pub grant-through : (g ≤ 63) × (r ≤ 63) × (w ≤ 255) × (n ≤ 65535) × (m ≤ 65535)
+  unfolding passed
+  grant-through =
+      let p = grant-passes in
+      let masks = not-or-left (ltb 65535 n || ltb 65535 m) (not (eqb (bitAnd n m) 0)) (p .1 .1 .0) in (
+        nltb→le 63 g (not-or-left (ltb 63 g) (ltb 63 r || false) (p .0)),
+        nltb→le 63 r (not-or-left (ltb 63 r) false (not-or-right (ltb 63 g) (ltb 63 r || false) (p .0))),
+        nltb→le 255 w (p .1 .0),
+        nltb→le 65535 n (not-or-left (ltb 65535 n) (ltb 65535 m) masks),
+        nltb→le 65535 m (not-or-right (ltb 65535 n) (ltb 65535 m) masks),
+      )
+
+pub grant-room : (t : List ℤ) (b : List ℕ) (bytes : IsBytes b) (formed : wellFormed b ≡ true) (g r w n m : ℕ) → firstOf (held t (decode b) (grant g r w n m)) ≡ 0 → countIn b < 256
+unfolding held
+grant-room t b bytes formed g r w n m e =
+    let p = firstOf-passes (held t (decode b) (grant g r w n m)) tt e in
+    subst (λ (k : ℕ). k < 256) (count-held b bytes formed) (nleb→lt 256 (length (decode b .delegations)) (p .1 .1 .0))

@@ -1,0 +1,132 @@
+-- The search on the block: what is lent to it, and that what it finds are the reaches of the register that the block holds. Assumes nothing.
+use mathlib.Core.Path.{_≡_, refl, sym, ap, subst, _∙_}
+use mathlib.Core.Logic.{_⊎_, inl, inr}
+use mathlib.Core.Bool.{true}
+use mathlib.Core.List.{List, _∷_}
+use Prim.Native.Nat.{ℕ, zero, suc, _+_, _*_, _/_, _≤_, _<_}
+use native.Mathlib.Nat.{zero-add, add-zero, add-suc, suc-add, mul-div-right}
+use native.Mathlib.Omega.{arith}
+use borrow.Author.Tests.{lt-ltb}
+use lib.Dec.{leb·suc-suc, ltb}
+use lib.ListN.{length, getD, drop, length-take, length-drop}
+use lib.Seq.{getD-take, getD-drop}
+use lib.IntN.{ℤ, pos, negsuc}
+use lib.Signed.{ltZ}
+use Rattle.rules.specs.List.{_∈_, tabulate}
+use Rattle.rules.specs.Limit.{none, code}
+use Rattle.rules.specs.Table.{TableRule}
+use Rattle.rules.specs.Register.{Delegation, Register, marksOf}
+use Rattle.rules.specs.Chain.{limit, IsChain}
+use Rattle.rules.specs.Reach.{chains, reach}
+use Rattle.rules.specs.Links.{linksTo}
+use Rattle.rules.specs.WellFormed.{Rising}
+use Rattle.rules.proofs.Lists.{getD-tabulate}
+use Rattle.block.specs.Bytes.{IsBytes}
+use Rattle.block.specs.Block.{marksIn, delegationIn, subjectsIn, countIn, decode}
+use Rattle.block.specs.WellFormed.{wellFormed}
+use Rattle.block.proofs.Held.{held-formed, size-held, count-most, delegations-held}
+use Rattle.search.specs.Search.{delegationsOf, underMarks, Lent, parentIn}
+use Rattle.search.specs.Found.{delegationsIn, Searched}
+use Rattle.register.specs.ChainOn.{recordsIn}
+
+tabulate-below : {A : Type 0} (f g : ℕ → A) (i n : ℕ) → ((k : ℕ) → k < n → f (i + k) ≡ g (i + k)) → tabulate f i n ≡ tabulate g i n
+tabulate-below f g i zero h = refl
+tabulate-below f g i (suc n) h =
+    let e = subst (λ (m : ℕ). f m ≡ g m) (add-zero i) (h 0 (omega arith)) in
+    let r = tabulate-below f g (suc i) n (λ k l. subst (λ (m : ℕ). f m ≡ g m) (add-suc i k ∙ sym (suc-add i k)) (h (suc k) (omega arith))) in
+    λ j. e j ∷ r j
+
+-- reach looks at the delegations and at the receiver's marks alone
+pub reach-marks : (t : List ℤ) (R : Register) (u v : ℕ) → reach t R u v ≡ reach t (underMarks (R .delegations) (marksOf R v)) u 0
+unfolding chains reach
+reach-marks t R u v = refl
+
+-- and so do chains
+pub chain-marks : (t : List ℤ) (R : Register) (u v : ℕ) (ds : List Delegation) → IsChain t (underMarks (R .delegations) (marksOf R v)) u 0 ds → IsChain t R u v ds
+chain-marks t R u v ds c = record { standing = c .standing; linked = c .linked; distinct = c .distinct; met = c .met; live = c .live }
+
+module _ (b : List ℕ) (bytes : IsBytes b) (formed : wellFormed b ≡ true) where
+  pub length-records : length (recordsIn b) ≡ 8 * countIn b
+  length-records = length-take (8 * countIn b) (drop 132 b) ∙ omega (arith, length-drop 132 b, size-held b bytes formed, count-most b bytes formed)
+
+  pub records-count : length (recordsIn b) / 8 ≡ countIn b
+  records-count = ap (λ (n : ℕ). n / 8) length-records ∙ mul-div-right (countIn b) (omega arith)
+
+  field : (k j : ℕ) → k < countIn b → j < 8 → getD (drop (8 * k) (recordsIn b)) j 0 ≡ getD (drop (8 * k) (drop 132 b)) j 0
+  field k j l m = getD-drop (8 * k) (recordsIn b) j 0 ∙ getD-take (8 * countIn b) (drop 132 b) (8 * k + j) 0 (omega arith) ∙ sym (getD-drop (8 * k) (drop 132 b) j 0)
+
+  same-record : (k : ℕ) → k < countIn b → delegationIn (drop (8 * k) (recordsIn b)) ≡ delegationIn (drop (8 * k) (drop 132 b))
+  same-record k l = λ i. record {
+    giver = field k 0 l (omega arith) i;
+    receiver = field k 1 l (omega arith) i;
+    weight = field k 2 l (omega arith) i;
+    need = field k 4 l (omega arith) i + field k 5 l (omega arith) i * 256;
+    bar = field k 6 l (omega arith) i + field k 7 l (omega arith) i * 256;
+  }
+
+  -- the records lent are the register's delegations
+  pub records-held : delegationsIn (recordsIn b) ≡ decode b .delegations
+  records-held =
+      ap (delegationsOf (recordsIn b)) records-count
+      ∙ tabulate-below (λ k. delegationIn (drop (8 * k) (recordsIn b))) (λ k. delegationIn (drop (8 * k) (drop 132 b))) 0 (countIn b)
+      (λ k l. subst (λ (m : ℕ). delegationIn (drop (8 * m) (recordsIn b)) ≡ delegationIn (drop (8 * m) (drop 132 b))) (sym (zero-add k)) (same-record k l))
+      ∙ sym (delegations-held b bytes formed)
+
+  pub lent-held : (t : List ℤ) → TableRule t → Lent t (recordsIn b) (length (recordsIn b) / 8)
+  lent-held t rule =
+      let f = held-formed b bytes formed in
+      let e : delegationsOf (recordsIn b) (length (recordsIn b) / 8) ≡ decode b .delegations = records-held in
+      record {
+        rule = rule;
+        size = length-records ∙ ap (λ (n : ℕ). 8 * n) (sym records-count);
+        few = subst (λ (n : ℕ). n ≤ 256) (sym records-count) (count-most b bytes formed);
+        rising = subst Rising (sym e) (f .rising);
+        givers = λ d m. let k = f .each d (subst (λ (ds : List Delegation). d ∈ ds) e m) .giver in omega (arith, f .most);
+        receivers = λ d m. let k = f .each d (subst (λ (ds : List Delegation). d ∈ ds) e m) .receiver in omega (arith, f .most);
+      }
+
+  pub marks-held : (v : ℕ) → v < subjectsIn b → marksIn (drop (2 * v) (drop 4 b)) ≡ marksOf (decode b) v
+  unfolding decode
+  marks-held v l = sym (getD-tabulate (λ k. marksIn (drop (2 * k) (drop 4 b))) 0 0 (subjectsIn b) v l ∙ ap (λ (k : ℕ). marksIn (drop (2 * k) (drop 4 b))) (zero-add v))
+
+  -- the limits found are the reaches
+  module _ (t : List ℤ) (v : ℕ) (l : List ℤ) (p : List ℕ) (s : Searched t (recordsIn b) (marksOf (decode b) v) l p) where
+    pub reach-found : (u : ℕ) → u < 64 → getD l u (pos 0) ≡ reach t (decode b) u v
+    reach-found u h =
+        ap (λ (x : List ℤ). getD x u (pos 0)) (s .limits)
+        ∙ getD-tabulate (λ x. reach t (underMarks (delegationsIn (recordsIn b)) (marksOf (decode b) v)) x 0) (pos 0) 0 64 u h
+        ∙ ap (λ (x : ℕ). reach t (underMarks (delegationsIn (recordsIn b)) (marksOf (decode b) v)) x 0) (zero-add u)
+        ∙ ap (λ (ds : List Delegation). reach t (underMarks ds (marksOf (decode b) v)) u 0) records-held
+        ∙ sym (reach-marks t (decode b) u v)
+
+    -- the parents lead back along a chain that carries the reach, where there is one
+    pub chain-found : (u : ℕ) → u < 64 → (reach t (decode b) u v ≡ none)
+        ⊎ (IsChain t (decode b) u v (linksTo (parentIn (delegationsIn (recordsIn b)) p) 63 u) × (reach t (decode b) u v ≡ limit t (linksTo (parentIn (delegationsIn (recordsIn b)) p) 63 u)))
+    chain-found u h = go (s .leads u h)
+      where
+        ds : List Delegation
+        ds = delegationsIn (recordsIn b)
+
+        m : ℕ
+        m = marksOf (decode b) v
+
+        same : reach t (underMarks (delegationsIn (recordsIn b)) (marksOf (decode b) v)) u 0 ≡ reach t (decode b) u v
+        same = ap (λ (x : List Delegation). reach t (underMarks x (marksOf (decode b) v)) u 0) records-held ∙ sym (reach-marks t (decode b) u v)
+
+        go : (reach t (underMarks (delegationsIn (recordsIn b)) (marksOf (decode b) v)) u 0 ≡ none)
+            ⊎ (IsChain t (underMarks (delegationsIn (recordsIn b)) (marksOf (decode b) v)) u 0 (linksTo (parentIn (delegationsIn (recordsIn b)) p) 63 u)
+            × (reach t (underMarks (delegationsIn (recordsIn b)) (marksOf (decode b) v)) u 0 ≡ limit t (linksTo (parentIn (delegationsIn (recordsIn b)) p) 63 u)))
+            → (reach t (decode b) u v ≡ none)
+            ⊎ (IsChain t (decode b) u v (linksTo (parentIn (delegationsIn (recordsIn b)) p) 63 u) × (reach t (decode b) u v ≡ limit t (linksTo (parentIn (delegationsIn (recordsIn b)) p) 63 u)))
+        go (inl e) = inl (sym same ∙ e)
+        go (inr r) =
+            inr (
+              chain-marks t (decode b) u v (linksTo (parentIn (delegationsIn (recordsIn b)) p) 63 u)
+                  (subst (λ (x : List Delegation). IsChain t (underMarks x (marksOf (decode b) v)) u 0 (linksTo (parentIn (delegationsIn (recordsIn b)) p) 63 u)) records-held (r .0)),
+              sym same ∙ r .1,
+            )
+
+-- the test of a limit against a weight, as the code and as the definition make it
+pub below-weight : (z : ℤ) (w : ℕ) → ltZ z (pos w) ≡ ltb (code z) (suc w)
+below-weight (pos n) w = sym (leb·suc-suc (suc n) w)
+below-weight (negsuc n) w = sym (lt-ltb 0 (suc w) (omega arith))

@@ -1,0 +1,119 @@
+-- `register::grant` adds a delegation or refuses. Assumes nothing.
+use borrow.Author.Needs.{needs}
+use mathlib.Core.Path.{sym, _∙_}
+use Prim.Native.Nat.{_+_}
+use native.Mathlib.Omega.{arith}
+use mir.Syntax.{w32}
+use mir.Facts.{toZ-pos}
+use Rattle.rules.specs.Table.{steps}
+use Rattle.rules.specs.Call.{grant}
+use Rattle.block.proofs.Bytes.{fits-bytes}
+use Rattle.register.proofs.Made.{not-true, not-false, made-length, made-passed, made-form, made-held}
+use Rattle.register.proofs.Holding.{grant-done, grant-through, grant-room}
+use Rattle.register.proofs.grant.Statement.{statement}
+use Rattle.register.proofs.grant.Tie as tie
+
+refused-requires : tie.Need-refused-requires
+refused-requires c κs = search needs
+
+returns : tie.Need-returns
+returns c = rw (c .refused .ensures) (made-length steps (grant (c .before .before .before .args .giver) (c .before .before .before .args .receiver) (c .before .before .before .args .weight) (c .before .before .before .args .need) (c .before .before .before .args .bar)) (c .before .before .before .args .block .now) (c .before .if1 .taken))
+
+grant-passed-requires : tie.Need-grant-passed-requires
+grant-passed-requires c κs = search needs
+
+refused-requires-2 : tie.Need-refused-requires-2
+refused-requires-2 c κs = search needs
+
+returns-2 : tie.Need-returns-2
+returns-2 c = rw (c .refused2 .ensures) (made-passed steps (grant (c .before .before .before .before .before .args .giver) (c .before .before .before .before .before .args .receiver) (c .before .before .before .before .before .args .weight) (c .before .before .before .before .before .args .need) (c .before .before .before .before .before .args .bar)) (c .before .before .before .before .before .args .block .now) (c .before .before .before .if1 .left) (c .before .before .grant-passed .result) (sym (c .before .before .grant-passed .ensures)) (c .before .if2 .taken))
+
+well-formed-requires : tie.Need-well-formed-requires
+well-formed-requires c κs = search needs
+
+refused-requires-3 : tie.Need-refused-requires-3
+refused-requires-3 c κs = search needs
+
+same-length : tie.Need-same-length
+same-length c = search needs
+
+returns-3 : tie.Need-returns-3
+returns-3 c = rw (c .refused3 .ensures) (made-form steps (grant (c .before .before .before .before .before .before .before .before .args .giver) (c .before .before .before .before .before .before .before .before .args .receiver) (c .before .before .before .before .before .before .before .before .args .weight) (c .before .before .before .before .before .before .before .before .args .need) (c .before .before .before .before .before .before .before .before .args .bar)) (c .before .before .before .before .before .before .before .before .args .block .now) (c .before .before .before .before .before .before .if1 .left) (sym (c .before .before .before .before .before .grant-passed .ensures) ∙ c .before .before .before .before .if2 .left) (sym (c .before .before .well-formed .ensures) ∙ not-true _ (c .before .if3 .taken)))
+
+grant-held-requires : tie.Need-grant-held-requires
+grant-held-requires c κs = let (a, b, w, x, y) = grant-through (c .before .before .before .before .before .before .before .before .args .giver) (c .before .before .before .before .before .before .before .before .args .receiver) (c .before .before .before .before .before .before .before .before .args .weight) (c .before .before .before .before .before .before .before .before .args .need) (c .before .before .before .before .before .before .before .before .args .bar) (sym (c .before .before .before .before .before .grant-passed .ensures) ∙ c .before .before .before .before .if2 .left) in ((sym (c .before .before .well-formed .ensures) ∙ not-false _ (c .before .if3 .left)), a, b, w)
+
+refused-requires-4 : tie.Need-refused-requires-4
+refused-requires-4 c κs = search needs
+
+same-length-2 : tie.Need-same-length-2
+same-length-2 c = search needs
+
+returns-4 : tie.Need-returns-4
+returns-4 c = rw (c .refused4 .ensures) (made-held steps (grant (c .before .before .before .before .before .before .before .before .before .before .before .args .giver) (c .before .before .before .before .before .before .before .before .before .before .before .args .receiver) (c .before .before .before .before .before .before .before .before .before .before .before .args .weight) (c .before .before .before .before .before .before .before .before .before .before .before .args .need) (c .before .before .before .before .before .before .before .before .before .before .before .args .bar)) (c .before .before .before .before .before .before .before .before .before .before .before .args .block .now) (c .before .before .before .before .before .before .before .before .before .if1 .left) (sym (c .before .before .before .before .before .before .before .before .grant-passed .ensures) ∙ c .before .before .before .before .before .before .before .if2 .left) (sym (c .before .before .before .before .before .well-formed .ensures) ∙ not-false _ (c .before .before .before .before .if3 .left)) (c .before .before .grant-held .result) (sym (c .before .before .grant-held .ensures)) (c .before .if4 .taken))
+
+count-requires : tie.Need-count-requires
+count-requires c κs = search needs
+
+cast-insert : tie.Need-cast-insert
+cast-insert c = let (a, b, w, x, y) = grant-through (c .before .before .before .before .before .before .before .before .before .before .before .before .before .args .giver) (c .before .before .before .before .before .before .before .before .before .before .before .before .before .args .receiver) (c .before .before .before .before .before .before .before .before .before .before .before .before .before .args .weight) (c .before .before .before .before .before .before .before .before .before .before .before .before .before .args .need) (c .before .before .before .before .before .before .before .before .before .before .before .before .before .args .bar) (sym (c .before .before .before .before .before .before .before .before .before .before .grant-passed .ensures) ∙ c .before .before .before .before .before .before .before .before .before .if2 .left) in omega arith
+
+cast-insert-2 : tie.Need-cast-insert-2
+cast-insert-2 c = let (a, b, w, x, y) = grant-through (c .before .before .before .before .before .before .before .before .before .before .before .before .before .args .giver) (c .before .before .before .before .before .before .before .before .before .before .before .before .before .args .receiver) (c .before .before .before .before .before .before .before .before .before .before .before .before .before .args .weight) (c .before .before .before .before .before .before .before .before .before .before .before .before .before .args .need) (c .before .before .before .before .before .before .before .before .before .before .before .before .before .args .bar) (sym (c .before .before .before .before .before .before .before .before .before .before .grant-passed .ensures) ∙ c .before .before .before .before .before .before .before .before .before .if2 .left) in omega arith
+
+cast-insert-3 : tie.Need-cast-insert-3
+cast-insert-3 c = let (a, b, w, x, y) = grant-through (c .before .before .before .before .before .before .before .before .before .before .before .before .before .args .giver) (c .before .before .before .before .before .before .before .before .before .before .before .before .before .args .receiver) (c .before .before .before .before .before .before .before .before .before .before .before .before .before .args .weight) (c .before .before .before .before .before .before .before .before .before .before .before .before .before .args .need) (c .before .before .before .before .before .before .before .before .before .before .before .before .before .args .bar) (sym (c .before .before .before .before .before .before .before .before .before .before .grant-passed .ensures) ∙ c .before .before .before .before .before .before .before .before .before .if2 .left) in omega arith
+
+cast-insert-4 : tie.Need-cast-insert-4
+cast-insert-4 c = let (a, b, w, x, y) = grant-through (c .before .before .before .before .before .before .before .before .before .before .before .before .before .args .giver) (c .before .before .before .before .before .before .before .before .before .before .before .before .before .args .receiver) (c .before .before .before .before .before .before .before .before .before .before .before .before .before .args .weight) (c .before .before .before .before .before .before .before .before .before .before .before .before .before .args .need) (c .before .before .before .before .before .before .before .before .before .before .before .before .before .args .bar) (sym (c .before .before .before .before .before .before .before .before .before .before .grant-passed .ensures) ∙ c .before .before .before .before .before .before .before .before .before .if2 .left) in omega arith
+
+cast-insert-5 : tie.Need-cast-insert-5
+cast-insert-5 c = let (a, b, w, x, y) = grant-through (c .before .before .before .before .before .before .before .before .before .before .before .before .before .args .giver) (c .before .before .before .before .before .before .before .before .before .before .before .before .before .args .receiver) (c .before .before .before .before .before .before .before .before .before .before .before .before .before .args .weight) (c .before .before .before .before .before .before .before .before .before .before .before .before .before .args .need) (c .before .before .before .before .before .before .before .before .before .before .before .before .before .args .bar) (sym (c .before .before .before .before .before .before .before .before .before .before .grant-passed .ensures) ∙ c .before .before .before .before .before .before .before .before .before .if2 .left) in omega arith
+
+insert-requires : tie.Need-insert-requires
+insert-requires c κs = ((sym (c .before .before .before .before .before .before .before .well-formed .ensures) ∙ not-false _ (c .before .before .before .before .before .before .if3 .left)), grant-room steps (c .before .before .before .before .before .before .before .before .before .before .before .before .before .args .block .now) (fits-bytes (c .before .before .before .before .before .before .before .before .before .before .before .before .before .args .block .now) (c .before .before .before .before .before .before .before .before .before .before .before .before .slice-known .given)) (sym (c .before .before .before .before .before .before .before .well-formed .ensures) ∙ not-false _ (c .before .before .before .before .before .before .if3 .left)) (c .before .before .before .before .before .before .before .before .before .before .before .before .before .args .giver) (c .before .before .before .before .before .before .before .before .before .before .before .before .before .args .receiver) (c .before .before .before .before .before .before .before .before .before .before .before .before .before .args .weight) (c .before .before .before .before .before .before .before .before .before .before .before .before .before .args .need) (c .before .before .before .before .before .before .before .before .before .before .before .before .before .args .bar) (sym (c .before .before .before .before .grant-held .ensures) ∙ c .before .before .before .if4 .left))
+
+add-answered : tie.Need-add-answered
+add-answered c = omega (arith, grant-room steps (c .before .before .before .before .before .before .before .before .before .before .before .before .before .before .before .before .args .block .now) (fits-bytes (c .before .before .before .before .before .before .before .before .before .before .before .before .before .before .before .before .args .block .now) (c .before .before .before .before .before .before .before .before .before .before .before .before .before .before .before .slice-known .given)) (sym (c .before .before .before .before .before .before .before .before .before .before .well-formed .ensures) ∙ not-false _ (c .before .before .before .before .before .before .before .before .before .if3 .left)) (c .before .before .before .before .before .before .before .before .before .before .before .before .before .before .before .before .args .giver) (c .before .before .before .before .before .before .before .before .before .before .before .before .before .before .before .before .args .receiver) (c .before .before .before .before .before .before .before .before .before .before .before .before .before .before .before .before .args .weight) (c .before .before .before .before .before .before .before .before .before .before .before .before .before .before .before .before .args .need) (c .before .before .before .before .before .before .before .before .before .before .before .before .before .before .before .before .args .bar) (sym (c .before .before .before .before .before .before .before .grant-held .ensures) ∙ c .before .before .before .before .before .before .if4 .left), c .before .before .before .before .count .ensures)
+
+cast-answered : tie.Need-cast-answered
+cast-answered c = omega (arith, grant-room steps (c .before .before .before .before .before .before .before .before .before .before .before .before .before .before .before .before .args .block .now) (fits-bytes (c .before .before .before .before .before .before .before .before .before .before .before .before .before .before .before .before .args .block .now) (c .before .before .before .before .before .before .before .before .before .before .before .before .before .before .before .slice-known .given)) (sym (c .before .before .before .before .before .before .before .before .before .before .well-formed .ensures) ∙ not-false _ (c .before .before .before .before .before .before .before .before .before .if3 .left)) (c .before .before .before .before .before .before .before .before .before .before .before .before .before .before .before .before .args .giver) (c .before .before .before .before .before .before .before .before .before .before .before .before .before .before .before .before .args .receiver) (c .before .before .before .before .before .before .before .before .before .before .before .before .before .before .before .before .args .weight) (c .before .before .before .before .before .before .before .before .before .before .before .before .before .before .before .before .args .need) (c .before .before .before .before .before .before .before .before .before .before .before .before .before .before .before .before .args .bar) (sym (c .before .before .before .before .before .before .before .grant-held .ensures) ∙ c .before .before .before .before .before .before .if4 .left), c .before .before .before .before .count .ensures)
+
+answered-requires : tie.Need-answered-requires
+answered-requires c κs = search needs
+
+same-length-3 : tie.Need-same-length-3
+same-length-3 c = search needs
+
+returns-5 : tie.Need-returns-5
+returns-5 c = rw (c .answered .ensures, toZ-pos w32 {n = c .before .before .before .before .before .count .result + 1} (omega (arith, grant-room steps (c .before .before .before .before .before .before .before .before .before .before .before .before .before .before .before .before .before .args .block .now) (fits-bytes (c .before .before .before .before .before .before .before .before .before .before .before .before .before .before .before .before .before .args .block .now) (c .before .before .before .before .before .before .before .before .before .before .before .before .before .before .before .before .slice-known .given)) (sym (c .before .before .before .before .before .before .before .before .before .before .before .well-formed .ensures) ∙ not-false _ (c .before .before .before .before .before .before .before .before .before .before .if3 .left)) (c .before .before .before .before .before .before .before .before .before .before .before .before .before .before .before .before .before .args .giver) (c .before .before .before .before .before .before .before .before .before .before .before .before .before .before .before .before .before .args .receiver) (c .before .before .before .before .before .before .before .before .before .before .before .before .before .before .before .before .before .args .weight) (c .before .before .before .before .before .before .before .before .before .before .before .before .before .before .before .before .before .args .need) (c .before .before .before .before .before .before .before .before .before .before .before .before .before .before .before .before .before .args .bar) (sym (c .before .before .before .before .before .before .before .before .grant-held .ensures) ∙ c .before .before .before .before .before .before .before .if4 .left), c .before .before .before .before .before .count .ensures)), c .before .before .before .before .before .count .ensures) (grant-done steps (c .before .before .before .before .before .before .before .before .before .before .before .before .before .before .before .before .before .args .block .now) (fits-bytes (c .before .before .before .before .before .before .before .before .before .before .before .before .before .before .before .before .before .args .block .now) (c .before .before .before .before .before .before .before .before .before .before .before .before .before .before .before .before .slice-known .given)) (sym (c .before .before .before .before .before .before .before .before .before .before .before .well-formed .ensures) ∙ not-false _ (c .before .before .before .before .before .before .before .before .before .before .if3 .left)) (c .before .before .before .before .before .before .before .before .before .before .before .before .before .before .before .before .before .args .giver) (c .before .before .before .before .before .before .before .before .before .before .before .before .before .before .before .before .before .args .receiver) (c .before .before .before .before .before .before .before .before .before .before .before .before .before .before .before .before .before .args .weight) (c .before .before .before .before .before .before .before .before .before .before .before .before .before .before .before .before .before .args .need) (c .before .before .before .before .before .before .before .before .before .before .before .before .before .before .before .before .before .args .bar) (c .before .before .before .before .before .before .before .before .before .before .before .before .before .before .before .if1 .left) (sym (c .before .before .before .before .before .before .before .before .before .before .before .before .before .before .grant-passed .ensures) ∙ c .before .before .before .before .before .before .before .before .before .before .before .before .before .if2 .left) (sym (c .before .before .before .before .before .before .before .before .grant-held .ensures) ∙ c .before .before .before .before .before .before .before .if4 .left) (c .before .before .before .insert .last .0) (c .before .before .before .insert .ensures))
+
+pub grant-spec : {M : Type 1} → statement M
+grant-spec =
+    tie.close
+    (tie.spec
+    refused-requires
+    returns
+    grant-passed-requires
+    refused-requires-2
+    returns-2
+    well-formed-requires
+    refused-requires-3
+    same-length
+    returns-3
+    grant-held-requires
+    refused-requires-4
+    same-length-2
+    returns-4
+    count-requires
+    cast-insert
+    cast-insert-2
+    cast-insert-3
+    cast-insert-4
+    cast-insert-5
+    insert-requires
+    add-answered
+    cast-answered
+    answered-requires
+    same-length-3
+    returns-5)

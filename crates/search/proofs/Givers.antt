@@ -1,0 +1,37 @@
+-- One giver's records: they stand together, and are handed over as a part. Assumes nothing.
+use mathlib.Core.Path.{_≡_, ap, subst}
+use mathlib.Core.List.{List}
+use Prim.Native.Nat.{ℕ, _+_, _*_, _-_, _/_, _≤_, _<_}
+use native.Mathlib.Omega.{arith}
+use lib.ListN.{length, getD, drop, length-drop}
+use lib.Seq.{length-take-le}
+use lib.IntN.{ℤ}
+use Rattle.rules.specs.Limit.{none}
+use Rattle.rules.specs.Register.{Delegation}
+use Rattle.search.specs.Search.{Lent}
+use Rattle.search.specs.Steps.{recordAt, Ran, Sought, part, Gave}
+use Rattle.search.proofs.Records.{record-part, delegation-mem}
+
+module _ (s : List ℕ) (a e : ℕ) (h : a ≤ e) (l : e ≤ length s / 8) where
+  pub part-count : length (part s a e) / 8 ≡ e - a
+  part-count =
+      let k : 8 * e - 8 * a ≤ length (drop (8 * a) s) = rw length-drop (omega arith) in
+      omega (arith, length-take-le (8 * e - 8 * a) (drop (8 * a) s) k)
+
+  pub part-receivers : (t : List ℤ) → Lent t s (length s / 8) → (k : ℕ) → k < length (part s a e) / 8 → getD (part s a e) (8 * k + 1) 0 < 64
+  part-receivers t lent k b =
+      let c : a + k < length s / 8 = omega (arith, part-count) in
+      omega (arith, ap (λ (d : Delegation). d .receiver) (record-part s a (8 * e - 8 * a) k (omega (arith, part-count))), lent .receivers (recordAt s (8 * (a + k))) (delegation-mem s (length s / 8) (a + k) c))
+
+pub gave : (t : List ℤ) (s : List ℕ) (marks giver : ℕ) (l : List ℤ) (p : List ℕ) (l′ : List ℤ) (p′ : List ℕ) (a e : ℕ) (limit : ℤ) → Sought s 0 giver a → Sought s a (giver + 1) e
+    → limit ≡ getD l giver none → Ran t limit marks (part s a e) a l p (length (part s a e) / 8) l′ p′ → Gave t s marks giver l p l′ p′
+gave t s marks giver l p l′ p′ a e limit low high q r = record {
+  first = a;
+  past = e;
+  order = high .from;
+  within = high .within;
+  before = low .below;
+  here = λ k h b. omega (arith, low .above k h (omega (arith, high .within)), high .below k b);
+  after = λ k h b. omega (arith, high .above k h b);
+  ran = subst (λ (n : ℕ). Ran t (getD l giver none) marks (part s a e) a l p n l′ p′) (part-count s a e (high .from) (high .within)) (subst (λ (z : ℤ). Ran t z marks (part s a e) a l p (length (part s a e) / 8) l′ p′) q r);
+}

@@ -1,0 +1,9 @@
+pub mod Records
+pub mod Signed
+pub mod Weigh
+pub mod Givers
+pub mod Fill
+pub mod State
+pub mod Whole
+pub mod Written
+pub mod Ready

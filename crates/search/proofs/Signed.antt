@@ -1,0 +1,79 @@
+-- What the code of a search reads and compares, in the terms of the definitions. Assumes nothing.
+use mathlib.Core.Path.{_≡_, refl, sym, ap, subst, _∙_}
+use mathlib.Core.Logic.{_⊎_, inl, inr}
+use mathlib.Core.Bool.{Bool, true, false}
+use mathlib.Core.List.{List}
+use Prim.Native.Nat.{ℕ, _+_, _<_}
+use native.Mathlib.Omega.{arith}
+use lib.Dec.{T, ltb, ltb→lt, nltb→le, not-T}
+use lib.IntN.{ℤ, pos, negsuc}
+use lib.Signed.{ltZ, mag}
+use lib.ListN.{length, getD, set}
+use mir.Syntax.{w16}
+use mir.Val.{SFits, ofZ, toZ}
+use mir.Facts.{toZ-ofZ}
+use Rattle.rules.specs.Limit.{none, code, _≼_}
+use Rattle.rules.specs.Table.{next}
+use Rattle.rules.specs.Condition.{meets}
+use Rattle.rules.proofs.Signed.{getD-within}
+use Rattle.block.specs.Bytes.{two}
+use Rattle.search.specs.Steps.{recordAt, Stepped}
+
+pub yes : {b : Bool} → b ≡ true → T b
+yes e = subst T (sym e) tt
+
+pub no : {b : Bool} → b ≡ false → T b → ⊥
+no e h = subst T e h
+
+-- a signed number as the machine holds it, read back
+abbrev pub kept : ℤ → ℤ
+kept z = toZ w16 (ofZ w16 z)
+
+pub read-limit : (l : List ℤ) (i : ℕ) → i < length l → mag (getD l i (pos 0)) < 32768 → kept (getD l i (pos 0)) ≡ getD l i none
+read-limit l i h f = toZ-ofZ record { sfits = f } ∙ getD-within l i (pos 0) none h
+
+-- ── signed comparisons of limits ──
+pub more : (y z : ℤ) → (y ≡ none) ⊎ (pos 0 ≼ y) → T (ltZ y z) → code y < code z
+more y z (inl e) h = go z (subst (λ (x : ℤ). T (ltZ x z)) e h)
+  where
+    go : (z : ℤ) → T (ltZ none z) → code y < code z
+    go (pos m) h = omega (arith, ap code e)
+    go (negsuc m) h = absurd (omega (arith, ltb→lt m 0 h))
+more y z (inr l) h = go y z l h
+  where
+    go : (y z : ℤ) → pos 0 ≼ y → T (ltZ y z) → code y < code z
+    go (pos k) (pos m) l h = omega (arith, ltb→lt k m h)
+    go (pos k) (negsuc m) l h = absurd h
+    go (negsuc k) z l h = absurd (omega arith)
+
+pub not-more : (y z : ℤ) → (T (ltZ y z) → ⊥) → z ≼ y
+not-more (pos k) (pos m) h = omega (arith, nltb→le k m (not-T (ltb k m) h))
+not-more (pos k) (negsuc m) h = omega arith
+not-more (negsuc k) (pos m) h = absurd (h tt)
+not-more (negsuc k) (negsuc m) h = omega arith
+
+-- ── the ways of a record ──
+module _ (t : List ℤ) (run : List ℕ) (at place : ℕ) (limit : ℤ) (marks : ℕ) (l : List ℤ) (p : List ℕ) (need bar : ℕ) (m : Bool)
+    (en : need ≡ two run (at + 4)) (eb : bar ≡ two run (at + 6)) (em : m ≡ meets marks need bar) where
+  abbrev who : ℕ
+  who = getD run (at + 1) 0
+
+  met : m ≡ meets marks (two run (at + 4)) (two run (at + 6))
+  met = em ∙ (λ i. meets marks (en i) (eb i))
+
+  pub step-unmet : m ≡ false → Stepped t limit marks (recordAt run at) place l p l p
+  step-unmet f = inl ((λ q. no f (subst T (sym met) (q .0))), refl, refl)
+
+  module _ (given : ℤ) (f : SFits w16 limit) (h : who < length l) (b : mag (getD l who (pos 0)) < 32768) (g : SFits w16 given)
+      (eg : given ≡ next t (kept limit) (getD run (at + 2) 0)) where
+    gives : kept given ≡ next t limit (getD run (at + 2) 0)
+    gives = toZ-ofZ g ∙ eg ∙ ap (λ (z : ℤ). next t z (getD run (at + 2) 0)) (toZ-ofZ f)
+
+    test : ltZ (kept (getD l who (pos 0))) (kept given) ≡ ltZ (getD l who none) (next t limit (getD run (at + 2) 0))
+    test = λ i. ltZ (read-limit l who h b i) (gives i)
+
+    pub step-raised : m ≡ true → ltZ (kept (getD l who (pos 0))) (kept given) ≡ true → Stepped t limit marks (recordAt run at) place l p (set l who (kept given)) (set p who place)
+    step-raised y q = inr ((subst T met (yes y), subst T test (yes q)), ap (set l who) gives, refl)
+
+    pub step-not-raised : ltZ (kept (getD l who (pos 0))) (kept given) ≡ false → Stepped t limit marks (recordAt run at) place l p l p
+    step-not-raised q = inl ((λ r. no q (subst T (sym test) (r .1))), refl, refl)

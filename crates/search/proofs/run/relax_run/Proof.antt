@@ -1,0 +1,77 @@
+-- `search::run::relax_run` takes the step of each record of a run in turn. Assumes nothing.
+use mathlib.Core.Path.{_≡_, refl, sym, _∙_}
+use Prim.Native.Nat.{_-_, _/_, _≤_}
+use native.Mathlib.Omega.{arith}
+use native.Mathlib.Numerals.{add-one}
+use lib.ListN.{length}
+use mir.Syntax.{w16}
+use mir.Val.{toZ}
+use mir.Facts.{toZ-ofZ}
+use Rattle.search.specs.Steps.{Ran, ran-none, ran-more}
+use Rattle.search.proofs.run.relax_run.Statement.{statement}
+use Rattle.search.proofs.run.relax_run.Tie as tie
+
+abbrev Inv-loop : tie.InvT-loop
+Inv-loop run first limit marks table limits₀ parents₀ n k₀ limits parents k =
+    (n ≡ length run / 8) × (k ≤ n) × (length limits ≡ 64) × (length parents ≡ 64) × Ran table (toZ w16 limit) marks run first limits₀ parents₀ k limits parents
+
+abbrev μ-loop : tie.MeasureT-loop
+μ-loop run first limit marks table limits₀ parents₀ n k₀ limits parents k = n - k
+
+loop-holds : tie.Need-loop-holds Inv-loop μ-loop
+loop-holds c = (refl, omega arith, c .before .before .pre .2, c .before .before .pre .3, ran-none)
+
+mul-relax-at : tie.Need-mul-relax-at Inv-loop μ-loop
+mul-relax-at c = omega arith
+
+add-relax-at : tie.Need-add-relax-at Inv-loop μ-loop
+add-relax-at c = omega arith
+
+relax-at-requires : tie.Need-relax-at-requires Inv-loop μ-loop
+relax-at-requires c κs =
+    let q = c .before .before .before .before .before .before .pre in
+    let v = c .before .before .before .loop in
+    (omega arith, omega arith, q .1, v .inv .2, v .inv .3, q .4 (v .k) (omega arith))
+
+add-k : tie.Need-add-k Inv-loop μ-loop
+add-k c = omega arith
+
+loop-less : tie.Need-loop-less Inv-loop μ-loop
+loop-less c = omega arith
+
+loop-again : tie.Need-loop-again Inv-loop μ-loop
+loop-again c = (
+  refl,
+  omega arith,
+  c .before .before .before .relax-at .kept .1 .1 .1 .1 .1 .1 .0 ∙ c .before .before .before .before .before .before .before .loop .inv .2,
+  c .before .before .before .relax-at .kept .1 .1 .1 .1 .1 .1 .1 .0 ∙ c .before .before .before .before .before .before .before .loop .inv .3,
+  rw add-one (ran-more (c .before .before .before .before .before .before .before .loop .inv .4) (c .before .before .before .relax-at .ensures)),
+)
+
+same-length : tie.Need-same-length Inv-loop μ-loop
+same-length c = c .before .loop .inv .2 ∙ sym (c .before .before .before .before .pre .2)
+
+same-length-2 : tie.Need-same-length-2 Inv-loop μ-loop
+same-length-2 c = c .before .loop .inv .3 ∙ sym (c .before .before .before .before .pre .3)
+
+returns : tie.Need-returns Inv-loop μ-loop
+returns c =
+    let e : c .before .loop .k ≡ length (c .before .before .before .before .args .run .now) / 8 = omega arith in
+    rw (← toZ-ofZ {w = w16} (c .before .before .before .before .fits .limit), ← e) (c .before .loop .inv .4)
+
+pub relax-run-spec : {M : Type 1} → statement M
+relax-run-spec =
+    tie.close
+    (tie.spec
+    Inv-loop
+    μ-loop
+    loop-holds
+    mul-relax-at
+    add-relax-at
+    relax-at-requires
+    add-k
+    loop-less
+    loop-again
+    same-length
+    same-length-2
+    returns)

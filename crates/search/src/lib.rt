@@ -1,0 +1,43 @@
+// The search for reach: for one receiver's marks, the largest limit of every subject.
+ghost use mathlib.Core.Path.{_≡_};
+ghost use Prim.Native.Nat.{_/_};
+ghost use lib.ListN.{length};
+ghost use Rattle.search.specs.Search.{Lent};
+ghost use Rattle.search.specs.Steps.{Started};
+ghost use Rattle.search.specs.Found.{Searched};
+
+mod heavy;
+mod links;
+mod run;
+
+pub use links::write_links;
+
+// 255 at the owner, none elsewhere, no parents.
+fn start(limits: &mut [i16], parents: &mut [u16])
+    requires { ⌜ (length (now limits) ≡ 64) × (length (now parents) ≡ 64) ⌝ }
+    ensures { λ _. ⌜ Started (now (limits .exit)) (now (parents .exit)) ⌝ }
+{
+    let mut i: usize = 0;
+    while i < 64 {
+        limits[i] = -1;
+        parents[i] = 0;
+        i += 1;
+    }
+    limits[0] = 255;
+}
+
+// The reach of every subject, and for each subject that has one the place of the record by which it is reached.
+// Subjects are settled from the largest limit down.
+pub fn search(records: &[u8], table: &[i16], marks: u16, limits: &mut [i16], parents: &mut [u16])
+    requires { ⌜ Lent (now table) (now records) (length (now records) / 8) × (length (now limits) ≡ 64) × (length (now parents) ≡ 64) ⌝ }
+    ensures { λ _. ⌜ Searched (now (table .entry)) (now (records .entry)) marks (now (limits .exit)) (now (parents .exit)) ⌝ }
+{
+    start(limits, parents);
+    let mut settled = [0u8; 64];
+    let mut u = heavy::heaviest(limits, &settled);
+    while u < 64 {
+        settled[u] = 1;
+        run::relax_giver(records, u, marks, table, limits, parents);
+        u = heavy::heaviest(limits, &settled);
+    }
+}

@@ -1,0 +1,98 @@
+// What one giver's records give.
+ghost use mathlib.Core.Path.{_≡_};
+ghost use Prim.Native.Nat.{ℕ, _+_, _*_, _/_, _≤_, _<_};
+ghost use lib.ListN.{length, getD};
+ghost use Rattle.rules.specs.WellFormed.{Rising};
+ghost use Rattle.search.specs.Search.{Lent};
+ghost use Rattle.search.specs.Steps.{recordAt, Stepped, Ran, Sought, Gave};
+ghost use Rattle.search.specs.Found.{delegationsIn};
+
+// The record at `at`: where it raises its receiver, the limit is stored, and `place` as the receiver's parent.
+fn relax_at(
+    run: &[u8],
+    at: usize,
+    place: usize,
+    limit: i16,
+    marks: u16,
+    table: &[i16],
+    limits: &mut [i16],
+    parents: &mut [u16],
+)
+    requires { ⌜ (at + 8 ≤ length (now run)) × (place < 65536) × (length (now table) ≡ 256) × (length (now limits) ≡ 64) × (length (now parents) ≡ 64) × (getD (now run) (at + 1) 0 < 64) ⌝ }
+    ensures { λ _. ⌜ Stepped (now (table .entry)) limit marks (recordAt (now (run .entry)) at) place (now (limits .entry)) (now (parents .entry)) (now (limits .exit)) (now (parents .exit)) ⌝ }
+{
+    let need = block::read_two(run, at + 4);
+    let bar = block::read_two(run, at + 6);
+    if rules::meets(marks, need, bar) {
+        let receiver = run[at + 1] as usize;
+        let given = rules::next(table, limit, run[at + 2]);
+        if limits[receiver] < given {
+            limits[receiver] = given;
+            parents[receiver] = place as u16;
+        }
+    }
+}
+
+// A run of records, from a giver of this limit; the first of them is at the place `first`.
+fn relax_run(
+    run: &[u8],
+    first: usize,
+    limit: i16,
+    marks: u16,
+    table: &[i16],
+    limits: &mut [i16],
+    parents: &mut [u16],
+)
+    requires { ⌜ (first + length (now run) / 8 ≤ 256) × (length (now table) ≡ 256) × (length (now limits) ≡ 64) × (length (now parents) ≡ 64) × ((k : ℕ) → k < length (now run) / 8 → getD (now run) (8 * k + 1) 0 < 64) ⌝ }
+    ensures { λ _. ⌜ Ran (now (table .entry)) limit marks (now (run .entry)) first (now (limits .entry)) (now (parents .entry)) (length (now (run .entry)) / 8) (now (limits .exit)) (now (parents .exit)) ⌝ }
+{
+    let n = run.len() / 8;
+    let mut k: usize = 0;
+    while k < n {
+        relax_at(run, 8 * k, first + k, limit, marks, table, limits, parents);
+        k += 1;
+    }
+}
+
+// The place of the first record from `low` on whose giver is not below `bound`.
+fn seek(records: &[u8], low: usize, bound: usize) -> usize
+    requires { ⌜ (low ≤ length (now records) / 8) × ((k : ℕ) → k < low → getD (now records) (8 * k) 0 < bound) × Rising (delegationsIn (now records)) ⌝ }
+    ensures { λ r. ⌜ Sought (now (records .entry)) low bound r ⌝ }
+{
+    let n = records.len() / 8;
+    let mut k = low;
+    while k < n {
+        let giver = records[8 * k] as usize;
+        if bound <= giver {
+            return k;
+        }
+        k += 1;
+    }
+    k
+}
+
+// All records of one giver: they stand together, since records rise.
+pub fn relax_giver(
+    records: &[u8],
+    giver: usize,
+    marks: u16,
+    table: &[i16],
+    limits: &mut [i16],
+    parents: &mut [u16],
+)
+    requires { ⌜ Lent (now table) (now records) (length (now records) / 8) × (giver < 64) × (length (now limits) ≡ 64) × (length (now parents) ≡ 64) ⌝ }
+    ensures { λ _. ⌜ Gave (now (table .entry)) (now (records .entry)) marks giver (now (limits .entry)) (now (parents .entry)) (now (limits .exit)) (now (parents .exit)) ⌝ }
+{
+    let a = seek(records, 0, giver);
+    let e = seek(records, a, giver + 1);
+    let limit = limits[giver];
+    relax_run(
+        &records[8 * a..8 * e],
+        a,
+        limit,
+        marks,
+        table,
+        limits,
+        parents,
+    );
+}
