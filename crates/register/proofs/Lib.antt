@@ -4,3 +4,4 @@ pub mod Using
 pub mod Searching
 pub mod Holding
 pub mod History
+pub mod Exactly

@@ -2,3 +2,4 @@ pub mod CallOn
 pub mod Made
 pub mod History
 pub mod ChainOn
+pub mod Exactly

@@ -1,0 +1,163 @@
+-- Demand 2, as theorems about the calls on bytes. Assumes nothing.
+use mathlib.Core.Path.{_≡_, refl, sym, ap, subst, _∙_}
+use mathlib.Core.Logic.{_≢_, _⊎_, inl, inr}
+use mathlib.Core.Bool.{Bool, true, false, cond, not, _||_}
+use mathlib.Core.List.{List, [], _∷_, _++_}
+use Prim.Native.Nat.{ℕ, suc, _≤_}
+use native.Mathlib.Omega.{arith}
+use borrow.Author.Tests.{eq-eqb, le-ltb}
+use lib.Dec.{T, eqb, ltb, eqb→eq, nltb→le, T-not}
+use lib.ListN.{length}
+use lib.IntN.{ℤ, pos}
+use Rattle.rules.specs.Limit.{none, code, _≼_}
+use Rattle.rules.specs.Table.{TableRule}
+use Rattle.rules.specs.Register.{Delegation}
+use Rattle.rules.specs.Chain.{limit, IsChain}
+use Rattle.rules.specs.Reach.{IsReach, reach}
+use Rattle.rules.specs.Support.{allowed, Carried}
+use Rattle.rules.specs.Call.{Call, grant, askReach, granted}
+use Rattle.rules.specs.Refusal.{firstOf, passed, held, notEnrolled, pairStands, allStand, overweight, refusalOf}
+use Rattle.rules.specs.CallStep.{Outcome, accepted, refused, callStep}
+use Rattle.rules.proofs.Lists.{either}
+use Rattle.rules.proofs.Refusals.{passed-numbered}
+use Rattle.rules.proofs.Reach.{reach-is, reach-only}
+use Rattle.rules.proofs.Support.{allowed-carried, carried-allowed}
+use Rattle.rules.proofs.Calls.{accepted-refusal, callStep-cases}
+use Rattle.block.specs.Block.{decode}
+use Rattle.block.specs.WellFormed.{wellFormed}
+use Rattle.register.specs.CallOn.{Result, early, turned, written, callOn}
+use Rattle.register.specs.Exactly.{Grantable, GrantExactly, ReachExactly}
+use Rattle.register.proofs.Made.{firstOf-none, firstOf-some, not-false}
+
+-- ── a list of refusals of which none applies ──
+firstOf-head : (n : ℕ) (x : Bool) (ps : List (ℕ × Bool)) → n ≢ 0 → firstOf ((n, x) ∷ ps) ≡ 0 → (x ≡ false) × (firstOf ps ≡ 0)
+firstOf-head n true ps k e = absurd (k e)
+firstOf-head n false ps k e = (refl, e)
+
+-- a call that is accepted on bytes passed 1, what was passed, 8 and what the register holds
+pub record Through (t : List ℤ) (b : List ℕ) (c : Call) : Type 0 where
+  pub size : length b ≡ 2180
+  pub passed : firstOf (passed c) ≡ 0
+  pub formed : wellFormed b ≡ true
+  pub held : firstOf (held t (decode b) c) ≡ 0
+
+module _ (t : List ℤ) (b : List ℕ) (c : Call) where
+  early-none : firstOf (early b c) ≡ 0 → (length b ≡ 2180) × (firstOf (passed c) ≡ 0) × (wellFormed b ≡ true)
+  early-none e =
+      let (x, r) = firstOf-head 1 (not (eqb (length b) 2180)) (passed c ++ ((8, not (wellFormed b)) ∷ [])) (λ q. omega arith) e in
+      go x r (either (eqb (firstOf (passed c)) 0))
+    where
+      go : not (eqb (length b) 2180) ≡ false → firstOf (passed c ++ ((8, not (wellFormed b)) ∷ [])) ≡ 0 → T (eqb (firstOf (passed c)) 0) ⊎ T (not (eqb (firstOf (passed c)) 0))
+          → (length b ≡ 2180) × (firstOf (passed c) ≡ 0) × (wellFormed b ≡ true)
+      go x r (inl q) =
+          let z = eqb→eq (firstOf (passed c)) 0 q in
+          let y = firstOf-head 8 (not (wellFormed b)) [] (λ k. omega arith) (sym (firstOf-none (passed c) ((8, not (wellFormed b)) ∷ []) (passed-numbered c) z) ∙ r) in
+          (eqb→eq (length b) 2180 (subst T (sym (not-false (eqb (length b) 2180) x)) tt), z, not-false (wellFormed b) (y .0))
+      go x r (inr q) =
+          let n : firstOf (passed c) ≢ 0 = λ z. T-not (eqb (firstOf (passed c)) 0) q (subst T (sym (eq-eqb (firstOf (passed c)) 0 z)) tt) in
+          absurd (n (sym (firstOf-some (passed c) ((8, not (wellFormed b)) ∷ []) (firstOf (passed c)) (passed-numbered c) refl n) ∙ r))
+
+  refusal-held : firstOf (passed c) ≡ 0 → refusalOf t (decode b) c ≡ firstOf (held t (decode b) c)
+  unfolding refusalOf
+  refusal-held z = firstOf-none (passed c) (held t (decode b) c) (passed-numbered c) z
+
+  written-refusal : (o : Outcome) → written b o .refusal ≡ o .refusal
+  written-refusal o = refl
+
+  step-refusal : callStep t (decode b) c .refusal ≡ refusalOf t (decode b) c
+  step-refusal = callStep-cases t (decode b) c (λ (o : Outcome). o .refusal ≡ refusalOf t (decode b) c) (λ z p. accepted-refusal t (decode b) c ∙ sym z) (λ n. refl)
+
+  pub through : callOn t b c .refusal ≡ 0 → Through t b c
+  unfolding callOn
+  through e = go (eqb (firstOf (early b c)) 0) refl e
+    where
+      go : (x : Bool) → eqb (firstOf (early b c)) 0 ≡ x → (let r : Result = elim x [ true ↦ written b (callStep t (decode b) c) | false ↦ turned (firstOf (early b c)) b ] in r .refusal ≡ 0) → Through t b c
+      go true q z =
+          let (s, p, f) = early-none (eqb→eq (firstOf (early b c)) 0 (subst T (sym q) tt)) in
+          record { size = s; passed = p; formed = f; held = sym (refusal-held p) ∙ sym step-refusal ∙ z }
+      go false q z = let y = sym (eq-eqb (firstOf (early b c)) 0 z) ∙ q in let n : _≡_ {A = ℕ} 0 1 = cc in absurd (omega arith)
+
+  early-through : Through t b c → firstOf (early b c) ≡ 0
+  early-through h = rw (eq-eqb (length b) 2180 (h .size)) (firstOf-none (passed c) ((8, not (wellFormed b)) ∷ []) (passed-numbered c) (h .passed) ∙ ap (λ (x : Bool). cond (not x) 8 0) (h .formed))
+
+  -- and then it is the accepted call
+  pub through-on : Through t b c → callOn t b c ≡ written b (accepted t (decode b) c)
+  unfolding callOn callStep
+  through-on h = go (eqb (firstOf (early b c)) 0) (eq-eqb (firstOf (early b c)) 0 (early-through h))
+    where
+      step : (y : Bool) → y ≡ true → let o : Outcome = elim y [ true ↦ accepted t (decode b) c | false ↦ refused (refusalOf t (decode b) c) (decode b) ] in written b o ≡ written b (accepted t (decode b) c)
+      step true q = refl
+      step false q = let n : _≡_ {A = ℕ} 0 1 = cc in absurd (omega arith)
+
+      go : (x : Bool) → x ≡ true → let r : Result = elim x [ true ↦ written b (callStep t (decode b) c) | false ↦ turned (firstOf (early b c)) b ] in r ≡ written b (accepted t (decode b) c)
+      go true q = step (eqb (refusalOf t (decode b) c) 0) (eq-eqb (refusalOf t (decode b) c) 0 (refusal-held (h .passed) ∙ h .held))
+      go false q = let n : _≡_ {A = ℕ} 0 1 = cc in absurd (omega arith)
+
+-- ── grant ──
+module _ (t : List ℤ) (rule : TableRule t) (b : List ℕ) (g r w n m : ℕ) where
+  light : (ltb (code (allowed t (decode b) (granted g r w n m))) (suc w) || false) ≡ false → Carried t (decode b) (granted g r w n m)
+  light e = allowed-carried t rule (decode b) (granted g r w n m) (go (ltb (code (allowed t (decode b) (granted g r w n m))) (suc w)) e (nltb→le (code (allowed t (decode b) (granted g r w n m))) (suc w)))
+    where
+      go : (x : Bool) → (x || false) ≡ false → (T (not x) → suc w ≤ code (allowed t (decode b) (granted g r w n m))) → pos w ≼ allowed t (decode b) (granted g r w n m)
+      go true q h = let z : _≡_ {A = ℕ} 0 1 = cc in absurd (omega arith)
+      go false q h = h tt
+
+  heavy-not : Carried t (decode b) (granted g r w n m) → (ltb (code (allowed t (decode b) (granted g r w n m))) (suc w) || false) ≡ false
+  heavy-not c = let h = carried-allowed t rule (decode b) (granted g r w n m) c in rw (le-ltb (code (allowed t (decode b) (granted g r w n m))) (suc w) h)
+
+  grant-only : callOn t b (grant g r w n m) .refusal ≡ 0 → Grantable t b g r w n m
+  unfolding held
+  grant-only e =
+      let h = through t b (grant g r w n m) e in
+      let (x1, r1) = firstOf-head 9 (notEnrolled (decode b) (g ∷ r ∷ []) .1) (pairStands (decode b) g r ∷ allStand (decode b) ∷ overweight t (decode b) (granted g r w n m ∷ []) ∷ []) (λ q. omega arith) (h .held) in
+      let (x2, r2) = firstOf-head 11 (pairStands (decode b) g r .1) (allStand (decode b) ∷ overweight t (decode b) (granted g r w n m ∷ []) ∷ []) (λ q. omega arith) r1 in
+      let (x3, r3) = firstOf-head 12 (allStand (decode b) .1) (overweight t (decode b) (granted g r w n m ∷ []) ∷ []) (λ q. omega arith) r2 in
+      let (x4, r4) = firstOf-head 16 (overweight t (decode b) (granted g r w n m ∷ []) .1) [] (λ q. omega arith) r3 in
+      record {
+        size = h .size;
+        passed = h .passed;
+        formed = h .formed;
+        held = λ j. cond (x1 j) 9 (cond (x2 j) 11 (cond (x3 j) 12 0));
+        carried = light x4;
+      }
+
+  grant-whenever : Grantable t b g r w n m → callOn t b (grant g r w n m) .refusal ≡ 0
+  unfolding held
+  grant-whenever k =
+      let (x1, r1) = firstOf-head 9 (notEnrolled (decode b) (g ∷ r ∷ []) .1) (pairStands (decode b) g r ∷ allStand (decode b) ∷ []) (λ q. omega arith) (k .held) in
+      let (x2, r2) = firstOf-head 11 (pairStands (decode b) g r .1) (allStand (decode b) ∷ []) (λ q. omega arith) r1 in
+      let (x3, r3) = firstOf-head 12 (allStand (decode b) .1) [] (λ q. omega arith) r2 in
+      let x4 = heavy-not (k .carried) in
+      let all : firstOf (held t (decode b) (grant g r w n m)) ≡ 0 = λ j. cond (x1 j) 9 (cond (x2 j) 11 (cond (x3 j) 12 (cond (x4 j) 16 0))) in
+      ap (λ (x : Result). x .refusal) (through-on t b (grant g r w n m) record { size = k .size; passed = k .passed; formed = k .formed; held = all }) ∙ accepted-refusal t (decode b) (grant g r w n m)
+
+  pub grant-exactly : GrantExactly t b g r w n m
+  grant-exactly = record { only = grant-only; whenever = grant-whenever }
+
+-- ── reach ──
+module _ (t : List ℤ) (b : List ℕ) (g r : ℕ) (e : callOn t b (askReach g r) .refusal ≡ 0) where
+  -- what is answered is the reach of the definition
+  pub answer-reach : callOn t b (askReach g r) .first ≡ reach t (decode b) g r
+  unfolding accepted
+  answer-reach = ap (λ (x : Result). x .first) (through-on t b (askReach g r) (through t b (askReach g r) e))
+
+  pub reach-exactly : ReachExactly t b g r
+  reach-exactly = record {
+    none-only = λ q ds c. let h = is .bounds ds c in omega (arith, c .live, ap code (sym answer-reach ∙ q));
+    none-whenever = λ h. answer-reach ∙ no-chain h (is .attained);
+    some-only = λ k q. (attains k (sym answer-reach ∙ q) (is .attained), λ ds c. subst (λ (z : ℤ). limit t ds ≼ z) (sym answer-reach ∙ q) (is .bounds ds c));
+    some-whenever = λ k ds c q h. answer-reach ∙ reach-only t (decode b) g r (pos k) record { bounds = h; attained = inr (ds, c, sym q) };
+  }
+    where
+      is : IsReach t (decode b) g r (reach t (decode b) g r)
+      is = reach-is t (decode b) g r
+
+      no-chain : ((ds : List Delegation) → IsChain t (decode b) g r ds → ⊥)
+          → (reach t (decode b) g r ≡ none) ⊎ ((ds : List Delegation) × IsChain t (decode b) g r ds × (reach t (decode b) g r ≡ limit t ds)) → reach t (decode b) g r ≡ none
+      no-chain h (inl q) = q
+      no-chain h (inr q) = absurd (h (q .0) (q .1))
+
+      attains : (k : ℕ) → reach t (decode b) g r ≡ pos k → (reach t (decode b) g r ≡ none) ⊎ ((ds : List Delegation) × IsChain t (decode b) g r ds × (reach t (decode b) g r ≡ limit t ds))
+          → (ds : List Delegation) × IsChain t (decode b) g r ds × (limit t ds ≡ pos k)
+      attains k q (inl z) = let y = ap code (sym q ∙ z) in absurd (omega arith)
+      attains k q (inr z) = (z .0, z .1, sym (z .2) ∙ q)
