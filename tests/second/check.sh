@@ -27,10 +27,12 @@ compile() {
 second=(--extern "second=$out/libsecond.rlib")
 generate=(--extern "generate=$out/libgenerate.rlib")
 
+# A step runs as a condition, in which a failure does not end a function by
+# itself: its commands are joined by &&.
 build() {
-    compile -O -C overflow-checks=on --crate-type rlib --crate-name second "$here/lib.rs" --out-dir "$out"
-    compile "${second[@]}" --crate-type rlib --crate-name generate "$here/generate/lib.rs" --out-dir "$out"
-    compile "${second[@]}" "${generate[@]}" --crate-name program "$here/main.rs" -o "$out/second"
+    compile -O -C overflow-checks=on --crate-type rlib --crate-name second "$here/lib.rs" --out-dir "$out" &&
+        compile "${second[@]}" --crate-type rlib --crate-name generate "$here/generate/lib.rs" --out-dir "$out" &&
+        compile "${second[@]}" "${generate[@]}" --crate-name program "$here/main.rs" -o "$out/second"
 }
 
 build_tests() {
@@ -38,12 +40,32 @@ build_tests() {
 }
 
 generate() {
-    rm -rf "$out/cases"
-    "$out/second" generate "$out/cases"
+    rm -rf "$out/cases" && "$out/second" generate "$out/cases"
+}
+
+# The kinds of cases that the program crates/cases runs: their cases are its
+# data, what is expected of them its standard output, in this order.
+run="base reach"
+
+# Splits what was generated as it is committed.
+committed_form() {
+    rm -rf "$out/data" "$out/stdout" "$out/rest" && mkdir "$out/data" && cp -r "$out/cases" "$out/rest" || return 1
+    for kind in $run; do
+        mv "$out/rest/$kind"-*.cases "$out/data/" &&
+            cat "$out/rest/$kind"-*.expected >>"$out/stdout" &&
+            rm "$out/rest/$kind"-*.expected || return 1
+    done
+}
+
+same() {
+    diff -r "$root/tests/cases" "$out/rest" &&
+        diff -r "$root/crates/cases/data" "$out/data" &&
+        cmp "$root/crates/cases/stdout" "$out/stdout"
 }
 
 step "build" build
 step "build of the tests" build_tests
 step "tests" "$out/tests" --test-threads 1
 step "generated cases" generate
-step "comparison with the committed cases" diff -r "$root/tests/cases" "$out/cases"
+step "committed form" committed_form
+step "comparison with the committed cases" same

@@ -1,6 +1,6 @@
 //! Writes the cases: files of at most 65,536 bytes, an index and the counts.
 
-use super::{callfiles, cases, KINDS};
+use super::{callfiles, cases, Call, Kind, KINDS};
 use second::callfile::{print, MOST_INPUT};
 use second::casefile::{case_line, expected_line, Case};
 use second::engine::FAST;
@@ -44,16 +44,40 @@ impl File {
     }
 }
 
+/// The cases of a kind by the name of their files. The chain calls of the kind
+/// `reach` have files of their own: they change no block, so that the others
+/// are the same without them.
+fn parts(kind: &Kind) -> Vec<(&'static str, Vec<Case>)> {
+    let all = cases(kind);
+    if kind.name != "reach" {
+        return vec![(kind.name, all)];
+    }
+    let (chain, others) = with_blocks(&all).into_iter().partition(|case| case.passed.call == Call::Chain);
+    vec![(kind.name, others), ("chain", chain)]
+}
+
+/// The same cases, each with the block that it is made on.
+fn with_blocks(cases: &[Case]) -> Vec<Case> {
+    let mut current = Vec::new();
+    let mut whole = Vec::with_capacity(cases.len());
+    for case in cases {
+        let block = case.block.clone().unwrap_or_else(|| current.clone());
+        let made = Case { passed: case.passed, block: Some(block) };
+        expected_line(&FAST, &made, &mut current);
+        whole.push(made);
+    }
+    whole
+}
+
 /// Writes every file into an existing or new folder.
 pub fn write_all(folder: &Path) -> io::Result<()> {
     fs::create_dir_all(folder)?;
     let mut counts = String::new();
-    for kind in &KINDS {
-        let cases = cases(kind);
-        counts.push_str(&format!("{} {}\n", kind.name, cases.len()));
+    for (name, cases) in KINDS.iter().flat_map(parts) {
+        counts.push_str(&format!("{name} {}\n", cases.len()));
         for (at, file) in files(&cases).iter().enumerate() {
-            fs::write(folder.join(format!("{}-{at:02}.cases", kind.name)), &file.cases)?;
-            fs::write(folder.join(format!("{}-{at:02}.expected", kind.name)), &file.expected)?;
+            fs::write(folder.join(format!("{name}-{at:02}.cases")), &file.cases)?;
+            fs::write(folder.join(format!("{name}-{at:02}.expected")), &file.expected)?;
         }
     }
     counts.push_str(&format!("calls {}\n", write_call_files(folder)?));

@@ -1,0 +1,96 @@
+// Reading a block's text.
+use crate::out::put_byte;
+use crate::text;
+
+// A block's length, and where the text goes on.
+pub struct Block {
+    pub size: usize,
+    pub after: usize,
+    pub is_read: bool,
+}
+
+// A byte, and where the text goes on.
+struct Byte {
+    value: u8,
+    after: usize,
+}
+
+fn no_block() -> Block {
+    Block {
+        size: 0,
+        after: 0,
+        is_read: false,
+    }
+}
+
+// `=` leaves the block of `size` bytes as it is; else LENGTH:BYTES is put into it.
+pub fn read_block(text: &[u8], from: usize, block: &mut [u8], size: usize) -> Block {
+    let same = text::step_over(text, from, b'=');
+    if same.is_read {
+        return Block {
+            size: size,
+            after: same.after,
+            is_read: true,
+        };
+    }
+    let number = text::read_number(text, from, b':');
+    if !number.is_read {
+        return no_block();
+    }
+    let given = number.value as usize;
+    if given > block.len() {
+        return no_block();
+    }
+    let n = text::within(given, block);
+    Block {
+        size: n,
+        after: read_bytes(text, number.after, &mut block[..n]),
+        is_read: true,
+    }
+}
+
+// Puts the bytes that are given into the part, and zero after them; answers where the text goes on.
+fn read_bytes(text: &[u8], from: usize, part: &mut [u8]) -> usize {
+    let n = part.len();
+    let mut at = from;
+    let mut i = 0;
+    while i < n {
+        let byte = read_byte(text, at);
+        put_byte(part, i, byte.value);
+        at = byte.after;
+        i += 1;
+    }
+    at
+}
+
+// `.` or two hex digits; zero, and no step, where neither stands there.
+fn read_byte(text: &[u8], at: usize) -> Byte {
+    let nothing = Byte {
+        value: 0,
+        after: at,
+    };
+    if at >= text.len() {
+        return nothing;
+    }
+    if text[at] == b'.' {
+        return Byte {
+            value: 0,
+            after: at + 1,
+        };
+    }
+    if at + 1 >= text.len() {
+        return nothing;
+    }
+    let high = text::digit_of(text[at]);
+    let low = text::digit_of(text[at + 1]);
+    if high >= text::NO_DIGIT {
+        return nothing;
+    }
+    if low >= text::NO_DIGIT {
+        return nothing;
+    }
+    Byte {
+        value: high * 16 + low,
+        after: at + 2,
+    }
+}

@@ -1,0 +1,62 @@
+// The columns of a line, and the register's call that they ask for.
+use crate::text;
+use register::Answer;
+
+// The seven numbers of a line, and where the text goes on.
+pub struct Columns {
+    pub call: u32,
+    pub by: u32,
+    pub giver: u32,
+    pub receiver: u32,
+    pub weight: u32,
+    pub need: u32,
+    pub bar: u32,
+    pub after: usize,
+    pub is_read: bool,
+}
+
+pub enum Outcome {
+    Answered(Answer),
+    NoSuchCall,
+}
+
+pub fn read_columns(text: &[u8], from: usize) -> Columns {
+    let call = text::read_number(text, from, b' ');
+    let by = text::next_column(text, call);
+    let giver = text::next_column(text, by);
+    let receiver = text::next_column(text, giver);
+    let weight = text::next_column(text, receiver);
+    let need = text::next_column(text, weight);
+    let bar = text::next_column(text, need);
+    Columns {
+        call: call.value,
+        by: by.value,
+        giver: giver.value,
+        receiver: receiver.value,
+        weight: weight.value,
+        need: need.value,
+        bar: bar.value,
+        after: bar.after,
+        is_read: bar.is_read,
+    }
+}
+
+// One arm for each call of the register, by its number in the files.
+pub fn make(c: Columns, block: &mut [u8]) -> Outcome {
+    let call = c.call;
+    match call {
+        0 => Outcome::Answered(register::enrol(block, c.need)),
+        1 => Outcome::Answered(register::grant(
+            block,
+            c.giver,
+            c.receiver,
+            c.weight,
+            c.need,
+            c.bar,
+        )),
+        4 => Outcome::Answered(register::reach(block, c.giver, c.receiver)),
+        5 => Outcome::Answered(register::use_right(block, c.receiver)),
+        6 => Outcome::Answered(register::open(block)),
+        _ => Outcome::NoSuchCall,
+    }
+}

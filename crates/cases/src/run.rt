@@ -1,0 +1,107 @@
+// Runs the lines of a text, each on the block that it gives or that the line before left.
+ghost use mathlib.Core.Path.{_≡_};
+ghost use lib.ListN.{length};
+use crate::blocks;
+use crate::calls;
+use crate::calls::Columns;
+use crate::calls::Outcome;
+use crate::out;
+use crate::text;
+use register::Answer;
+
+// Where the next line begins, 0 where a line cannot be read, and the length of the block that is left.
+struct Place {
+    at: usize,
+    size: usize,
+}
+
+fn nowhere() -> Place {
+    Place { at: 0, size: 0 }
+}
+
+// Runs every line; false where one cannot be read.
+pub fn run_lines(text: &[u8], block: &mut [u8]) -> bool {
+    let mut at = 0;
+    let mut size = 0;
+    while at < text.len() {
+        let next = run_line(text, at, block, size);
+        if next.at <= at {
+            return false;
+        }
+        at = next.at;
+        size = next.size;
+    }
+    true
+}
+
+// Runs the line at `from`, on the block's first `size` bytes where it says `=`.
+fn run_line(text: &[u8], from: usize, block: &mut [u8], size: usize) -> Place {
+    let columns = calls::read_columns(text, from);
+    if !columns.is_read {
+        return nowhere();
+    }
+    let read = blocks::read_block(text, columns.after, block, size);
+    let end = text::step_over(text, read.after, b'\n');
+    if !read.is_read || !end.is_read {
+        return nowhere();
+    }
+    let n = text::within(read.size, block);
+    if !run_call(columns, &mut block[..n]) {
+        return nowhere();
+    }
+    Place {
+        at: end.after,
+        size: n,
+    }
+}
+
+// Makes the call and prints what comes out; false where there is no such call.
+fn run_call(columns: Columns, block: &mut [u8]) -> bool {
+    let before = kept(block);
+    let outcome = calls::make(columns, block);
+    match outcome {
+        Outcome::Answered(answer) => {
+            print_outcome(answer, &before, block);
+            true
+        }
+        Outcome::NoSuchCall => false,
+    }
+}
+
+// A copy of the block.
+fn kept(block: &[u8]) -> [u8; 4096]
+    ensures { λ r. ⌜ 4096 ≡ length r ⌝ }
+{
+    let mut copy = [0u8; 4096];
+    out::put_bytes(&mut copy, 0, block);
+    copy
+}
+
+// Prints `refusal first second third BLOCK`.
+fn print_outcome(answer: Answer, before: &[u8], block: &[u8]) {
+    print_answer(answer);
+    print_left(before, block);
+    out::print(b"\n");
+}
+
+// The four numbers, and a space after each.
+fn print_answer(answer: Answer) {
+    out::print_number(answer.refusal as u64);
+    out::print(b" ");
+    out::print_signed(answer.first);
+    out::print(b" ");
+    out::print_signed(answer.second);
+    out::print(b" ");
+    out::print_signed(answer.third);
+    out::print(b" ");
+}
+
+// The block that the call left, or `=` if no byte has changed.
+fn print_left(before: &[u8], block: &[u8]) {
+    let n = text::within(block.len(), before);
+    if check::same(&before[..n], block) {
+        out::print(b"=");
+        return;
+    }
+    out::print_block(block);
+}
