@@ -30,7 +30,7 @@ use Rattle.register.specs.Made.{refusedBy, answeredBy, Made}
 use Rattle.register.proofs.Made.{made-held, made-done}
 use Rattle.register.proofs.Searching.{below-weight}
 
-or-false : (x : Bool) → (x || false) ≡ x
+pub or-false : (x : Bool) → (x || false) ≡ x
 or-false true = refl
 or-false false = refl
 
@@ -61,7 +61,7 @@ both-in s g r e = let (p, q) = not-or (leb s g) (leb s r) e in (leb-false s g p,
 
 module _ (t : List ℤ) (b : List ℕ) (bytes : IsBytes b) (formed : wellFormed b ≡ true) (g r : ℕ) where
   -- the test of 9, as the code makes it
-  enrolled-test : (leb (decode b .subjects) g || (leb (decode b .subjects) r || false)) ≡ (leb (subjectsIn b) g || leb (subjectsIn b) r)
+  pub enrolled-test : (leb (decode b .subjects) g || (leb (decode b .subjects) r || false)) ≡ (leb (subjectsIn b) g || leb (subjectsIn b) r)
   enrolled-test = ap (λ (s : ℕ). leb s g || (leb s r || false)) (subjects-held b bytes formed) ∙ ap (λ (y : Bool). leb (subjectsIn b) g || y) (or-false (leb (subjectsIn b) r))
 
   -- ── reach ──

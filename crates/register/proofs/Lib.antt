@@ -3,5 +3,6 @@ pub mod Enrolling
 pub mod Using
 pub mod Searching
 pub mod Holding
+pub mod ChainWays
 pub mod History
 pub mod Exactly

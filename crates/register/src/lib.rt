@@ -1,13 +1,16 @@
 // The public calls of the register, on plain numbers and a lent block of any length and content.
+mod chaining;
 mod held;
 mod passed;
 mod reaching;
 
 ghost use mathlib.Core.Path.{_≡_};
 ghost use lib.IntN.{pos};
+ghost use denote.Ref.{ptr};
 ghost use Rattle.rules.specs.Table.{steps};
 ghost use Rattle.rules.specs.Call.{enrol, grant, askReach, askUse};
 ghost use Rattle.register.specs.Made.{refusedBy, answeredBy, Made, MadeOpen};
+ghost use Rattle.register.specs.ChainOn.{ChainMade, ChainFront};
 use block::layout;
 use rules::most;
 use rules::refusal;
@@ -18,6 +21,12 @@ pub struct Answer {
     pub first: i32,
     pub second: i32,
     pub third: i32,
+}
+
+// The refusal number of the chain call, 0 when accepted, and how many links were written.
+pub struct Written {
+    pub refusal: u32,
+    pub links: usize,
 }
 
 fn refused(number: u32) -> Answer
@@ -155,4 +164,33 @@ pub fn grant(
         bar as u16,
     );
     answered((standing + 1) as i32, 0, 0)
+}
+
+// Document 01's call chain: writes a chain that carries the weight of a standing delegation into `buf`.
+pub fn write_chain(block: &[u8], giver: u32, receiver: u32, buf: &mut [u8]) -> Written
+    ensures { λ r. ⌜ ChainMade steps (now (block .entry)) giver receiver (now (buf .entry)) r (now (buf .exit)) ⌝ }
+{
+    if block.len() != layout::BLOCK_SIZE {
+        return chaining::unwritten(refusal::WRONG_LENGTH);
+    }
+    if buf.len() < chaining::CHAIN_SIZE {
+        return chaining::unwritten(refusal::WRONG_LENGTH);
+    }
+    let n = passed::pair_passed(giver, receiver);
+    if n != 0 {
+        return chaining::unwritten(n);
+    }
+    if !block::well_formed(block) {
+        return chaining::unwritten(refusal::NOT_WELL_FORMED);
+    }
+    chaining::write_held(block, giver, receiver, buf)
+}
+
+// The same, with the filled front of `buf` handed back: empty where refused.
+pub fn chain<'a>(block: &[u8], giver: u32, receiver: u32, buf: &'a mut [u8]) -> &'a mut [u8]
+    ensures { λ r. ⌜ ChainFront steps (now (block .entry)) giver receiver (now (buf .entry)) (now r) × (ptr r ≡ ptr (buf .entry)) ⌝ }
+{
+    let written = write_chain(block, giver, receiver, buf);
+    let end = 2 * written.links;
+    &mut buf[..end]
 }

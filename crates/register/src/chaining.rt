@@ -1,0 +1,83 @@
+// The chain call on a well-formed block: a chain that carries the weight of a pair, written into a lent buffer.
+ghost use mathlib.Core.Path.{_≡_};
+ghost use mathlib.Core.Bool.{true, cond};
+ghost use Prim.Native.Nat.{_≤_, _<_};
+ghost use lib.ListN.{length};
+ghost use lib.IntN.{pos};
+ghost use lib.Signed.{ltZ};
+ghost use Rattle.rules.specs.Table.{steps};
+ghost use Rattle.rules.specs.Reach.{reach};
+ghost use Rattle.rules.specs.Pair.{weightAt};
+ghost use Rattle.rules.specs.Refusal.{firstOf, chainHeld};
+ghost use Rattle.block.specs.Block.{subjectsIn, decode};
+ghost use Rattle.block.specs.WellFormed.{wellFormed};
+ghost use Rattle.register.specs.ChainOn.{unwrittenBy, ChainLeft};
+use crate::Written;
+use crate::held;
+use crate::reaching;
+use block::layout;
+use rules::refusal;
+
+// The most links of a chain, and their bytes, two a link.
+const MOST_LINKS: usize = 63;
+
+pub const CHAIN_SIZE: usize = 126;
+
+// Refused: no link is written.
+pub fn unwritten(number: u32) -> Written
+    ensures { λ r. ⌜ r ≡ unwrittenBy number ⌝ }
+{
+    Written {
+        refusal: number,
+        links: 0,
+    }
+}
+
+// A chain of the pair that carries a weight; 16 where its reach is below that.
+fn write_carrying(
+    block: &[u8],
+    giver: usize,
+    receiver: usize,
+    weight: u8,
+    buf: &mut [u8],
+) -> Written
+    requires { ⌜ (wellFormed (now block) ≡ true) × (giver < subjectsIn (now block)) × (receiver < subjectsIn (now block)) × (126 ≤ length (now buf)) ⌝ }
+    ensures { λ r. ⌜ ChainLeft steps (decode (now (block .entry))) giver receiver (pos weight) (cond (ltZ (reach steps (decode (now (block .entry))) giver receiver) (pos weight)) 16 0) (now (buf .entry)) r (now (buf .exit)) ⌝ }
+{
+    let mut limits = [-1i16; 64];
+    let mut parents = [0u16; 64];
+    reaching::limits_for(block, receiver, &mut limits, &mut parents);
+    if limits[giver] < weight as i16 {
+        return unwritten(refusal::OVERWEIGHT);
+    }
+    let n = block::count(block);
+    let end = layout::RECORDS_AT + layout::RECORD_SIZE * n;
+    let links = search::write_links(
+        &block[layout::RECORDS_AT..end],
+        &parents,
+        giver,
+        MOST_LINKS,
+        buf,
+    );
+    Written {
+        refusal: 0,
+        links: links,
+    }
+}
+
+// The chain call past the refusals by what was passed: those by what the register holds, then the chain.
+pub fn write_held(block: &[u8], giver: u32, receiver: u32, buf: &mut [u8]) -> Written
+    requires { ⌜ (wellFormed (now block) ≡ true) × (giver ≤ 63) × (receiver ≤ 63) × (126 ≤ length (now buf)) ⌝ }
+    ensures { λ r. ⌜ ChainLeft steps (decode (now (block .entry))) giver receiver (weightAt (decode (now (block .entry)) .delegations) giver receiver) (firstOf (chainHeld steps (decode (now (block .entry))) giver receiver)) (now (buf .entry)) r (now (buf .exit)) ⌝ }
+{
+    if !held::both_enrolled(block, giver, receiver) {
+        return unwritten(refusal::NOT_ENROLLED);
+    }
+    let n = block::count(block);
+    let k = block::find(block, n, giver as u8, receiver as u8);
+    if k >= n {
+        return unwritten(refusal::NO_PAIR);
+    }
+    let weight = block::weight(block, k);
+    write_carrying(block, giver as usize, receiver as usize, weight, buf)
+}
