@@ -77,7 +77,7 @@ module _ (t : List ℤ) (b : List ℕ) (c : Call) where
           record { size = s; passed = p; formed = f; held = sym (refusal-held p) ∙ sym step-refusal ∙ z }
       go false q z = let y = sym (eq-eqb (firstOf (early b c)) 0 z) ∙ q in let n : _≡_ {A = ℕ} 0 1 = cc in absurd (omega arith)
 
-  early-through : Through t b c → firstOf (early b c) ≡ 0
+  pub early-through : Through t b c → firstOf (early b c) ≡ 0
   early-through h = rw (eq-eqb (length b) 2180 (h .size)) (firstOf-none (passed c) ((8, not (wellFormed b)) ∷ []) (passed-numbered c) (h .passed) ∙ ap (λ (x : Bool). cond (not x) 8 0) (h .formed))
 
   -- and then it is the accepted call

@@ -36,7 +36,7 @@ use Rattle.register.proofs.Made.{firstOf-none, firstOf-some}
 abbrev onBytes : Outcome → Result
 onBytes o = record { refusal = o .refusal; first = o .first; second = o .second; third = o .third; bytes = encode (o .left) }
 
-T-true : (b : Bool) → T b → b ≡ true
+pub T-true : (b : Bool) → T b → b ≡ true
 T-true true h = refl
 T-true false h = absurd h
 

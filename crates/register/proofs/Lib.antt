@@ -6,3 +6,4 @@ pub mod Holding
 pub mod ChainWays
 pub mod History
 pub mod Exactly
+pub mod Keeping

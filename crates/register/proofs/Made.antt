@@ -58,7 +58,7 @@ module _ (t : List ℤ) (c : Call) (b : List ℕ) where
       go false q = ap (λ (m : ℕ). turned m b) (sym e)
 
   -- past 1, what was passed, and 8
-  callOn-late : firstOf (early b c) ≡ 0 → callOn t b c ≡ written b (callStep t (decode b) c)
+  pub callOn-late : firstOf (early b c) ≡ 0 → callOn t b c ≡ written b (callStep t (decode b) c)
   unfolding callOn
   callOn-late e = go (eqb (firstOf (early b c)) 0) (eq-eqb (firstOf (early b c)) 0 e)
     where

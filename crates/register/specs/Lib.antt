@@ -3,3 +3,4 @@ pub mod Made
 pub mod History
 pub mod ChainOn
 pub mod Exactly
+pub mod Kept
