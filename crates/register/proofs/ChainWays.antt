@@ -34,6 +34,7 @@ use Rattle.block.proofs.Held.{held-formed, delegations-held, count-held, place-
 use Rattle.block.proofs.Splice.{pairPlace, weightAt-found}
 use Rattle.search.specs.Search.{underMarks}
 use Rattle.search.specs.Found.{linkBytes, linksOf, Searched, Traceable}
+use Rattle.search.proofs.Written.{bytes-length}
 use Rattle.search.proofs.Ready.{limit-reach, traceable}
 use Rattle.register.specs.ChainOn.{recordsIn, chainRefusalOn, unwrittenBy, ChainLeft, ChainMade, ChainFront}
 use Rattle.register.specs.declared.Written.{Written}
@@ -217,10 +218,6 @@ module _ (t : List ℤ) (b : List ℕ) (g r : ℕ) (buf : List ℕ) where
         chain-made q o after h = subst (λ (x : ℕ). ChainLeft t (decode b) g r (weightAt (decode b .delegations) g r) x buf o after) (sym (past-passed true q)) h
 
 -- ── the front handed back ──
-bytes-length : (ds : List Delegation) → length (linkBytes ds) ≡ 2 * length ds
-bytes-length [] = refl
-bytes-length (d ∷ ds) = omega (arith, bytes-length ds)
-
 module _ (t : List ℤ) (b : List ℕ) (g r : ℕ) (buf : List ℕ) (o : Written) (after : List ℕ) (made : ChainMade t b g r buf o after) where
   pub front-fits : 2 * o .links ≤ length after
   front-fits = go (eqOr (o .refusal) 0)

@@ -27,7 +27,7 @@ use Rattle.block.specs.Block.{decode}
 use Rattle.block.specs.WellFormed.{wellFormed}
 use Rattle.register.specs.CallOn.{Result, early, turned, written, callOn}
 use Rattle.register.specs.Exactly.{Grantable, GrantExactly, ReachExactly}
-use Rattle.register.proofs.Made.{firstOf-none, firstOf-some, not-false}
+use Rattle.register.proofs.Made.{firstOf-none, firstOf-some, not-false, refusal-held}
 
 -- ── a list of refusals of which none applies ──
 firstOf-head : (n : ℕ) (x : Bool) (ps : List (ℕ × Bool)) → n ≢ 0 → firstOf ((n, x) ∷ ps) ≡ 0 → (x ≡ false) × (firstOf ps ≡ 0)
@@ -57,10 +57,6 @@ module _ (t : List ℤ) (b : List ℕ) (c : Call) where
           let n : firstOf (passed c) ≢ 0 = λ z. T-not (eqb (firstOf (passed c)) 0) q (subst T (sym (eq-eqb (firstOf (passed c)) 0 z)) tt) in
           absurd (n (sym (firstOf-some (passed c) ((8, not (wellFormed b)) ∷ []) (firstOf (passed c)) (passed-numbered c) refl n) ∙ r))
 
-  refusal-held : firstOf (passed c) ≡ 0 → refusalOf t (decode b) c ≡ firstOf (held t (decode b) c)
-  unfolding refusalOf
-  refusal-held z = firstOf-none (passed c) (held t (decode b) c) (passed-numbered c) z
-
   written-refusal : (o : Outcome) → written b o .refusal ≡ o .refusal
   written-refusal o = refl
 
@@ -74,7 +70,7 @@ module _ (t : List ℤ) (b : List ℕ) (c : Call) where
       go : (x : Bool) → eqb (firstOf (early b c)) 0 ≡ x → (let r : Result = elim x [ true ↦ written b (callStep t (decode b) c) | false ↦ turned (firstOf (early b c)) b ] in r .refusal ≡ 0) → Through t b c
       go true q z =
           let (s, p, f) = early-none (eqb→eq (firstOf (early b c)) 0 (subst T (sym q) tt)) in
-          record { size = s; passed = p; formed = f; held = sym (refusal-held p) ∙ sym step-refusal ∙ z }
+          record { size = s; passed = p; formed = f; held = sym (refusal-held t c b p) ∙ sym step-refusal ∙ z }
       go false q z = let y = sym (eq-eqb (firstOf (early b c)) 0 z) ∙ q in let n : _≡_ {A = ℕ} 0 1 = cc in absurd (omega arith)
 
   pub early-through : Through t b c → firstOf (early b c) ≡ 0
@@ -90,7 +86,7 @@ module _ (t : List ℤ) (b : List ℕ) (c : Call) where
       step false q = let n : _≡_ {A = ℕ} 0 1 = cc in absurd (omega arith)
 
       go : (x : Bool) → x ≡ true → let r : Result = elim x [ true ↦ written b (callStep t (decode b) c) | false ↦ turned (firstOf (early b c)) b ] in r ≡ written b (accepted t (decode b) c)
-      go true q = step (eqb (refusalOf t (decode b) c) 0) (eq-eqb (refusalOf t (decode b) c) 0 (refusal-held (h .passed) ∙ h .held))
+      go true q = step (eqb (refusalOf t (decode b) c) 0) (eq-eqb (refusalOf t (decode b) c) 0 (refusal-held t c b (h .passed) ∙ h .held))
       go false q = let n : _≡_ {A = ℕ} 0 1 = cc in absurd (omega arith)
 
 -- ── grant ──

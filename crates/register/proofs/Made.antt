@@ -66,6 +66,10 @@ module _ (t : List ℤ) (c : Call) (b : List ℕ) where
       go true q = refl
       go false q = let z : _≡_ {A = ℕ} 0 1 = cc in absurd (omega arith)
 
+  pub refusal-held : firstOf (passed c) ≡ 0 → refusalOf t (decode b) c ≡ firstOf (held t (decode b) c)
+  unfolding refusalOf
+  refusal-held z = firstOf-none (passed c) (held t (decode b) c) (passed-numbered c) z
+
   pub made-length : length b ≢ 2180 → Made t c b (refusedBy 1) b
   made-length h = made-early 1 (rw (ne-eqb (length b) 2180 h)) (λ e. omega arith)
 
@@ -84,22 +88,18 @@ module _ (t : List ℤ) (c : Call) (b : List ℕ) where
         late : callOn t b c ≡ written b (callStep t (decode b) c)
         late = callOn-late (early-form true formed)
 
-        refusal-held : refusalOf t (decode b) c ≡ firstOf (held t (decode b) c)
-        unfolding refusalOf
-        refusal-held = firstOf-none (passed c) (held t (decode b) c) (passed-numbered c) through
-
         pub made-held : (n : ℕ) → firstOf (held t (decode b) c) ≡ n → n ≢ 0 → Made t c b (refusedBy n) b
         unfolding callStep
-        made-held n e k = sym (late ∙ go (eqb (refusalOf t (decode b) c) 0) (ap (λ (m : ℕ). eqb m 0) (refusal-held ∙ e) ∙ ne-eqb n 0 k))
+        made-held n e k = sym (late ∙ go (eqb (refusalOf t (decode b) c) 0) (ap (λ (m : ℕ). eqb m 0) (refusal-held through ∙ e) ∙ ne-eqb n 0 k))
           where
             go : (x : Bool) → x ≡ false → let o : Outcome = elim x [ true ↦ accepted t (decode b) c | false ↦ refused (refusalOf t (decode b) c) (decode b) ] in written b o ≡ turned n b
             go true q = let z : _≡_ {A = ℕ} 0 1 = cc in absurd (omega arith)
-            go false q = ap (λ (m : ℕ). written b (refused m (decode b))) (refusal-held ∙ e) ∙ rw (ne-eqb n 0 k)
+            go false q = ap (λ (m : ℕ). written b (refused m (decode b))) (refusal-held through ∙ e) ∙ rw (ne-eqb n 0 k)
 
         -- accepted: the answers and the bytes are those of the definitions
         pub made-done : firstOf (held t (decode b) c) ≡ 0 → (o : Answer) (after : List ℕ) → result o after ≡ written b (accepted t (decode b) c) → Made t c b o after
         unfolding callStep
-        made-done e o after q = q ∙ sym (late ∙ go (eqb (refusalOf t (decode b) c) 0) (eq-eqb (refusalOf t (decode b) c) 0 (refusal-held ∙ e)))
+        made-done e o after q = q ∙ sym (late ∙ go (eqb (refusalOf t (decode b) c) 0) (eq-eqb (refusalOf t (decode b) c) 0 (refusal-held through ∙ e)))
           where
             go : (x : Bool) → x ≡ true → let y : Outcome = elim x [ true ↦ accepted t (decode b) c | false ↦ refused (refusalOf t (decode b) c) (decode b) ] in written b y ≡ written b (accepted t (decode b) c)
             go true k = refl

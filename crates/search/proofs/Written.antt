@@ -12,6 +12,11 @@ use Rattle.rules.proofs.Links.{linksTo-owner, linksTo-step}
 use Rattle.rules.proofs.Lists.{eqOr}
 use Rattle.search.specs.Found.{linkBytes}
 
+-- two bytes a link
+pub bytes-length : (xs : List Delegation) → length (linkBytes xs) ≡ 2 * length xs
+bytes-length [] = refl
+bytes-length (x ∷ xs) = omega (arith, bytes-length xs)
+
 module _ (parent : ℕ → Delegation) where
   pub links-short : (k u : ℕ) → length (linksTo parent k u) ≤ k
   links-short zero u = zero-le
@@ -56,10 +61,6 @@ module _ (parent : ℕ → Delegation) where
       bytes-snoc : (xs : List Delegation) (d : Delegation) → linkBytes (xs ++ (d ∷ [])) ≡ linkBytes xs ++ (d .giver ∷ d .receiver ∷ [])
       bytes-snoc [] d = refl
       bytes-snoc (x ∷ xs) d = ap (λ (l : List ℕ). x .giver ∷ x .receiver ∷ l) (bytes-snoc xs d)
-
-      bytes-length : (xs : List Delegation) → length (linkBytes xs) ≡ 2 * length xs
-      bytes-length [] = refl
-      bytes-length (x ∷ xs) = omega (arith, bytes-length xs)
 
       -- two bytes stored after a front of length n
       pair : (l r : List ℕ) (n a b x y : ℕ) → length l ≡ n → set (set (l ++ (x ∷ y ∷ r)) n a) (n + 1) b ≡ (l ++ (a ∷ b ∷ [])) ++ r
