@@ -1,4 +1,5 @@
 // The columns of a line, and the register's call that they ask for.
+use crate::chains;
 use crate::text;
 use register::Answer;
 
@@ -57,6 +58,15 @@ pub fn make(c: Columns, block: &mut [u8]) -> Outcome {
         4 => Outcome::Answered(register::reach(block, c.giver, c.receiver)),
         5 => Outcome::Answered(register::use_right(block, c.receiver)),
         6 => Outcome::Answered(register::open(block)),
+        7 => make_chain(c, block),
         _ => Outcome::NoSuchCall,
     }
+}
+
+// The chain call; its lent buffer has as many bytes as the weight says.
+fn make_chain(c: Columns, block: &[u8]) -> Outcome {
+    if c.weight > chains::MOST_BUFFER {
+        return Outcome::NoSuchCall;
+    }
+    Outcome::Answered(chains::judge_call(block, c.giver, c.receiver, c.weight as usize))
 }

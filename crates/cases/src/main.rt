@@ -1,6 +1,7 @@
 // Runs the recorded cases of data/ through the register's public calls and prints what comes out.
 mod blocks;
 mod calls;
+mod chains;
 mod out;
 mod run;
 mod text;
@@ -12,6 +13,7 @@ const MOST_TEXT: usize = 65536;
 fn main() {
     run_kind(b"base", 2);
     run_kind(b"reach", 3);
+    run_kind(b"chain", 2);
 }
 
 fn run_kind(kind: &[u8], files: u64) {
