@@ -1,7 +1,7 @@
 -- A register as a block of bytes, and back (document 01, 'The block'). Assumes nothing.
 use mathlib.Core.List.{List, _∷_, _++_}
-use Prim.Native.Nat.{ℕ}
-use lib.ListN.{length, getD, drop}
+use Prim.Native.Nat.{ℕ, _*_}
+use lib.ListN.{length, getD, take, drop}
 use Rattle.rules.specs.List.{concatMap}
 use Rattle.rules.specs.Register.{Delegation, Register}
 use Rattle.block.specs.Layout.{countAt, marksAt, recordsAt, markSize, recordSize, marksSize, recordsSize}
@@ -24,6 +24,10 @@ subjectsIn b = getD b 0 0
 
 abbrev pub countIn : List ℕ → ℕ
 countIn b = two b countAt
+
+-- the bytes of the records that stand
+abbrev pub recordsIn : List ℕ → List ℕ
+recordsIn b = take (recordSize * countIn b) (drop recordsAt b)
 
 -- the register that a block holds
 unfoldable pub decode : List ℕ → Register

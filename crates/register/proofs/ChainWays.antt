@@ -28,7 +28,7 @@ use Rattle.rules.proofs.Refusals.{firstOf-passes, passed-numbered}
 use Rattle.rules.proofs.WellFormed.{Before-irrefl}
 use Rattle.rules.proofs.Pairs.{test-pair}
 use Rattle.block.specs.Bytes.{IsBytes, readAll, leading}
-use Rattle.block.specs.Block.{delegationIn, subjectsIn, countIn, decode}
+use Rattle.block.specs.Block.{delegationIn, subjectsIn, countIn, recordsIn, decode}
 use Rattle.block.specs.WellFormed.{wellFormed}
 use Rattle.block.proofs.Held.{held-formed, delegations-held, count-held, place-held, stands-found, stands-missing}
 use Rattle.block.proofs.Splice.{pairPlace, weightAt-found}
@@ -36,11 +36,11 @@ use Rattle.search.specs.Search.{underMarks}
 use Rattle.search.specs.Found.{linkBytes, linksOf, Searched, Traceable}
 use Rattle.search.proofs.Written.{bytes-length}
 use Rattle.search.proofs.Ready.{limit-reach, traceable}
-use Rattle.register.specs.ChainOn.{recordsIn, chainRefusalOn, unwrittenBy, ChainLeft, ChainMade, ChainFront}
+use Rattle.search.proofs.Searching.{reach-marks, records-held, lent-held, reach-found, chain-found}
+use Rattle.register.specs.ChainOn.{chainRefusalOn, unwrittenBy, ChainLeft, ChainMade, ChainFront}
 use Rattle.register.specs.declared.Written.{Written}
 use Rattle.register.proofs.Made.{firstOf-none, firstOf-some}
-use Rattle.register.proofs.Searching.{reach-marks, records-held, lent-held, reach-found, chain-found, below-weight}
-use Rattle.register.proofs.Holding.{or-false, enrolled-test}
+use Rattle.register.proofs.Holding.{below-weight, or-false, enrolled-test}
 
 -- a refused call leaves the buffer
 left-refused : (t : List ℤ) (R : Register) (g r : ℕ) (w : ℤ) (n m : ℕ) (buf : List ℕ) → n ≡ m → m ≢ 0 → ChainLeft t R g r w n buf (unwrittenBy m) buf

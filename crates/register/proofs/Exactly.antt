@@ -26,7 +26,7 @@ use Rattle.rules.proofs.Calls.{accepted-refusal, callStep-cases}
 use Rattle.block.specs.Block.{decode}
 use Rattle.block.specs.WellFormed.{wellFormed}
 use Rattle.register.specs.CallOn.{Result, early, turned, written, callOn}
-use Rattle.register.specs.Exactly.{Grantable, GrantExactly, ReachExactly}
+use Rattle.register.specs.Exactly.{Grantable, GrantExactly, ReachAnswer, ReachExactly}
 use Rattle.register.proofs.Made.{firstOf-none, firstOf-some, not-false, refusal-held}
 
 -- ── a list of refusals of which none applies ──
@@ -137,8 +137,8 @@ module _ (t : List ℤ) (b : List ℕ) (g r : ℕ) (e : callOn t b (askReach g r
   unfolding accepted
   answer-reach = ap (λ (x : Result). x .first) (through-on t b (askReach g r) (through t b (askReach g r) e))
 
-  pub reach-exactly : ReachExactly t b g r
-  reach-exactly = record {
+  answers-reach : ReachAnswer t b g r
+  answers-reach = record {
     none-only = λ q ds c. let h = is .bounds ds c in omega (arith, c .live, ap code (sym answer-reach ∙ q));
     none-whenever = λ h. answer-reach ∙ no-chain h (is .attained);
     some-only = λ k q. (attains k (sym answer-reach ∙ q) (is .attained), λ ds c. subst (λ (z : ℤ). limit t ds ≼ z) (sym answer-reach ∙ q) (is .bounds ds c));
@@ -157,3 +157,6 @@ module _ (t : List ℤ) (b : List ℕ) (g r : ℕ) (e : callOn t b (askReach g r
           → (ds : List Delegation) × IsChain t (decode b) g r ds × (limit t ds ≡ pos k)
       attains k q (inl z) = let y = ap code (sym q ∙ z) in absurd (omega arith)
       attains k q (inr z) = (z .0, z .1, sym (z .2) ∙ q)
+
+pub reach-exactly : (t : List ℤ) (b : List ℕ) (g r : ℕ) → ReachExactly t b g r
+reach-exactly t b g r e = answers-reach t b g r e

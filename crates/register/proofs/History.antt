@@ -8,6 +8,7 @@ use borrow.Author.Tests.{eq-eqb, ne-eqb}
 use lib.Dec.{T, eqb, eqb→eq, T-not}
 use lib.ListN.{length}
 use lib.IntN.{ℤ, pos}
+use Rattle.rules.specs.List.{At}
 use Rattle.rules.specs.Table.{TableRule, steps}
 use Rattle.rules.specs.Register.{Register}
 use Rattle.rules.specs.Round.{SettlesIn}
@@ -29,7 +30,7 @@ use Rattle.block.proofs.Encode.{length-encode, decode-encode}
 use Rattle.block.proofs.Form.{encode-formed}
 use Rattle.register.specs.CallOn.{Result, early, turned, written, callOn}
 use Rattle.register.specs.Made.{result}
-use Rattle.register.specs.History.{Entry, calls, History, At, blockFrom, CutLeft, PlaceRight, Demand3}
+use Rattle.register.specs.History.{Entry, calls, History, blockFrom, CutLeft, PlaceRight, Demand3}
 use Rattle.register.proofs.Made.{firstOf-none, firstOf-some}
 
 -- an outcome on a register, with its register written

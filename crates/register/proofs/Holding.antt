@@ -7,9 +7,9 @@ use Prim.Native.Nat.{ℕ, suc, _+_, _≤_, _<_}
 use native.Mathlib.Omega.{arith}
 use borrow.Author.Tests.{leb-false, lt-ltb, le-ltb, le-leb, lt-leb}
 use lib.Bits.{bitAnd}
-use lib.Dec.{T, eqb, leb, ltb, leb→le, nleb→lt, nltb→le}
+use lib.Dec.{T, eqb, leb, leb·suc-suc, ltb, leb→le, nleb→lt, nltb→le}
 use lib.ListN.{length}
-use lib.IntN.{ℤ, pos}
+use lib.IntN.{ℤ, pos, negsuc}
 use lib.Signed.{ltZ}
 use Rattle.rules.specs.Limit.{code}
 use Rattle.rules.specs.Register.{withDelegations}
@@ -28,7 +28,6 @@ use Rattle.block.specs.WellFormed.{wellFormed}
 use Rattle.block.proofs.Held.{held-written, subjects-held, count-held}
 use Rattle.register.specs.Made.{refusedBy, answeredBy, Made}
 use Rattle.register.proofs.Made.{made-held, made-done}
-use Rattle.register.proofs.Searching.{below-weight}
 
 pub or-false : (x : Bool) → (x || false) ≡ x
 or-false true = refl
@@ -54,6 +53,11 @@ not-back false e = let z : _≡_ {A = ℕ} 0 1 = cc in absurd (omega arith)
 not-on : (x : Bool) → not x ≡ true → x ≡ false
 not-on true e = let z : _≡_ {A = ℕ} 0 1 = cc in absurd (omega arith)
 not-on false e = refl
+
+-- the test of a limit against a weight, as the code and as the definition make it
+pub below-weight : (z : ℤ) (w : ℕ) → ltZ z (pos w) ≡ ltb (code z) (suc w)
+below-weight (pos n) w = sym (leb·suc-suc (suc n) w)
+below-weight (negsuc n) w = sym (lt-ltb 0 (suc w) (omega arith))
 
 -- both are enrolled
 pub both-in : (s g r : ℕ) → not (leb s g || leb s r) ≡ true → (g < s) × (r < s)

@@ -1,7 +1,6 @@
 pub mod Made
 pub mod Enrolling
 pub mod Using
-pub mod Searching
 pub mod Holding
 pub mod ChainWays
 pub mod History

@@ -29,11 +29,15 @@ pub record GrantExactly (t : List ℤ) (b : List ℕ) (g r w n m : ℕ) : Type 0
   pub only : callOn t b (grant g r w n m) .refusal ≡ 0 → Grantable t b g r w n m
   pub whenever : Grantable t b g r w n m → callOn t b (grant g r w n m) .refusal ≡ 0
 
--- an accepted reach answers -1 exactly when there is no chain, and k exactly when some chain has the limit k and none a larger one
-pub record ReachExactly (t : List ℤ) (b : List ℕ) (g r : ℕ) : Type 0 where
+-- reach answers -1 exactly when there is no chain, and k exactly when some chain has the limit k and none a larger one
+pub record ReachAnswer (t : List ℤ) (b : List ℕ) (g r : ℕ) : Type 0 where
   pub none-only : callOn t b (askReach g r) .first ≡ none → (ds : List Delegation) → IsChain t (decode b) g r ds → ⊥
   pub none-whenever : ((ds : List Delegation) → IsChain t (decode b) g r ds → ⊥) → callOn t b (askReach g r) .first ≡ none
   pub some-only : (k : ℕ) → callOn t b (askReach g r) .first ≡ pos k
       → ((ds : List Delegation) × IsChain t (decode b) g r ds × (limit t ds ≡ pos k)) × ((ds : List Delegation) → IsChain t (decode b) g r ds → limit t ds ≼ pos k)
   pub some-whenever : (k : ℕ) → (ds : List Delegation) → IsChain t (decode b) g r ds → limit t ds ≡ pos k → ((es : List Delegation) → IsChain t (decode b) g r es → limit t es ≼ pos k)
       → callOn t b (askReach g r) .first ≡ pos k
+
+-- of every accepted reach
+abbrev pub ReachExactly : List ℤ → List ℕ → ℕ → ℕ → Type 0
+ReachExactly t b g r = callOn t b (askReach g r) .refusal ≡ 0 → ReachAnswer t b g r

@@ -3,6 +3,7 @@ use mathlib.Core.Path.{_≡_}
 use mathlib.Core.List.{List, [], _∷_, map}
 use Prim.Native.Nat.{ℕ, zero, suc}
 use lib.IntN.{ℤ, pos}
+use Rattle.rules.specs.List.{At}
 use Rattle.rules.specs.Register.{Register}
 use Rattle.rules.specs.Round.{SettlesIn}
 use Rattle.rules.specs.Cut.{Cut, named, dropped, lowered}
@@ -26,12 +27,6 @@ calls es = map (λ e. e .call) es
 abbrev pub History : List ℤ → List ℕ → List Entry → Type 0
 History t b [] = Unit {0}
 History t b (e ∷ es) = Made t (e .call) b (e .answer) (e .after) × History t (e .after) es
-
--- e stands at place i
-abbrev pub At : List Entry → ℕ → Entry → Type 0
-At [] i e = ⊥
-At (x ∷ xs) zero e = x ≡ e
-At (x ∷ xs) (suc i) e = At xs i e
 
 -- the block that the definitions lead to after the first i calls, from b on: by the calls alone, never by a block that the module left
 abbrev pub blockFrom : List ℤ → List ℕ → List Call → ℕ → List ℕ

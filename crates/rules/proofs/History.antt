@@ -5,6 +5,7 @@ use mathlib.Core.List.{List, [], _∷_}
 use Prim.Native.Nat.{ℕ, zero, suc}
 use lib.IntN.{ℤ}
 use mathlib.Core.List.{List·Memᴰ·not-nil}
+use Rattle.rules.specs.List.{At}
 use Rattle.rules.specs.Table.{TableRule, steps}
 use Rattle.rules.specs.Register.{Register}
 use Rattle.rules.specs.Support.{Supported}
@@ -14,7 +15,7 @@ use Rattle.rules.specs.WellFormed.{WellFormed}
 use Rattle.rules.specs.Call.{Call, enrol, grant, revoke, downgrade, askReach, askUse, fresh, IsCut}
 use Rattle.rules.specs.CallStep.{Outcome, cut, accepted, callStep}
 use Rattle.rules.specs.Trace.{registerFrom}
-use Rattle.rules.specs.History.{Entry, calls, History, At, CutRight, PlaceRight, Demand3}
+use Rattle.rules.specs.History.{Entry, calls, History, CutRight, PlaceRight, Demand3}
 use Rattle.rules.proofs.Table.{steps-rule}
 use Rattle.rules.proofs.Rounds.{settle-right, settle-best}
 use Rattle.rules.proofs.Calls.{fresh-formed, callStep-cases, callStep-formed, callStep-supported}

@@ -34,9 +34,6 @@ pub T-not-not : (b : Bool) → T b → T (not (not b))
 T-not-not true h = tt
 T-not-not false h = h
 
-pub T-of : {a b : Bool} → a ≡ b → T a → T b
-T-of e h = subst T e h
-
 -- a test holds, or its negation does
 pub either : (b : Bool) → T b ⊎ T (not b)
 either true = inl tt

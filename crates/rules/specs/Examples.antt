@@ -6,7 +6,7 @@ use lib.IntN.{ℤ, pos}
 use Rattle.rules.specs.Limit.{none}
 use Rattle.rules.specs.Table.{steps}
 use Rattle.rules.specs.Register.{Delegation}
-use Rattle.rules.specs.Call.{Call, enrol, grant, revoke, downgrade, askReach, askUse}
+use Rattle.rules.specs.Call.{Call, enrol, grant, revoke, downgrade, askReach, askUse, granted}
 use Rattle.rules.specs.CallStep.{Outcome}
 use Rattle.rules.specs.Trace.{trace}
 
@@ -59,10 +59,10 @@ abbrev pub plain : ℕ → ℕ → ℕ → Call
 plain g r w = grant g r w 0 0
 
 abbrev pub entry : ℕ → ℕ → ℕ → Delegation
-entry g r w = record { giver = g; receiver = r; weight = w; need = 0; bar = 0 }
+entry g r w = granted g r w 0 0
 
 abbrev pub needing : ℕ → ℕ → ℕ → ℕ → Delegation
-needing g r w n = record { giver = g; receiver = r; weight = w; need = n; bar = 0 }
+needing g r w n = granted g r w n 0
 
 abbrev pub one : ℤ → Line
 one a = line 0 a (pos 0) (pos 0)

@@ -1,8 +1,9 @@
 -- Demand 3 in its register form: one claim about a whole list of calls (document 01, 'Calls'). Assumes nothing.
 use mathlib.Core.Path.{_≡_}
 use mathlib.Core.List.{List, [], _∷_, map}
-use Prim.Native.Nat.{ℕ, zero, suc}
+use Prim.Native.Nat.{ℕ, suc}
 use lib.IntN.{ℤ, pos}
+use Rattle.rules.specs.List.{At}
 use Rattle.rules.specs.Register.{Register}
 use Rattle.rules.specs.Support.{Supported}
 use Rattle.rules.specs.Round.{SettlesIn}
@@ -25,12 +26,6 @@ calls es = map (λ e. e .call) es
 abbrev pub History : List ℤ → Register → List Entry → Type 0
 History t R [] = Unit {0}
 History t R (e ∷ es) = (e .outcome ≡ callStep t R (e .call)) × History t (e .outcome .left) es
-
--- e stands at place i
-abbrev pub At : List Entry → ℕ → Entry → Type 0
-At [] i e = ⊥
-At (x ∷ xs) zero e = x ≡ e
-At (x ∷ xs) (suc i) e = At xs i e
 
 -- what an accepted cut answers and leaves, from the register C after its named change: the best remainder; dropped and lowered, counted against it; the rounds, as many as change
 -- something and the one that changes nothing

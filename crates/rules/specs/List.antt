@@ -1,5 +1,6 @@
--- Lists: membership, the elements that pass a test, whether one does, the values of a function, the lists that a function makes of the
+-- Lists: membership, places, the elements that pass a test, whether one does, the values of a function, the lists that a function makes of the
 -- elements joined, and no number twice. Assumes nothing.
+use mathlib.Core.Path.{_≡_}
 use mathlib.Core.Logic.{_≢_}
 use mathlib.Core.Bool.{Bool, true, false, _||_}
 use mathlib.Core.List.{List, [], _∷_, _++_, List·Memᴰ}
@@ -23,6 +24,12 @@ module _ {A : Type 0} where
   abbrev pub any : (A → Bool) → List A → Bool
   any f [] = false
   any f (x ∷ xs) = f x || any f xs
+
+  -- x stands at place i
+  abbrev pub At : List A → ℕ → A → Type 0
+  At [] i x = ⊥
+  At (y ∷ ys) zero x = y ≡ x
+  At (y ∷ ys) (suc i) x = At ys i x
 
   -- f at i, i + 1, and so on: n values
   abbrev pub tabulate : (ℕ → A) → ℕ → ℕ → List A

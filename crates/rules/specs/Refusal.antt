@@ -106,6 +106,3 @@ chainPassed g r = noSubject (g ∷ r ∷ []) ∷ equalPair g r ∷ toOwner r ∷
 
 abbrev pub chainHeld : List ℤ → Register → ℕ → ℕ → List (ℕ × Bool)
 chainHeld t R g r = notEnrolled R (g ∷ r ∷ []) ∷ noPair R g r ∷ overweight t R (filter (isPair g r) (R .delegations)) ∷ []
-
-unfoldable pub chainRefusal : List ℤ → Register → ℕ → ℕ → ℕ
-chainRefusal t R g r = firstOf (chainPassed g r ++ chainHeld t R g r)

@@ -7,3 +7,4 @@ pub mod State
 pub mod Whole
 pub mod Written
 pub mod Ready
+pub mod Searching

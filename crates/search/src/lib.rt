@@ -8,9 +8,12 @@ ghost use Rattle.search.specs.Found.{Searched};
 
 mod heavy;
 mod links;
+mod on_block;
 mod run;
 
 pub use links::write_links;
+pub use on_block::limits_for;
+pub use on_block::reach_of;
 
 // 255 at the owner, none elsewhere, no parents.
 fn start(limits: &mut [i16], parents: &mut [u16])

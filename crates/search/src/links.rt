@@ -4,6 +4,7 @@ ghost use mathlib.Core.List.{_++_};
 ghost use Prim.Native.Nat.{_*_, _≤_};
 ghost use lib.ListN.{length, drop};
 ghost use Rattle.search.specs.Found.{Traceable, linksOf, linkBytes};
+use block::layout;
 
 // At most `left` links up to a subject, the owner's end first, two bytes each; how many.
 pub fn write_links(
@@ -22,9 +23,9 @@ pub fn write_links(
     if subject == 0 {
         return 0;
     }
-    let at = 8 * (parents[subject] as usize);
+    let at = layout::RECORD_SIZE * (parents[subject] as usize);
     let giver = records[at];
-    let receiver = records[at + 1];
+    let receiver = records[at + layout::RECEIVER];
     let n = write_links(records, parents, giver as usize, left - 1, buf);
     buf[2 * n] = giver;
     buf[2 * n + 1] = receiver;

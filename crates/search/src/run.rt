@@ -6,6 +6,7 @@ ghost use Rattle.rules.specs.WellFormed.{Rising};
 ghost use Rattle.search.specs.Search.{Lent};
 ghost use Rattle.search.specs.Steps.{recordAt, Stepped, Ran, Sought, Gave};
 ghost use Rattle.search.specs.Found.{delegationsIn};
+use block::layout;
 
 // The record at `at`: where it raises its receiver, the limit is stored, and `place` as the receiver's parent.
 fn relax_at(
@@ -21,11 +22,11 @@ fn relax_at(
     requires { ⌜ (at + 8 ≤ length (now run)) × (place < 65536) × (length (now table) ≡ 256) × (length (now limits) ≡ 64) × (length (now parents) ≡ 64) × (getD (now run) (at + 1) 0 < 64) ⌝ }
     ensures { λ _. ⌜ Stepped (now (table .entry)) limit marks (recordAt (now (run .entry)) at) place (now (limits .entry)) (now (parents .entry)) (now (limits .exit)) (now (parents .exit)) ⌝ }
 {
-    let need = block::read_two(run, at + 4);
-    let bar = block::read_two(run, at + 6);
+    let need = block::read_two(run, at + layout::NEED);
+    let bar = block::read_two(run, at + layout::BAR);
     if rules::meets(marks, need, bar) {
-        let receiver = run[at + 1] as usize;
-        let given = rules::next(table, limit, run[at + 2]);
+        let receiver = run[at + layout::RECEIVER] as usize;
+        let given = rules::next(table, limit, run[at + layout::WEIGHT]);
         if limits[receiver] < given {
             limits[receiver] = given;
             parents[receiver] = place as u16;
@@ -46,10 +47,19 @@ fn relax_run(
     requires { ⌜ (first + length (now run) / 8 ≤ 256) × (length (now table) ≡ 256) × (length (now limits) ≡ 64) × (length (now parents) ≡ 64) × ((k : ℕ) → k < length (now run) / 8 → getD (now run) (8 * k + 1) 0 < 64) ⌝ }
     ensures { λ _. ⌜ Ran (now (table .entry)) limit marks (now (run .entry)) first (now (limits .entry)) (now (parents .entry)) (length (now (run .entry)) / 8) (now (limits .exit)) (now (parents .exit)) ⌝ }
 {
-    let n = run.len() / 8;
+    let n = run.len() / layout::RECORD_SIZE;
     let mut k: usize = 0;
     while k < n {
-        relax_at(run, 8 * k, first + k, limit, marks, table, limits, parents);
+        relax_at(
+            run,
+            layout::RECORD_SIZE * k,
+            first + k,
+            limit,
+            marks,
+            table,
+            limits,
+            parents,
+        );
         k += 1;
     }
 }
@@ -59,10 +69,10 @@ fn seek(records: &[u8], low: usize, bound: usize) -> usize
     requires { ⌜ (low ≤ length (now records) / 8) × ((k : ℕ) → k < low → getD (now records) (8 * k) 0 < bound) × Rising (delegationsIn (now records)) ⌝ }
     ensures { λ r. ⌜ Sought (now (records .entry)) low bound r ⌝ }
 {
-    let n = records.len() / 8;
+    let n = records.len() / layout::RECORD_SIZE;
     let mut k = low;
     while k < n {
-        let giver = records[8 * k] as usize;
+        let giver = records[layout::RECORD_SIZE * k] as usize;
         if bound <= giver {
             return k;
         }
@@ -87,7 +97,7 @@ pub fn relax_giver(
     let e = seek(records, a, giver + 1);
     let limit = limits[giver];
     relax_run(
-        &records[8 * a..8 * e],
+        &records[layout::RECORD_SIZE * a..layout::RECORD_SIZE * e],
         a,
         limit,
         marks,

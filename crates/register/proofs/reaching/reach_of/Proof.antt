@@ -1,42 +1,25 @@
--- `register::reach_of` is the reach of the pair. Assumes nothing.
+-- `register::reach_of` is the reach of the pair by document 01's table. Assumes nothing.
 use borrow.Author.Needs.{needs}
 use mathlib.Core.Path.{_∙_}
-use Prim.Native.Nat.{_-_}
 use native.Mathlib.Omega.{arith}
 use mir.Syntax.{w16}
 use mir.Facts.{toZ-ofZ}
-use Rattle.rules.specs.Table.{steps}
-use Rattle.block.proofs.Bytes.{fits-bytes}
-use Rattle.block.proofs.Held.{rules-of}
-use Rattle.register.proofs.Searching.{reach-found}
+use Rattle.rules.proofs.Table.{steps-rule}
 use Rattle.register.proofs.reaching.reach_of.Statement.{statement}
 use Rattle.register.proofs.reaching.reach_of.Tie as tie
 
-slice-aggregate-limits-for : tie.Need-slice-aggregate-limits-for
-slice-aggregate-limits-for c = search needs
+steps-requires : tie.Need-steps-requires
+steps-requires c κs = search needs
 
-slice-aggregate-limits-for-2 : tie.Need-slice-aggregate-limits-for-2
-slice-aggregate-limits-for-2 c = search needs
+slice-aggregate-reach-of : tie.Need-slice-aggregate-reach-of
+slice-aggregate-reach-of c = search needs
 
-limits-for-requires : tie.Need-limits-for-requires
-limits-for-requires c κs = search needs
-
-mul-result : tie.Need-mul-result
-mul-result c = omega (arith, rules-of (c .before .before .before .before .before .before .args .block .now) (fits-bytes (c .before .before .before .before .before .before .args .block .now) (c .before .before .before .before .before .shared-slice-known .given)) (c .before .before .before .before .before .before .pre .0) .most, c .before .before .before .before .before .before .pre .1)
-
-array-copy-out-result : tie.Need-array-copy-out-result
-array-copy-out-result c = omega (arith, rules-of (c .before .before .before .before .before .before .args .block .now) (fits-bytes (c .before .before .before .before .before .before .args .block .now) (c .before .before .before .before .before .shared-slice-known .given)) (c .before .before .before .before .before .before .pre .0) .most, c .before .before .before .before .before .before .pre .1)
+reach-of-requires : tie.Need-reach-of-requires
+reach-of-requires c κs = let p = c .before .before .before .pre in rw (c .before .steps .ensures) (p .0, steps-rule, p .1, p .2)
 
 returns : tie.Need-returns
-returns c = toZ-ofZ {w = w16} record { sfits = c .result .given } ∙ reach-found (c .before .before .before .before .before .before .before .args .block .now) (fits-bytes (c .before .before .before .before .before .before .before .args .block .now) (c .before .before .before .before .before .before .shared-slice-known .given)) (c .before .before .before .before .before .before .before .pre .0) steps (c .before .before .before .before .before .before .before .args .receiver) (c .before .before .before .limits-for .last .1 .1 .0) (c .before .before .before .limits-for .last .1 .1 .1 .0) (c .before .before .before .limits-for .ensures) (c .before .before .before .before .before .before .before .args .giver) (omega (arith, rules-of (c .before .before .before .before .before .before .before .args .block .now) (fits-bytes (c .before .before .before .before .before .before .before .args .block .now) (c .before .before .before .before .before .before .shared-slice-known .given)) (c .before .before .before .before .before .before .before .pre .0) .most, c .before .before .before .before .before .before .before .pre .1))
+returns c = toZ-ofZ {w = w16} {z = c .reach-of .result} record { sfits = omega (arith, c .reach-of .ok) } ∙ (rw (c .before .before .steps .ensures) at (c .reach-of .ensures))
 
 pub reach-of-spec : {M : Type 1} → statement M
 reach-of-spec =
-    tie.close
-    (tie.spec
-    slice-aggregate-limits-for
-    slice-aggregate-limits-for-2
-    limits-for-requires
-    mul-result
-    array-copy-out-result
-    returns)
+    tie.close (tie.spec steps-requires slice-aggregate-reach-of reach-of-requires returns)

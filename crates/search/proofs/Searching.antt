@@ -6,14 +6,11 @@ use mathlib.Core.List.{List, _∷_}
 use Prim.Native.Nat.{ℕ, zero, suc, _+_, _*_, _/_, _≤_, _<_}
 use native.Mathlib.Nat.{zero-add, add-zero, add-suc, suc-add, mul-div-right}
 use native.Mathlib.Omega.{arith}
-use borrow.Author.Tests.{lt-ltb}
-use lib.Dec.{leb·suc-suc, ltb}
 use lib.ListN.{length, getD, drop, length-take, length-drop}
 use lib.Seq.{getD-take, getD-drop}
-use lib.IntN.{ℤ, pos, negsuc}
-use lib.Signed.{ltZ}
+use lib.IntN.{ℤ, pos}
 use Rattle.rules.specs.List.{_∈_, tabulate}
-use Rattle.rules.specs.Limit.{none, code}
+use Rattle.rules.specs.Limit.{none}
 use Rattle.rules.specs.Table.{TableRule}
 use Rattle.rules.specs.Register.{Delegation, Register, marksOf}
 use Rattle.rules.specs.Chain.{limit, IsChain}
@@ -22,12 +19,11 @@ use Rattle.rules.specs.Links.{linksTo}
 use Rattle.rules.specs.WellFormed.{Rising}
 use Rattle.rules.proofs.Lists.{getD-tabulate}
 use Rattle.block.specs.Bytes.{IsBytes}
-use Rattle.block.specs.Block.{marksIn, delegationIn, subjectsIn, countIn, decode}
+use Rattle.block.specs.Block.{marksIn, delegationIn, subjectsIn, countIn, recordsIn, decode}
 use Rattle.block.specs.WellFormed.{wellFormed}
 use Rattle.block.proofs.Held.{held-formed, size-held, count-most, delegations-held}
 use Rattle.search.specs.Search.{delegationsOf, underMarks, Lent, parentIn}
 use Rattle.search.specs.Found.{delegationsIn, Searched}
-use Rattle.register.specs.ChainOn.{recordsIn}
 
 tabulate-below : {A : Type 0} (f g : ℕ → A) (i n : ℕ) → ((k : ℕ) → k < n → f (i + k) ≡ g (i + k)) → tabulate f i n ≡ tabulate g i n
 tabulate-below f g i zero h = refl
@@ -125,8 +121,3 @@ module _ (b : List ℕ) (bytes : IsBytes b) (formed : wellFormed b ≡ true) whe
                   (subst (λ (x : List Delegation). IsChain t (underMarks x (marksOf (decode b) v)) u 0 (linksTo (parentIn (delegationsIn (recordsIn b)) p) 63 u)) records-held (r .0)),
               sym same ∙ r .1,
             )
-
--- the test of a limit against a weight, as the code and as the definition make it
-pub below-weight : (z : ℤ) (w : ℕ) → ltZ z (pos w) ≡ ltb (code z) (suc w)
-below-weight (pos n) w = sym (leb·suc-suc (suc n) w)
-below-weight (negsuc n) w = sym (lt-ltb 0 (suc w) (omega arith))

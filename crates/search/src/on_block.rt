@@ -1,0 +1,47 @@
+// The search on a well-formed block: the reaches of the register that it holds.
+ghost use mathlib.Core.Path.{_≡_};
+ghost use mathlib.Core.Bool.{true};
+ghost use Prim.Native.Nat.{_<_};
+ghost use lib.ListN.{length};
+ghost use Rattle.rules.specs.Table.{TableRule};
+ghost use Rattle.rules.specs.Register.{marksOf};
+ghost use Rattle.rules.specs.Reach.{reach};
+ghost use Rattle.block.specs.Block.{subjectsIn, recordsIn, decode};
+ghost use Rattle.block.specs.WellFormed.{wellFormed};
+ghost use Rattle.search.specs.Found.{Searched};
+use crate::search;
+use block::layout;
+
+// The reach of every subject for a receiver, and the parents by which each is reached.
+pub fn limits_for(
+    block: &[u8],
+    table: &[i16],
+    receiver: usize,
+    limits: &mut [i16],
+    parents: &mut [u16],
+)
+    requires { ⌜ (wellFormed (now block) ≡ true) × TableRule (now table) × (receiver < subjectsIn (now block)) × (length (now limits) ≡ 64) × (length (now parents) ≡ 64) ⌝ }
+    ensures { λ _. ⌜ Searched (now (table .entry)) (recordsIn (now (block .entry))) (marksOf (decode (now (block .entry))) receiver) (now (limits .exit)) (now (parents .exit)) ⌝ }
+{
+    let n = block::count(block);
+    let marks = block::marks(block, receiver);
+    let end = layout::RECORDS_AT + layout::RECORD_SIZE * n;
+    search(
+        &block[layout::RECORDS_AT..end],
+        table,
+        marks,
+        limits,
+        parents,
+    );
+}
+
+// The reach of one pair.
+pub fn reach_of(block: &[u8], table: &[i16], giver: usize, receiver: usize) -> i16
+    requires { ⌜ (wellFormed (now block) ≡ true) × TableRule (now table) × (giver < subjectsIn (now block)) × (receiver < subjectsIn (now block)) ⌝ }
+    ensures { λ r. ⌜ r ≡ reach (now (table .entry)) (decode (now (block .entry))) giver receiver ⌝ }
+{
+    let mut limits = [-1i16; 64];
+    let mut parents = [0u16; 64];
+    limits_for(block, table, receiver, &mut limits, &mut parents);
+    limits[giver]
+}
