@@ -34,7 +34,7 @@ use Rattle.rules.proofs.Refusals.{Passes, passes}
 use Rattle.rules.proofs.Pairs.{IsPair, none-stands, insert-mem, mem-insert, insert-length, insert-rising, rising-filter, rising-map}
 
 -- ── well formed ──
-removed-formed : (R : Register) (g r : ℕ) → WellFormed R → WellFormed (named R (removal g r))
+pub removed-formed : (R : Register) (g r : ℕ) → WellFormed R → WellFormed (named R (removal g r))
 unfolding named
 removed-formed R g r f = record {
   some = f .some;
@@ -47,7 +47,7 @@ removed-formed R g r f = record {
   each = λ d m. f .each d (filter-mem (λ (x : Delegation). not (isPair g r x)) (R .delegations) m .0);
 }
 
-lowered-formed : (R : Register) (g r w : ℕ) → w ≤ 255 → WellFormed R → WellFormed (named R (lowering g r w))
+pub lowered-formed : (R : Register) (g r w : ℕ) → w ≤ 255 → WellFormed R → WellFormed (named R (lowering g r w))
 unfolding named
 lowered-formed R g r w h f = record {
   some = f .some;

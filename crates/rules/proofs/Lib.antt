@@ -10,6 +10,7 @@ pub mod WellFormed
 pub mod Refusals
 pub mod Pairs
 pub mod Calls
+pub mod Ranges
 pub mod History
 pub mod Certificate
 pub mod Search

@@ -1,6 +1,6 @@
 -- The rounds of a cut end, in one way, and what they leave is the best remainder: for every register after a named change. Assumes nothing.
 use mathlib.Core.Path.{_≡_, refl, sym, ap, subst, _∙_}
-use mathlib.Core.Logic.{_⊎_, inl, inr}
+use mathlib.Core.Logic.{_≢_, _⊎_, inl, inr}
 use mathlib.Core.Bool.{Bool, true, false, not}
 use mathlib.Core.List.{List, [], _∷_, _++_, List·Memᴰ·head, List·Memᴰ·tail, List·Memᴰ·not-nil}
 use Prim.Native.Nat.{ℕ, zero, suc, _+_, _≤_, _<_, min}
@@ -135,6 +135,14 @@ module _ (f : Delegation → ℤ) where
 module _ (t : List ℤ) where
   round-eq : (R : Register) → round t R .delegations ≡ R .delegations → round t R ≡ R
   round-eq R e = λ i. record { subjects = R .subjects; marks = R .marks; delegations = e i }
+
+  -- a round that changes something lowers the total
+  pub round-falls : (R : Register) → round t R ≢ R → total (round t R .delegations) < total (R .delegations)
+  round-falls R n = go (cappedAll-either (allowed t R) (R .delegations))
+    where
+      go : T (same (round t R .delegations) (R .delegations)) ⊎ (total (round t R .delegations) < total (R .delegations)) → total (round t R .delegations) < total (R .delegations)
+      go (inl s) = absurd (n (round-eq R (same→eq _ _ s)))
+      go (inr s) = s
 
   -- the fuel is enough
   pub settleFrom-right : (k : ℕ) (R : Register) → total (R .delegations) < k → SettlesIn t (settleFrom t k R .changed) R (settleFrom t k R .left)

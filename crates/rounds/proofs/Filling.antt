@@ -1,0 +1,86 @@
+-- The table of reaches, filled row by row. Assumes nothing.
+use mathlib.Core.Path.{_≡_, refl, sym, ap, subst, _∙_}
+use mathlib.Core.Logic.{_≢_, _⊎_, inl, inr}
+use mathlib.Core.Bool.{Bool, true, false, _||_}
+use mathlib.Core.List.{List, [], _∷_, _++_, List·Memᴰ·head, List·Memᴰ·tail}
+use Prim.Native.Nat.{ℕ, _+_, _*_, _-_, _≤_, _<_}
+use native.Mathlib.Omega.{arith}
+use lib.ListN.{length, getD, take, drop, List·getD-append}
+use lib.Seq.{length-take-le, getD-append-add, getD-take, getD-drop}
+use borrow.Author.Tests.{eq-eqb}
+use lib.Dec.{eqb}
+use lib.IntN.{ℤ, pos}
+use Rattle.rules.specs.List.{_∈_}
+use Rattle.rules.specs.Register.{Delegation, Register}
+use Rattle.rules.specs.Reach.{reach}
+use Rattle.rules.specs.Support.{allowed}
+use Rattle.rules.specs.Pair.{receives}
+use Rattle.rules.specs.WellFormed.{WellFormed}
+use Rattle.rules.proofs.Lists.{eqOr}
+use Rattle.block.proofs.Bytes.{length-tabulate}
+use Rattle.search.specs.Search.{underMarks}
+use Rattle.search.specs.Found.{delegationsIn, Searched}
+use Rattle.rounds.specs.Rounded.{reachAt, Row, Tabled}
+
+-- a search finds the reach of 64 subjects
+pub row-length : (t : List ℤ) (s : List ℕ) (m : ℕ) (l : List ℤ) (p : List ℕ) → Searched t s m l p → length l ≡ 64
+row-length t s m l p h = ap length (h .limits) ∙ length-tabulate (λ u. reach t (underMarks (delegationsIn s) m) u 0) 0 64
+
+module _ {A : Type 0} (l ys : List A) (a k : ℕ) (z : A) (fits : a + k ≤ length l) (size : length ys ≡ k) where
+  front : length (take a l) ≡ a
+  front = length-take-le a l (omega arith)
+
+  -- a place of the part put back
+  pub put-in : (i : ℕ) → i < k → getD (take a l ++ (ys ++ drop k (drop a l))) (a + i) z ≡ getD ys i z
+  put-in i h =
+      ap (λ (m : ℕ). getD (take a l ++ (ys ++ drop k (drop a l))) (m + i) z) (sym front)
+      ∙ getD-append-add (take a l) (ys ++ drop k (drop a l)) i z
+      ∙ List·getD-append ys (drop k (drop a l)) z i (omega arith)
+
+  -- a place before it, or after it
+  pub put-out : (i : ℕ) → (i < a) ⊎ (a + k ≤ i) → getD (take a l ++ (ys ++ drop k (drop a l))) i z ≡ getD l i z
+  put-out i (inl h) = List·getD-append (take a l) (ys ++ drop k (drop a l)) z i (omega (arith, front)) ∙ getD-take a l i z h
+  put-out i (inr h) =
+      let e : i ≡ length (take a l) + (length ys + (i - (a + k))) = omega (arith, front) in
+      let f : a + (k + (i - (a + k))) ≡ i = omega arith in
+      ap (λ (m : ℕ). getD (take a l ++ (ys ++ drop k (drop a l))) m z) e
+      ∙ getD-append-add (take a l) (ys ++ drop k (drop a l)) (length ys + (i - (a + k))) z
+      ∙ getD-append-add ys (drop k (drop a l)) (i - (a + k)) z
+      ∙ getD-drop k (drop a l) (i - (a + k)) z
+      ∙ getD-drop a l (k + (i - (a + k))) z
+      ∙ ap (λ (m : ℕ). getD l m z) f
+
+-- a receiver of some delegation receives
+receives-mem : {d : Delegation} {ds : List Delegation} → d ∈ ds → receives (d .receiver) ds ≡ true
+receives-mem {d} (List·Memᴰ·head {x = x} {xs = xs} e) = rw (eq-eqb (x .receiver) (d .receiver) (ap (λ (y : Delegation). y .receiver) (sym e)))
+receives-mem {d} (List·Memᴰ·tail {x = x} {xs = xs} m) = go (eqb (x .receiver) (d .receiver)) (receives-mem m)
+  where
+    go : (b : Bool) → receives (d .receiver) xs ≡ true → (b || receives (d .receiver) xs) ≡ true
+    go true e = refl
+    go false e = e
+
+module _ (t : List ℤ) (R : Register) where
+  -- the rows of the receivers below v are filled
+  abbrev pub Filled : ℕ → List ℤ → Type 0
+  Filled v l = (r : ℕ) → r < v → receives r (R .delegations) ≡ true → Row t R r l
+
+  pub filled-none : (l : List ℤ) → Filled 0 l
+  filled-none l r h = absurd (omega arith)
+
+  pub filled-skip : (v : ℕ) (l : List ℤ) → Filled v l → receives v (R .delegations) ≡ false → Filled (v + 1) l
+  filled-skip v l f n r h k = go (eqOr r v)
+    where
+      go : (r ≡ v) ⊎ (r ≢ v) → Row t R r l
+      go (inl e) = let z : true ≡ false = sym k ∙ ap (λ (x : ℕ). receives x (R .delegations)) e ∙ n in let w : _≡_ {A = ℕ} 0 1 = cc in absurd (omega arith)
+      go (inr e) = f r (omega arith) k
+
+  pub filled-on : (v : ℕ) (l m : List ℤ) → Filled v l → Row t R v m → ((i : ℕ) → (i < 64 * v) ⊎ (64 * v + 64 ≤ i) → getD m i (pos 0) ≡ getD l i (pos 0)) → Filled (v + 1) m
+  filled-on v l m f row out r h k = go (eqOr r v)
+    where
+      go : (r ≡ v) ⊎ (r ≢ v) → Row t R r m
+      go (inl e) = subst (λ (x : ℕ). Row t R x m) (sym e) row
+      go (inr e) = λ u q. out (reachAt u r) (inl (omega arith)) ∙ f r (omega arith) k u q
+
+  pub filled-tabled : WellFormed R → (v : ℕ) → v ≡ R .subjects → (l : List ℤ) → Filled v l → Tabled t R l
+  unfolding allowed
+  filled-tabled w v e l f d m = f (d .receiver) (omega (arith, w .each d m .receiver)) (receives-mem m) (d .giver) (omega (arith, w .each d m .giver, w .most))

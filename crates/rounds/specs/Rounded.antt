@@ -1,0 +1,51 @@
+-- What the parts of a round find, lower and leave, for the register R that a block holds and the step table t. Assumes nothing.
+use mathlib.Core.Path.{_≡_}
+use mathlib.Core.Bool.{Bool, true, false, cond}
+use mathlib.Core.List.{List, [], _++_}
+use Prim.Native.Nat.{ℕ, zero, suc, _+_, _*_, _≤_, _<_}
+use lib.ListN.{getD}
+use lib.IntN.{ℤ, pos}
+use lib.Signed.{ltZ}
+use Rattle.rules.specs.List.{_∈_}
+use Rattle.rules.specs.Register.{Delegation, Register}
+use Rattle.rules.specs.Reach.{reach}
+use Rattle.rules.specs.Support.{allowed}
+use Rattle.rules.specs.Round.{placed}
+
+-- where the reach of a giver and a receiver is kept in the table of reaches
+abbrev pub reachAt : ℕ → ℕ → ℕ
+reachAt g r = 64 * r + g
+
+-- row r of the table of reaches holds the reach of every giver for the receiver r
+abbrev pub Row : List ℤ → Register → ℕ → List ℤ → Type 0
+Row t R r l = (u : ℕ) → u < 64 → getD l (reachAt u r) (pos 0) ≡ reach t R u r
+
+-- the table of reaches holds what counts for every delegation
+abbrev pub Tabled : List ℤ → Register → List ℤ → Type 0
+Tabled t R l = (d : Delegation) → d ∈ R .delegations → getD l (reachAt (d .giver) (d .receiver)) (pos 0) ≡ allowed t R d
+
+-- the first n of the delegations f, decoded: giver, receiver and weight, one array each
+pub record Decoded (f : ℕ → Delegation) (n : ℕ) (givers receivers : List ℕ) (weights : List ℤ) : Type 0 where
+  pub giver : (k : ℕ) → k < n → getD givers k 0 ≡ f k .giver
+  pub receiver : (k : ℕ) → k < n → getD receivers k 0 ≡ f k .receiver
+  pub weight : (k : ℕ) → k < n → getD weights k (pos 0) ≡ pos (f k .weight)
+
+-- a weight lowered to a reach below it
+abbrev pub lesser : ℤ → ℤ → ℤ
+lesser l w = cond (ltZ l w) l w
+
+-- the reach that the table has for the delegation at place k
+abbrev pub reachOf : List ℕ → List ℕ → List ℤ → ℕ → ℤ
+reachOf givers receivers reaches k = getD reaches (reachAt (getD givers k 0) (getD receivers k 0)) (pos 0)
+
+-- the first n weights are lowered to their reaches, all others stay; the answer says whether one changed
+pub record Lowered (reaches : ℕ → ℤ) (n : ℕ) (before : List ℤ) (changed : Bool) (after : List ℤ) : Type 0 where
+  pub each : (k : ℕ) → k < n → getD after k (pos 0) ≡ lesser (reaches k) (getD before k (pos 0))
+  pub rest : (k : ℕ) → n ≤ k → getD after k (pos 0) ≡ getD before k (pos 0)
+  pub same : changed ≡ false → (k : ℕ) → k < n → ltZ (reaches k) (getD before k (pos 0)) ≡ false
+  pub less : changed ≡ true → (k : ℕ) × (k < n) × (ltZ (reaches k) (getD before k (pos 0)) ≡ true)
+
+-- what is left of the first k delegations, each at its new weight; -1 removes it
+abbrev pub leftTo : (ℕ → Delegation) → List ℤ → ℕ → List Delegation
+leftTo f weights zero = []
+leftTo f weights (suc k) = leftTo f weights k ++ placed (f k) (getD weights k (pos 0))

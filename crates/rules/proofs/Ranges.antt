@@ -1,0 +1,105 @@
+-- The answers of an accepted call on a well-formed register are in range. Assumes nothing.
+use mathlib.Core.Path.{_≡_, refl, sym, subst}
+use mathlib.Core.Logic.{_⊎_, inl, inr}
+use mathlib.Core.Bool.{Bool, true, false, not, cond, _&&_, _||_}
+use mathlib.Core.List.{List, [], _∷_, _++_, List·Memᴰ·head, List·Memᴰ·tail}
+use Prim.Native.Nat.{ℕ, zero, suc, _+_, _*_, _≤_, zero-le}
+use native.Mathlib.Nat.{le-refl}
+use native.Mathlib.Omega.{arith}
+use lib.Dec.{T, leb, eqb, nleb→lt, nltb→le}
+use lib.ListN.{length}
+use lib.IntN.{ℤ, pos, negsuc}
+use Rattle.rules.specs.List.{_∈_, keep, filter}
+use Rattle.rules.specs.Limit.{none, code, _≼_, fromNone}
+use Rattle.rules.specs.Table.{TableRule}
+use Rattle.rules.specs.Register.{Delegation, Register}
+use Rattle.rules.specs.Chain.{limit, IsChain}
+use Rattle.rules.specs.Reach.{reach}
+use Rattle.rules.specs.Pair.{weightAt, stands, receives}
+use Rattle.rules.specs.Round.{round, total, settle, SettlesIn}
+use Rattle.rules.specs.Cut.{removal, lowering, named, isDropped, isLowered, dropped, lowered}
+use Rattle.rules.specs.WellFormed.{WellFormed}
+use Rattle.rules.specs.Call.{Call, enrol, grant, revoke, downgrade, askReach, askUse, granted}
+use Rattle.rules.specs.Refusal.{passed, held}
+use Rattle.rules.specs.CallStep.{Outcome, cut, accepted, callStep}
+use Rattle.rules.specs.Ranges.{FromTo, CutInRange, InRange}
+use Rattle.rules.proofs.Chains.{limitFrom-top}
+use Rattle.rules.proofs.Reach.{reach-attained}
+use Rattle.rules.proofs.Rounds.{round-falls, settle-right}
+use Rattle.rules.proofs.Refusals.{Passes}
+use Rattle.rules.proofs.Pairs.{insert-length}
+use Rattle.rules.proofs.Calls.{removed-formed, lowered-formed, callStep-cases}
+
+-- ── two tests that no element passes together ──
+module _ {A : Type 0} (f g : A → Bool) (apart : (x : A) → T (f x) → T (not (g x))) where
+  filter-apart : (xs : List A) → length (filter f xs) + length (filter g xs) ≤ length xs
+  filter-apart [] = zero-le
+  filter-apart (x ∷ xs) = go (f x) (g x) (apart x) (filter-apart xs)
+    where
+      go : (a b : Bool) → (T a → T (not b)) → length (filter f xs) + length (filter g xs) ≤ length xs → length (keep a x (filter f xs)) + length (keep b x (filter g xs)) ≤ suc (length xs)
+      go true true h l = absurd (h tt)
+      go true false h l = omega arith
+      go false true h l = omega arith
+      go false false h l = omega arith
+
+-- a delegation that does not stand is not lowered
+dropped-lowered : (F : Register) (d : Delegation) → T (isDropped F d) → T (not (isLowered F d))
+dropped-lowered F d = go (stands F (d .giver) (d .receiver)) (leb (code (weightAt (F .delegations) (d .giver) (d .receiver))) (d .weight))
+  where
+    go : (a b : Bool) → T (not a) → T (not (a && b))
+    go true b h = absurd h
+    go false b h = tt
+
+pub both-few : (C F : Register) → dropped C F + lowered C F ≤ length (C .delegations)
+both-few C F = filter-apart (isDropped F) (isLowered F) (dropped-lowered F) (C .delegations)
+
+-- ── rounds ──
+
+-- each round that changes something lowers the total
+pub settles-most : (t : List ℤ) (n : ℕ) (C F : Register) → SettlesIn t n C F → n ≤ total (C .delegations)
+settles-most t zero C F s = zero-le
+settles-most t (suc n) C F s = omega (arith, round-falls t C (s .0), settles-most t n (round t C) F (s .1))
+
+total-most : (ds : List Delegation) → ((d : Delegation) → d ∈ ds → d .weight ≤ 255) → total ds ≤ 256 * length ds
+total-most [] h = zero-le
+total-most (d ∷ ds) h = omega (arith, h d (List·Memᴰ·head refl), total-most ds (λ e m. h e (List·Memᴰ·tail m)))
+
+pub settle-most : (t : List ℤ) (C : Register) → WellFormed C → settle t C .changed ≤ 65536
+settle-most t C f = omega (arith, settles-most t (settle t C .changed) C (settle t C .left) (settle-right t C), total-most (C .delegations) (λ d m. f .each d m .weight), f .few)
+
+-- ── each call ──
+cut-range : (t : List ℤ) (C : Register) → WellFormed C → let o = cut t C in CutInRange (o .first) (o .second) (o .third)
+unfolding cut
+cut-range t C f =
+    let s = settle t C in
+    ((dropped C (s .left), lowered C (s .left), refl, refl, omega (arith, both-few C (s .left), f .few)), (suc (s .changed), refl, omega arith, omega (arith, settle-most t C f)))
+
+pub reach-range : (t : List ℤ) → TableRule t → (R : Register) (u v : ℕ) → T (fromNone (reach t R u v)) × (reach t R u v ≼ pos 255)
+unfolding fromNone
+reach-range t rule R u v = go (reach-attained t R u v)
+  where
+    live : (z : ℤ) → pos 0 ≼ z → T (fromNone z)
+    live (pos n) h = tt
+    live (negsuc n) h = absurd (omega arith)
+
+    go : (reach t R u v ≡ none) ⊎ ((ds : List Delegation) × IsChain t R u v ds × (reach t R u v ≡ limit t ds)) → T (fromNone (reach t R u v)) × (reach t R u v ≼ pos 255)
+    go (inl e) = subst (λ (z : ℤ). T (fromNone z) × (z ≼ pos 255)) (sym e) (tt, zero-le)
+    go (inr (ds, c, e)) = subst (λ (z : ℤ). T (fromNone z) × (z ≼ pos 255)) (sym e) (live (limit t ds) (c .live), limitFrom-top t rule (pos 255) ds (le-refl 256))
+
+use-range : (b : Bool) → FromTo 0 1 (pos (cond b 1 0))
+use-range true = (1, refl, zero-le, le-refl 1)
+use-range false = (0, refl, zero-le, zero-le)
+
+accepted-range : (t : List ℤ) → TableRule t → (R : Register) (c : Call) → Passes (passed c ++ held t R c) → WellFormed R → let o = accepted t R c in InRange c (o .first) (o .second) (o .third)
+unfolding accepted passed held
+accepted-range t rule R (enrol m) p f = ((R .subjects, refl, f .some, omega (arith, nleb→lt 64 (R .subjects) (p .1 .0))), refl, refl)
+accepted-range t rule R (grant g r w n b) p f =
+    let e = insert-length (granted g r w n b) (R .delegations) in
+    ((_, refl, omega (arith, e), omega (arith, e, nleb→lt 256 (length (R .delegations)) (p .1 .1 .1 .1 .1 .1 .1 .0))), refl, refl)
+accepted-range t rule R (revoke y g r) p f = cut-range t (named R (removal g r)) (removed-formed R g r f)
+accepted-range t rule R (downgrade y g r w) p f = cut-range t (named R (lowering g r w)) (lowered-formed R g r w (nltb→le 255 w (p .1 .0)) f)
+accepted-range t rule R (askReach g r) p f = let (a, b) = reach-range t rule R g r in (a, b, refl, refl)
+accepted-range t rule R (askUse r) p f = (use-range (eqb r 0 || receives r (R .delegations)), refl, refl)
+
+pub callStep-range : (t : List ℤ) → TableRule t → (R : Register) (c : Call) → WellFormed R → callStep t R c .refusal ≡ 0 → let o = callStep t R c in InRange c (o .first) (o .second) (o .third)
+callStep-range t rule R c f = callStep-cases t R c (λ (o : Outcome). o .refusal ≡ 0 → InRange c (o .first) (o .second) (o .third)) (λ z p q. accepted-range t rule R c p f) (λ n q. absurd (n q))
