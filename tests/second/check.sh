@@ -45,7 +45,7 @@ generate() {
 
 # The kinds of cases that the program crates/cases runs: their cases are its
 # data, what is expected of them its standard output, in this order.
-run="base reach chain"
+run="base reach chain cut"
 
 # Splits what was generated as it is committed.
 committed_form() {

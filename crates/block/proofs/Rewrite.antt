@@ -17,7 +17,7 @@ use Rattle.block.proofs.Bytes.{length-written}
 use Rattle.block.proofs.Encode.{marksPart, recordsPart, record-wide, length-marksPart}
 use Rattle.block.proofs.Splice.{spliced-in, spliced-out}
 
-concatMap-append : {A : Type 0} (f : A → List ℕ) (xs ys : List A) → concatMap f (xs ++ ys) ≡ concatMap f xs ++ concatMap f ys
+pub concatMap-append : {A : Type 0} (f : A → List ℕ) (xs ys : List A) → concatMap f (xs ++ ys) ≡ concatMap f xs ++ concatMap f ys
 concatMap-append f [] ys = refl
 concatMap-append f (x ∷ xs) ys = ap (λ (s : List ℕ). f x ++ s) (concatMap-append f xs ys) ∙ sym (append-assoc (f x) (concatMap f xs) (concatMap f ys))
 

@@ -55,6 +55,8 @@ pub fn make(c: Columns, block: &mut [u8]) -> Outcome {
             c.need,
             c.bar,
         )),
+        2 => Outcome::Answered(register::revoke(block, c.by, c.giver, c.receiver)),
+        3 => Outcome::Answered(register::downgrade(block, c.by, c.giver, c.receiver, c.weight)),
         4 => Outcome::Answered(register::reach(block, c.giver, c.receiver)),
         5 => Outcome::Answered(register::use_right(block, c.receiver)),
         6 => Outcome::Answered(register::open(block)),

@@ -14,6 +14,7 @@ fn main() {
     run_kind(b"base", 2);
     run_kind(b"reach", 3);
     run_kind(b"chain", 2);
+    run_kind(b"cut", 7);
 }
 
 fn run_kind(kind: &[u8], files: u64) {

@@ -4,7 +4,7 @@ use mathlib.Core.Logic.{_≢_, _⊎_, inl, inr}
 use mathlib.Core.Bool.{Bool, true, false, not, cond, _||_}
 use mathlib.Core.List.{List, [], _∷_, _++_, List·Memᴰ·head, List·Memᴰ·tail}
 use Prim.Native.Nat.{ℕ, zero, suc, _*_, _≤_, _<_}
-use native.Mathlib.Nat.{le-of-suc-le-suc, not-suc-le-zero, zero-add}
+use native.Mathlib.Nat.{le-of-suc-le-suc, not-suc-le-zero}
 use native.Mathlib.Omega.{arith}
 use borrow.Author.Tests.{eq-eqb, ne-eqb, lt-ltb, le-ltb, ltb-false}
 use lib.Dec.{T, ltb, leb, not-T, nltb→le}
@@ -23,24 +23,25 @@ use Rattle.rules.specs.Pair.{isPair, weightAt, stands}
 use Rattle.rules.specs.WellFormed.{Rising}
 use Rattle.rules.specs.Call.{askReach, granted}
 use Rattle.rules.specs.Refusal.{firstOf, passed, chainHeld}
-use Rattle.rules.proofs.Lists.{eqOr, getD-tabulate, not-or-left, not-or-right}
+use Rattle.rules.proofs.Lists.{eqOr, not-or-left, not-or-right}
 use Rattle.rules.proofs.Refusals.{firstOf-passes, passed-numbered}
 use Rattle.rules.proofs.WellFormed.{Before-irrefl}
 use Rattle.rules.proofs.Pairs.{test-pair}
 use Rattle.block.specs.Bytes.{IsBytes, readAll, leading}
 use Rattle.block.specs.Block.{delegationIn, subjectsIn, countIn, recordsIn, decode}
 use Rattle.block.specs.WellFormed.{wellFormed}
-use Rattle.block.proofs.Held.{held-formed, delegations-held, count-held, place-held, stands-found, stands-missing}
-use Rattle.block.proofs.Splice.{pairPlace, weightAt-found}
+use Rattle.block.proofs.Held.{held-formed, stands-found, stands-missing}
+use Rattle.block.proofs.Splice.{pairPlace}
 use Rattle.search.specs.Search.{underMarks}
 use Rattle.search.specs.Found.{linkBytes, linksOf, Searched, Traceable}
+use Rattle.search.proofs.Signed.{below-weight}
 use Rattle.search.proofs.Written.{bytes-length}
 use Rattle.search.proofs.Ready.{limit-reach, traceable}
 use Rattle.search.proofs.Searching.{reach-marks, records-held, lent-held, reach-found, chain-found}
 use Rattle.register.specs.ChainOn.{chainRefusalOn, unwrittenBy, ChainLeft, ChainMade, ChainFront}
 use Rattle.register.specs.declared.Written.{Written}
 use Rattle.register.proofs.Made.{firstOf-none, firstOf-some}
-use Rattle.register.proofs.Holding.{below-weight, or-false, enrolled-test}
+use Rattle.register.proofs.Holding.{or-false, at-place, place-inside, weight-stands, enrolled-test}
 
 -- a refused call leaves the buffer
 left-refused : (t : List ℤ) (R : Register) (g r : ℕ) (w : ℤ) (n m : ℕ) (buf : List ℕ) → n ≡ m → m ≢ 0 → ChainLeft t R g r w n buf (unwrittenBy m) buf
@@ -133,28 +134,15 @@ module _ (t : List ℤ) (b : List ℕ) (bytes : IsBytes b) (formed : wellFormed 
         (chain-first false false (any (λ d. ltb (code (allowed t (decode b) d)) (suc (d .weight))) (filter (isPair g r) (decode b .delegations))) both (stands-missing b bytes formed g r k place l) refl) (λ z. omega arith)
 
     module _ (found : k < countIn b) where
-      -- the record at the pair's place is its delegation
-      at-place : getD (decode b .delegations) (pairPlace g r (decode b .delegations)) (granted 0 0 0 0 0) ≡ delegationIn (drop (8 * k) (drop 132 b))
-      at-place =
-          ap (λ (i : ℕ). getD (decode b .delegations) i (granted 0 0 0 0 0)) (sym (place-held b bytes formed g r k place))
-          ∙ ap (λ (ds : List Delegation). getD ds k (granted 0 0 0 0 0)) (delegations-held b bytes formed)
-          ∙ getD-tabulate (λ i. delegationIn (drop (8 * i) (drop 132 b))) (granted 0 0 0 0 0) 0 (countIn b) k found
-          ∙ ap (λ (i : ℕ). delegationIn (drop (8 * i) (drop 132 b))) (zero-add k)
-
-      inside : pairPlace g r (decode b .delegations) < length (decode b .delegations)
-      inside = omega (arith, place-held b bytes formed g r k place, count-held b bytes formed, found)
-
-      weight-stands : weightAt (decode b .delegations) g r ≡ pos (delegationIn (drop (8 * k) (drop 132 b)) .weight)
-      weight-stands = weightAt-found g r (decode b .delegations) (granted 0 0 0 0 0) inside ∙ ap (λ (x : Delegation). pos (x .weight)) at-place
-
       -- the test of 16, as the code makes it
       heavy-test : any (λ x. ltb (code (allowed t (decode b) x)) (suc (x .weight))) (filter (isPair g r) (decode b .delegations))
           ≡ ltZ (reach t (decode b) g r) (pos (delegationIn (drop (8 * k) (drop 132 b)) .weight))
       unfolding allowed
       heavy-test =
-          let (e, h) = one-pair g r (decode b .delegations) (granted 0 0 0 0 0) (held-formed b bytes formed .rising) inside in
-          let q = test-pair g r (delegationIn (drop (8 * k) (drop 132 b))) (subst (λ (x : Delegation). T (isPair g r x)) at-place h) in
-          ap (any (λ x. ltb (code (allowed t (decode b) x)) (suc (x .weight)))) (e ∙ ap (λ (x : Delegation). x ∷ []) at-place)
+          let a = at-place b bytes formed g r k place found in
+          let (e, h) = one-pair g r (decode b .delegations) (granted 0 0 0 0 0) (held-formed b bytes formed .rising) (place-inside b bytes formed g r k place found) in
+          let q = test-pair g r (delegationIn (drop (8 * k) (drop 132 b))) (subst (λ (x : Delegation). T (isPair g r x)) a h) in
+          ap (any (λ x. ltb (code (allowed t (decode b) x)) (suc (x .weight)))) (e ∙ ap (λ (x : Delegation). x ∷ []) a)
           ∙ or-false (ltb (code (allowed t (decode b) (delegationIn (drop (8 * k) (drop 132 b))))) (suc (delegationIn (drop (8 * k) (drop 132 b)) .weight)))
           ∙ (λ j. ltb (code (reach t (decode b) (q .0 j) (q .1 j))) (suc (delegationIn (drop (8 * k) (drop 132 b)) .weight)))
           ∙ sym (below-weight (reach t (decode b) g r) (delegationIn (drop (8 * k) (drop 132 b)) .weight))
@@ -164,7 +152,7 @@ module _ (t : List ℤ) (b : List ℕ) (bytes : IsBytes b) (formed : wellFormed 
           → ChainLeft t (decode b) g r (pos w) (cond (ltZ (reach t (decode b) g r) (pos w)) 16 0) buf o after
           → ChainLeft t (decode b) g r (weightAt (decode b .delegations) g r) (firstOf (chainHeld t (decode b) g r)) buf o after
       chain-carried w e buf o after q =
-          let v : pos w ≡ weightAt (decode b .delegations) g r = ap pos e ∙ sym weight-stands in
+          let v : pos w ≡ weightAt (decode b .delegations) g r = ap pos e ∙ sym (weight-stands b bytes formed g r k place found) in
           let n : cond (ltZ (reach t (decode b) g r) (pos w)) 16 0 ≡ firstOf (chainHeld t (decode b) g r) =
           ap (λ (x : ℕ). cond (ltZ (reach t (decode b) g r) (pos x)) 16 0) e ∙ sym (chain-first false true (ltZ (reach t (decode b) g r) (pos (delegationIn (drop (8 * k) (drop 132 b)) .weight))) both (stands-found b bytes formed g r k place found) heavy-test) in
           subst (λ (x : ℕ). ChainLeft t (decode b) g r (weightAt (decode b .delegations) g r) x buf o after) n

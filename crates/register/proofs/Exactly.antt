@@ -18,7 +18,7 @@ use Rattle.rules.specs.Support.{allowed, Carried}
 use Rattle.rules.specs.Call.{Call, grant, askReach, granted}
 use Rattle.rules.specs.Refusal.{firstOf, passed, held, notEnrolled, pairStands, allStand, overweight, refusalOf}
 use Rattle.rules.specs.CallStep.{Outcome, accepted, refused, callStep}
-use Rattle.rules.proofs.Lists.{either}
+use Rattle.rules.proofs.Lists.{either, not-false}
 use Rattle.rules.proofs.Refusals.{passed-numbered}
 use Rattle.rules.proofs.Reach.{reach-is, reach-only}
 use Rattle.rules.proofs.Support.{allowed-carried, carried-allowed}
@@ -27,7 +27,7 @@ use Rattle.block.specs.Block.{decode}
 use Rattle.block.specs.WellFormed.{wellFormed}
 use Rattle.register.specs.CallOn.{Result, early, turned, written, callOn}
 use Rattle.register.specs.Exactly.{Grantable, GrantExactly, ReachAnswer, ReachExactly}
-use Rattle.register.proofs.Made.{firstOf-none, firstOf-some, not-false, refusal-held}
+use Rattle.register.proofs.Made.{firstOf-none, firstOf-some, refusal-held}
 
 -- ── a list of refusals of which none applies ──
 firstOf-head : (n : ℕ) (x : Bool) (ps : List (ℕ × Bool)) → n ≢ 0 → firstOf ((n, x) ∷ ps) ≡ 0 → (x ≡ false) × (firstOf ps ≡ 0)

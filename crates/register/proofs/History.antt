@@ -30,11 +30,12 @@ use Rattle.block.proofs.Encode.{length-encode, decode-encode}
 use Rattle.block.proofs.Form.{encode-formed}
 use Rattle.register.specs.CallOn.{Result, early, turned, written, callOn}
 use Rattle.register.specs.Made.{result}
-use Rattle.register.specs.History.{Entry, calls, History, blockFrom, CutLeft, PlaceRight, Demand3}
+use Rattle.register.specs.Cuts.{CutLeft}
+use Rattle.register.specs.History.{Entry, calls, History, blockFrom, PlaceRight, Demand3}
 use Rattle.register.proofs.Made.{firstOf-none, firstOf-some}
 
 -- an outcome on a register, with its register written
-abbrev onBytes : Outcome → Result
+abbrev pub onBytes : Outcome → Result
 onBytes o = record { refusal = o .refusal; first = o .first; second = o .second; third = o .third; bytes = encode (o .left) }
 
 pub T-true : (b : Bool) → T b → b ≡ true
@@ -99,11 +100,11 @@ module _ (t : List ℤ) (rule : TableRule t) where
       left : decode (e .after) ≡ callStep t R (e .call) .left
       left = ap (λ (r : Result). decode (r .bytes)) o ∙ decode-encode (callStep t R (e .call) .left) (callStep-formed t R (e .call) f)
 
-      cut-left : (k : Cut) → IsCut (e .call) k → e .answer .refusal ≡ 0 → CutLeft t (named (decode (encode R)) k) e
+      cut-left : (k : Cut) → IsCut (e .call) k → e .answer .refusal ≡ 0 → CutLeft t (named (decode (encode R)) k) (e .answer) (e .after)
       cut-left k i z =
           let r = callStep-cut t rule R (e .call) k i (sym (ap (λ (x : Result). x .refusal) o) ∙ z) in
           let C : named (decode (encode R)) k ≡ named R k = ap (λ (S : Register). named S k) (decode-encode R f) in
-          subst (λ (D : Register). CutLeft t D e) (sym C) record {
+          subst (λ (D : Register). CutLeft t D (e .answer) (e .after)) (sym C) record {
             best = subst (λ (S : Register). Best t (named R k) S) (sym left) (r .best);
             dropped = ap (λ (x : Result). x .first) o ∙ r .dropped ∙ ap (λ (S : Register). pos (dropped (named R k) S)) (sym left);
             lowered = ap (λ (x : Result). x .second) o ∙ r .lowered ∙ ap (λ (S : Register). pos (lowered (named R k) S)) (sym left);

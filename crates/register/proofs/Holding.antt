@@ -3,29 +3,32 @@ use mathlib.Core.Path.{_≡_, refl, sym, ap, subst, _∙_}
 use mathlib.Core.Logic.{_⊎_, inl, inr}
 use mathlib.Core.Bool.{Bool, true, false, cond, not, _||_}
 use mathlib.Core.List.{List}
-use Prim.Native.Nat.{ℕ, suc, _+_, _≤_, _<_}
+use Prim.Native.Nat.{ℕ, suc, _+_, _*_, _≤_, _<_}
+use native.Mathlib.Nat.{zero-add}
 use native.Mathlib.Omega.{arith}
 use borrow.Author.Tests.{leb-false, lt-ltb, le-ltb, le-leb, lt-leb}
 use lib.Bits.{bitAnd}
-use lib.Dec.{T, eqb, leb, leb·suc-suc, ltb, leb→le, nleb→lt, nltb→le}
-use lib.ListN.{length}
-use lib.IntN.{ℤ, pos, negsuc}
+use lib.Dec.{T, eqb, leb, ltb, leb→le, nleb→lt, nltb→le}
+use lib.ListN.{length, getD, drop}
+use lib.IntN.{ℤ, pos}
 use lib.Signed.{ltZ}
 use Rattle.rules.specs.Limit.{code}
-use Rattle.rules.specs.Register.{withDelegations}
+use Rattle.rules.specs.Register.{Delegation, withDelegations}
 use Rattle.rules.specs.Reach.{reach}
 use Rattle.rules.specs.Support.{allowed}
-use Rattle.rules.specs.Pair.{stands}
+use Rattle.rules.specs.Pair.{isPair, weightAt, stands}
 use Rattle.rules.specs.Call.{grant, askReach, granted}
 use Rattle.rules.specs.Refusal.{firstOf, passed, held}
 use Rattle.rules.specs.CallStep.{insert, accepted}
-use Rattle.rules.proofs.Lists.{either, not-or-left, not-or-right}
+use Rattle.rules.proofs.Lists.{either, getD-tabulate, not-or-left, not-or-right, not-true, not-false}
 use Rattle.rules.proofs.Refusals.{Passes, firstOf-passes, passed-numbered}
 use Rattle.rules.proofs.Pairs.{insert-length}
-use Rattle.block.specs.Bytes.{IsBytes}
-use Rattle.block.specs.Block.{subjectsIn, countIn, decode, encode}
+use Rattle.block.specs.Bytes.{IsBytes, readAll, leading}
+use Rattle.block.specs.Block.{delegationIn, subjectsIn, countIn, decode, encode}
 use Rattle.block.specs.WellFormed.{wellFormed}
-use Rattle.block.proofs.Held.{held-written, subjects-held, count-held}
+use Rattle.block.proofs.Held.{held-written, subjects-held, delegations-held, count-held, place-held}
+use Rattle.block.proofs.Splice.{pairPlace, weightAt-found}
+use Rattle.search.proofs.Signed.{below-weight}
 use Rattle.register.specs.Made.{refusedBy, answeredBy, Made}
 use Rattle.register.proofs.Made.{made-held, made-done}
 
@@ -46,22 +49,26 @@ not-or true y e = let z : _≡_ {A = ℕ} 0 1 = cc in absurd (omega arith)
 not-or false true e = let z : _≡_ {A = ℕ} 0 1 = cc in absurd (omega arith)
 not-or false false e = (refl, refl)
 
-not-back : (x : Bool) → not x ≡ false → x ≡ true
-not-back true e = refl
-not-back false e = let z : _≡_ {A = ℕ} 0 1 = cc in absurd (omega arith)
-
-not-on : (x : Bool) → not x ≡ true → x ≡ false
-not-on true e = let z : _≡_ {A = ℕ} 0 1 = cc in absurd (omega arith)
-not-on false e = refl
-
--- the test of a limit against a weight, as the code and as the definition make it
-pub below-weight : (z : ℤ) (w : ℕ) → ltZ z (pos w) ≡ ltb (code z) (suc w)
-below-weight (pos n) w = sym (leb·suc-suc (suc n) w)
-below-weight (negsuc n) w = sym (lt-ltb 0 (suc w) (omega arith))
-
 -- both are enrolled
 pub both-in : (s g r : ℕ) → not (leb s g || leb s r) ≡ true → (g < s) × (r < s)
 both-in s g r e = let (p, q) = not-or (leb s g) (leb s r) e in (leb-false s g p, leb-false s r q)
+
+-- ── the delegation of a pair that stands ──
+module _ (b : List ℕ) (bytes : IsBytes b) (formed : wellFormed b ≡ true) (g r k : ℕ) (place : k ≡ leading (λ d. not (isPair g r d)) (readAll delegationIn 8 (drop 132 b) (countIn b)))
+    (found : k < countIn b) where
+  -- the record at the pair's place is its delegation
+  pub at-place : getD (decode b .delegations) (pairPlace g r (decode b .delegations)) (granted 0 0 0 0 0) ≡ delegationIn (drop (8 * k) (drop 132 b))
+  at-place =
+      ap (λ (i : ℕ). getD (decode b .delegations) i (granted 0 0 0 0 0)) (sym (place-held b bytes formed g r k place))
+      ∙ ap (λ (ds : List Delegation). getD ds k (granted 0 0 0 0 0)) (delegations-held b bytes formed)
+      ∙ getD-tabulate (λ i. delegationIn (drop (8 * i) (drop 132 b))) (granted 0 0 0 0 0) 0 (countIn b) k found
+      ∙ ap (λ (i : ℕ). delegationIn (drop (8 * i) (drop 132 b))) (zero-add k)
+
+  pub place-inside : pairPlace g r (decode b .delegations) < length (decode b .delegations)
+  place-inside = omega (arith, place-held b bytes formed g r k place, count-held b bytes formed, found)
+
+  pub weight-stands : weightAt (decode b .delegations) g r ≡ pos (delegationIn (drop (8 * k) (drop 132 b)) .weight)
+  weight-stands = weightAt-found g r (decode b .delegations) (granted 0 0 0 0 0) place-inside ∙ ap (λ (x : Delegation). pos (x .weight)) at-place
 
 module _ (t : List ℤ) (b : List ℕ) (bytes : IsBytes b) (formed : wellFormed b ≡ true) (g r : ℕ) where
   -- the test of 9, as the code makes it
@@ -72,12 +79,12 @@ module _ (t : List ℤ) (b : List ℕ) (bytes : IsBytes b) (formed : wellFormed 
   module _ (size : length b ≡ 2180) (through : firstOf (passed (askReach g r)) ≡ 0) where
     pub reach-unenrolled : not (leb (subjectsIn b) g || leb (subjectsIn b) r) ≡ false → Made t (askReach g r) b (refusedBy 9) b
     unfolding held
-    reach-unenrolled e = made-held t (askReach g r) b size through formed 9 (ap (λ (x : Bool). cond x 9 0) (enrolled-test ∙ not-back (leb (subjectsIn b) g || leb (subjectsIn b) r) e)) (λ q. omega arith)
+    reach-unenrolled e = made-held t (askReach g r) b size through formed 9 (ap (λ (x : Bool). cond x 9 0) (enrolled-test ∙ not-false (leb (subjectsIn b) g || leb (subjectsIn b) r) e)) (λ q. omega arith)
 
     pub reach-done : not (leb (subjectsIn b) g || leb (subjectsIn b) r) ≡ true → (k : ℤ) → k ≡ reach t (decode b) g r → Made t (askReach g r) b (answeredBy k (pos 0) (pos 0)) b
     unfolding held accepted
     reach-done e k q =
-        made-done t (askReach g r) b size through formed (ap (λ (x : Bool). cond x 9 0) (enrolled-test ∙ not-on (leb (subjectsIn b) g || leb (subjectsIn b) r) e)) (answeredBy k (pos 0) (pos 0)) b
+        made-done t (askReach g r) b size through formed (ap (λ (x : Bool). cond x 9 0) (enrolled-test ∙ not-true (leb (subjectsIn b) g || leb (subjectsIn b) r) e)) (answeredBy k (pos 0) (pos 0)) b
         (λ j. record { refusal = 0; first = q j; second = pos 0; third = pos 0; bytes = held-written b bytes formed j })
 
   -- ── grant ──

@@ -9,11 +9,14 @@ use borrow.Author.Tests.{eq-eqb, ne-eqb}
 use lib.Dec.{T, eqb, eqb→eq, T-not}
 use lib.ListN.{length}
 use lib.IntN.{ℤ, pos}
+use Rattle.rules.specs.Table.{TableRule}
 use Rattle.rules.specs.WellFormed.{WellFormed}
 use Rattle.rules.specs.Call.{Call, fresh}
 use Rattle.rules.specs.Refusal.{firstOf}
 use Rattle.rules.specs.CallStep.{Outcome, callStep}
+use Rattle.rules.specs.Ranges.{Unused, InRange}
 use Rattle.rules.proofs.Calls.{fresh-formed, callStep-formed}
+use Rattle.rules.proofs.Ranges.{callStep-range}
 use Rattle.block.specs.Bytes.{IsBytes}
 use Rattle.block.specs.Block.{decode, encode}
 use Rattle.block.specs.WellFormed.{wellFormed}
@@ -40,22 +43,29 @@ module _ (t : List ℤ) (b : List ℕ) (c : Call) where
       go true k = written-same (callStep t (decode b) c) k
       go false k = refl
 
+  -- an accepted call on bytes is the accepted call on the register that the block holds
+  accepted-step : callOn t b c .refusal ≡ 0 → (callOn t b c ≡ written b (callStep t (decode b) c)) × (callStep t (decode b) c .refusal ≡ 0)
+  accepted-step e = let q = callOn-late t c b (early-through t b c (through t b c e)) in (q, sym (ap (λ (r : Result). r .refusal) q) ∙ e)
+
   -- an accepted call leaves the register that the definitions leave, written
   pub accepted-left : callOn t b c .refusal ≡ 0 → callOn t b c .bytes ≡ encode (callStep t (decode b) c .left)
   accepted-left e =
-      let q = callOn-late t c b (early-through t b c (through t b c e)) in
-      let z : callStep t (decode b) c .refusal ≡ 0 = sym (ap (λ (r : Result). r .refusal) q) ∙ e in
+      let (q, z) = accepted-step e in
       ap (λ (r : Result). r .bytes) q ∙ ap (λ (x : Bool). cond x (encode (callStep t (decode b) c .left)) b) (eq-eqb (callStep t (decode b) c .refusal) 0 z)
 
-  pub kept : IsBytes b → Kept t b c
-  kept bytes = record {
+  pub kept : TableRule t → IsBytes b → Kept t b c
+  kept rule bytes = record {
     refused = refused-same;
     formed = λ e. ap wellFormed (accepted-left e) ∙ T-true (wellFormed (encode (callStep t (decode b) c .left))) (encode-formed (callStep t (decode b) c .left) (left-formed e));
     bytes = go (eqb (callOn t b c .refusal) 0) refl;
+    range = λ e. let (q, z) = accepted-step e in subst (λ (r : Result). InRange c (r .first) (r .second) (r .third)) (sym q) (callStep-range t rule (decode b) c (found-formed e) z);
   }
     where
+      found-formed : callOn t b c .refusal ≡ 0 → WellFormed (decode b)
+      found-formed e = held-formed b bytes (through t b c e .formed)
+
       left-formed : callOn t b c .refusal ≡ 0 → WellFormed (callStep t (decode b) c .left)
-      left-formed e = callStep-formed t (decode b) c (held-formed b bytes (through t b c e .formed))
+      left-formed e = callStep-formed t (decode b) c (found-formed e)
 
       go : (x : Bool) → eqb (callOn t b c .refusal) 0 ≡ x → IsBytes (callOn t b c .bytes)
       go true q = let e = eqb→eq (callOn t b c .refusal) 0 (subst T (sym q) tt) in subst IsBytes (sym (accepted-left e)) (bytes-encode (callStep t (decode b) c .left) (left-formed e))
@@ -80,5 +90,14 @@ open-formed b = go (eqb (length b) 2180)
     go true e = T-true (wellFormed (encode fresh)) (encode-formed fresh fresh-formed)
     go false e = absurd (omega arith)
 
+-- open answers 0, refused or not
+open-unused : (b : List ℕ) → Unused (openOn b .first) × Unused (openOn b .second) × Unused (openOn b .third)
+unfolding openOn
+open-unused b = go (eqb (length b) 2180)
+  where
+    go : (x : Bool) → let r : Result = cond x record { refusal = 0; first = pos 0; second = pos 0; third = pos 0; bytes = encode fresh } (turned 1 b) in Unused (r .first) × Unused (r .second) × Unused (r .third)
+    go true = (refl, refl, refl)
+    go false = (refl, refl, refl)
+
 pub kept-open : (b : List ℕ) → KeptOpen b
-kept-open b = record { refused = open-refused b; formed = open-formed b }
+kept-open b = record { refused = open-refused b; formed = open-formed b; range = λ _. open-unused b }

@@ -2,7 +2,10 @@ pub mod Made
 pub mod Enrolling
 pub mod Using
 pub mod Holding
+pub mod CutHolding
 pub mod ChainWays
 pub mod History
+pub mod ByteExamples
 pub mod Exactly
+pub mod CutWays
 pub mod Keeping

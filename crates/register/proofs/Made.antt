@@ -20,15 +20,6 @@ use Rattle.register.specs.CallOn.{Result, early, turned, written, callOn
 use Rattle.register.specs.Made.{refusedBy, answeredBy, result, Made, MadeOpen}
 use Rattle.register.specs.declared.Answer.{Answer}
 
--- a test that the code asks the other way round
-pub not-true : (x : Bool) → not x ≡ true → x ≡ false
-not-true true e = let z : _≡_ {A = ℕ} 0 1 = cc in absurd (omega arith)
-not-true false e = refl
-
-pub not-false : (x : Bool) → not x ≡ false → x ≡ true
-not-false true e = refl
-not-false false e = let z : _≡_ {A = ℕ} 0 1 = cc in absurd (omega arith)
-
 -- the first that applies of two lists one after the other
 firstOf-append : (ps qs : List (ℕ × Bool)) → T (numbered ps) → firstOf (ps ++ qs) ≡ cond (eqb (firstOf ps) 0) (firstOf qs) (firstOf ps)
 firstOf-append [] qs h = refl

@@ -2,16 +2,14 @@
 use mathlib.Core.Path.{_≡_}
 use mathlib.Core.List.{List, [], _∷_, map}
 use Prim.Native.Nat.{ℕ, zero, suc}
-use lib.IntN.{ℤ, pos}
+use lib.IntN.{ℤ}
 use Rattle.rules.specs.List.{At}
-use Rattle.rules.specs.Register.{Register}
-use Rattle.rules.specs.Round.{SettlesIn}
-use Rattle.rules.specs.Cut.{Cut, named, dropped, lowered}
-use Rattle.rules.specs.Remainder.{Best}
+use Rattle.rules.specs.Cut.{Cut, named}
 use Rattle.rules.specs.Call.{Call, fresh, IsCut}
 use Rattle.block.specs.Block.{decode, encode}
 use Rattle.register.specs.CallOn.{callOn}
 use Rattle.register.specs.Made.{result, Made}
+use Rattle.register.specs.Cuts.{CutLeft}
 use Rattle.register.specs.declared.Answer.{Answer}
 
 -- a call, what it returned, and the block that it left
@@ -38,19 +36,12 @@ blockFrom t b (c ∷ cs) (suc i) = blockFrom t (callOn t b c .bytes) cs i
 abbrev pub blockAt : List ℤ → List Call → ℕ → List ℕ
 blockAt t cs i = blockFrom t (encode fresh) cs i
 
--- what an accepted cut answers and leaves: C is the register after its named change
-pub record CutLeft (t : List ℤ) (C : Register) (e : Entry) : Type 0 where
-  pub best : Best t C (decode (e .after))
-  pub dropped : e .answer .first ≡ pos (dropped C (decode (e .after)))
-  pub lowered : e .answer .second ≡ pos (lowered C (decode (e .after)))
-  pub rounds : (n : ℕ) × (e .answer .third ≡ pos (suc n)) × SettlesIn t n C (decode (e .after))
-
 -- what holds at a place where the definitions lead to the block S
 pub record PlaceRight (t : List ℤ) (S : List ℕ) (e : Entry) : Type 0 where
   -- (a) the refusal, the answers and the block are those of the definitions
   pub result : result (e .answer) (e .after) ≡ callOn t S (e .call)
   -- (b) an accepted cut leaves the best remainder of its named change
-  pub cut : (k : Cut) → IsCut (e .call) k → e .answer .refusal ≡ 0 → CutLeft t (named (decode S) k) e
+  pub cut : (k : Cut) → IsCut (e .call) k → e .answer .refusal ≡ 0 → CutLeft t (named (decode S) k) (e .answer) (e .after)
 
 pub record Demand3 (t : List ℤ) : Type 0 where
   pub places : (es : List Entry) → History t (encode fresh) es → (i : ℕ) (e : Entry) → At es i e → PlaceRight t (blockAt t (calls es) i) e

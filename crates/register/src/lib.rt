@@ -1,5 +1,6 @@
 // The public calls of the register, on plain numbers and a lent block of any length and content.
 mod chaining;
+mod cutting;
 mod held;
 mod passed;
 mod reaching;
@@ -8,8 +9,10 @@ ghost use mathlib.Core.Path.{_≡_};
 ghost use lib.IntN.{pos};
 ghost use denote.Ref.{ptr};
 ghost use Rattle.rules.specs.Table.{steps};
-ghost use Rattle.rules.specs.Call.{enrol, grant, askReach, askUse};
+ghost use Rattle.rules.specs.Cut.{removal, lowering};
+ghost use Rattle.rules.specs.Call.{enrol, grant, revoke, downgrade, askReach, askUse};
 ghost use Rattle.register.specs.Made.{refusedBy, answeredBy, Made, MadeOpen};
+ghost use Rattle.register.specs.Cuts.{CutMade};
 ghost use Rattle.register.specs.ChainOn.{ChainMade, ChainFront};
 use block::layout;
 use rules::most;
@@ -164,6 +167,50 @@ pub fn grant(
         bar as u16,
     );
     answered((standing + 1) as i32, 0, 0)
+}
+
+// Removes a delegation, then lowers or removes what it no longer supports; answers dropped, lowered and rounds.
+pub fn revoke(block: &mut [u8], by: u32, giver: u32, receiver: u32) -> Answer
+    ensures { λ r. ⌜ CutMade steps (revoke by giver receiver) (removal giver receiver) (now (block .entry)) r (now (block .exit)) ⌝ }
+{
+    if block.len() != layout::BLOCK_SIZE {
+        return refused(refusal::WRONG_LENGTH);
+    }
+    let n = passed::revoke_passed(by, giver, receiver);
+    if n != 0 {
+        return refused(n);
+    }
+    if !block::well_formed(block) {
+        return refused(refusal::NOT_WELL_FORMED);
+    }
+    let m = held::revoke_held(block, by, giver, receiver);
+    if m != 0 {
+        return refused(m);
+    }
+    block::remove(block, giver as u8, receiver as u8);
+    cutting::settle(block)
+}
+
+// Sets a delegation to a smaller weight, then as revoke.
+pub fn downgrade(block: &mut [u8], by: u32, giver: u32, receiver: u32, weight: u32) -> Answer
+    ensures { λ r. ⌜ CutMade steps (downgrade by giver receiver weight) (lowering giver receiver weight) (now (block .entry)) r (now (block .exit)) ⌝ }
+{
+    if block.len() != layout::BLOCK_SIZE {
+        return refused(refusal::WRONG_LENGTH);
+    }
+    let n = passed::downgrade_passed(by, giver, receiver, weight);
+    if n != 0 {
+        return refused(n);
+    }
+    if !block::well_formed(block) {
+        return refused(refusal::NOT_WELL_FORMED);
+    }
+    let m = held::downgrade_held(block, by, giver, receiver, weight);
+    if m != 0 {
+        return refused(m);
+    }
+    block::set_weight(block, giver as u8, receiver as u8, weight as u8);
+    cutting::settle(block)
 }
 
 // Document 01's call chain: writes a chain that carries the weight of a standing delegation into `buf`.

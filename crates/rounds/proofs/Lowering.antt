@@ -17,7 +17,7 @@ use Rattle.search.proofs.Signed.{kept}
 use Rattle.rounds.specs.Rounded.{Decoded, lesser, Lowered}
 
 -- one more place filled
-filled : {A : Type 0} (l : List A) (k : ℕ) (z v : A) (p : ℕ → A) → k < length l → ((j : ℕ) → j < k → getD l j z ≡ p j) → v ≡ p k → (j : ℕ) → j < k + 1 → getD (set l k v) j z ≡ p j
+pub filled : {A : Type 0} (l : List A) (k : ℕ) (z v : A) (p : ℕ → A) → k < length l → ((j : ℕ) → j < k → getD l j z ≡ p j) → v ≡ p k → (j : ℕ) → j < k + 1 → getD (set l k v) j z ≡ p j
 filled l k z v p h f e j q = go (eqOr j k)
   where
     go : (j ≡ k) ⊎ (j ≢ k) → getD (set l k v) j z ≡ p j

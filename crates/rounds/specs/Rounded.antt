@@ -1,16 +1,19 @@
 -- What the parts of a round find, lower and leave, for the register R that a block holds and the step table t. Assumes nothing.
 use mathlib.Core.Path.{_≡_}
+use mathlib.Core.Logic.{_≢_}
 use mathlib.Core.Bool.{Bool, true, false, cond}
 use mathlib.Core.List.{List, [], _++_}
 use Prim.Native.Nat.{ℕ, zero, suc, _+_, _*_, _≤_, _<_}
-use lib.ListN.{getD}
+use lib.ListN.{getD, drop}
 use lib.IntN.{ℤ, pos}
 use lib.Signed.{ltZ}
 use Rattle.rules.specs.List.{_∈_}
-use Rattle.rules.specs.Register.{Delegation, Register}
+use Rattle.rules.specs.Limit.{_≼_}
+use Rattle.rules.specs.Register.{Delegation, Register, withDelegations}
 use Rattle.rules.specs.Reach.{reach}
 use Rattle.rules.specs.Support.{allowed}
-use Rattle.rules.specs.Round.{placed}
+use Rattle.rules.specs.Round.{placed, round}
+use Rattle.block.specs.Block.{delegationIn, countIn, decode, encode}
 
 -- where the reach of a giver and a receiver is kept in the table of reaches
 abbrev pub reachAt : ℕ → ℕ → ℕ
@@ -49,3 +52,16 @@ pub record Lowered (reaches : ℕ → ℤ) (n : ℕ) (before : List ℤ) (change
 abbrev pub leftTo : (ℕ → Delegation) → List ℤ → ℕ → List Delegation
 leftTo f weights zero = []
 leftTo f weights (suc k) = leftTo f weights k ++ placed (f k) (getD weights k (pos 0))
+
+-- the weights that a round on the block b leaves; the answer says whether one changed
+pub record Reckoned (t : List ℤ) (b : List ℕ) (changed : Bool) (weights : List ℤ) : Type 0 where
+  pub most : (k : ℕ) → k < countIn b → getD weights k (pos 0) ≼ pos 255
+  pub left : withDelegations (decode b) (leftTo (λ k. delegationIn (drop (8 * k) (drop 132 b))) weights (countIn b)) ≡ round t (decode b)
+  pub same : changed ≡ false → round t (decode b) ≡ decode b
+  pub change : changed ≡ true → round t (decode b) ≢ decode b
+
+-- what one round answers and leaves: whether it changed something, and the block
+pub record RoundMade (t : List ℤ) (R : Register) (changed : Bool) (after : List ℕ) : Type 0 where
+  pub left : after ≡ encode (round t R)
+  pub same : changed ≡ false → round t R ≡ R
+  pub change : changed ≡ true → round t R ≢ R

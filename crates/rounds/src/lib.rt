@@ -2,9 +2,85 @@
 mod counted;
 mod lower;
 mod reaches;
+mod write;
+
+ghost use mathlib.Core.Path.{_≡_};
+ghost use mathlib.Core.Bool.{true};
+ghost use lib.ListN.{length};
+ghost use Rattle.rules.specs.Table.{TableRule};
+ghost use Rattle.block.specs.Block.{decode};
+ghost use Rattle.block.specs.WellFormed.{wellFormed};
+ghost use Rattle.rounds.specs.Rounded.{Reckoned, RoundMade};
+ghost use Rattle.rounds.specs.Settled.{SettledMade};
+use block::layout;
 
 // How many delegations were dropped, and how many were lowered but kept.
 pub struct Changes {
     pub dropped: u32,
     pub lowered: u32,
+}
+
+// The answers of a cut: dropped, lowered but kept, and the rounds.
+pub struct Answers {
+    pub dropped: u32,
+    pub lowered: u32,
+    pub rounds: u32,
+}
+
+// The weights that a round leaves, all together, every reach from the block as the round began; whether one changed.
+fn reckon(block: &[u8], table: &[i16], weights: &mut [i16]) -> bool
+    requires { ⌜ (wellFormed (now block) ≡ true) × TableRule (now table) × (length (now weights) ≡ 256) ⌝ }
+    ensures { λ r. ⌜ Reckoned (now (table .entry)) (now (block .entry)) r (now (weights .exit)) ⌝ }
+{
+    let n = block::count(block);
+    let mut givers = [0u8; 256];
+    let mut receivers = [0u8; 256];
+    lower::decode_records(block, n, &mut givers, &mut receivers, weights);
+    let mut reaches = [-1i16; 4096];
+    reaches::fill_reaches(block, table, &mut reaches);
+    lower::lower(&givers, &receivers, &reaches, n, weights)
+}
+
+// One round; whether it changed something.
+fn round(block: &mut [u8], table: &[i16]) -> bool
+    requires { ⌜ (wellFormed (now block) ≡ true) × TableRule (now table) ⌝ }
+    ensures { λ r. ⌜ RoundMade (now (table .entry)) (decode (now (block .entry))) r (now (block .exit)) ⌝ }
+{
+    let mut weights = [0i16; 256];
+    if !reckon(block, table, &mut weights) {
+        return false;
+    }
+    write::write_left(block, &weights);
+    true
+}
+
+// The bytes of one slice into another.
+fn copy(from: &[u8], to: &mut [u8])
+    requires { ⌜ length (now from) ≡ length (now to) ⌝ }
+    ensures { λ _. ⌜ now (to .exit) ≡ now (from .entry) ⌝ }
+{
+    let mut i: usize = 0;
+    while i < from.len() {
+        to[i] = from[i];
+        i += 1;
+    }
+}
+
+// Rounds until one changes nothing, which counts.
+pub fn settled(block: &mut [u8], table: &[i16]) -> Answers
+    requires { ⌜ (wellFormed (now block) ≡ true) × TableRule (now table) ⌝ }
+    ensures { λ r. ⌜ SettledMade (now (table .entry)) (decode (now (block .entry))) r (now (block .exit)) ⌝ }
+{
+    let mut before = [0u8; layout::BLOCK_SIZE];
+    copy(block, &mut before);
+    let mut changed: u32 = 0;
+    while round(block, table) {
+        changed += 1;
+    }
+    let counts = counted::counts(&before, block);
+    Answers {
+        dropped: counts.dropped,
+        lowered: counts.lowered,
+        rounds: changed + 1,
+    }
 }

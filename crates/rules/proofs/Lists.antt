@@ -34,6 +34,15 @@ pub T-not-not : (b : Bool) → T b → T (not (not b))
 T-not-not true h = tt
 T-not-not false h = h
 
+-- a test that the code asks the other way round
+pub not-true : (x : Bool) → not x ≡ true → x ≡ false
+not-true true e = let z : _≡_ {A = ℕ} 0 1 = cc in absurd (omega arith)
+not-true false e = refl
+
+pub not-false : (x : Bool) → not x ≡ false → x ≡ true
+not-false true e = refl
+not-false false e = let z : _≡_ {A = ℕ} 0 1 = cc in absurd (omega arith)
+
 -- a test holds, or its negation does
 pub either : (b : Bool) → T b ⊎ T (not b)
 either true = inl tt

@@ -60,12 +60,15 @@ pub settles-most : (t : List ℤ) (n : ℕ) (C F : Register) → SettlesIn t n C
 settles-most t zero C F s = zero-le
 settles-most t (suc n) C F s = omega (arith, round-falls t C (s .0), settles-most t n (round t C) F (s .1))
 
-total-most : (ds : List Delegation) → ((d : Delegation) → d ∈ ds → d .weight ≤ 255) → total ds ≤ 256 * length ds
-total-most [] h = zero-le
-total-most (d ∷ ds) h = omega (arith, h d (List·Memᴰ·head refl), total-most ds (λ e m. h e (List·Memᴰ·tail m)))
+weights-most : (ds : List Delegation) → ((d : Delegation) → d ∈ ds → d .weight ≤ 255) → total ds ≤ 256 * length ds
+weights-most [] h = zero-le
+weights-most (d ∷ ds) h = omega (arith, h d (List·Memᴰ·head refl), weights-most ds (λ e m. h e (List·Memᴰ·tail m)))
+
+pub total-most : (R : Register) → WellFormed R → total (R .delegations) ≤ 65536
+total-most R f = omega (arith, weights-most (R .delegations) (λ d m. f .each d m .weight), f .few)
 
 pub settle-most : (t : List ℤ) (C : Register) → WellFormed C → settle t C .changed ≤ 65536
-settle-most t C f = omega (arith, settles-most t (settle t C .changed) C (settle t C .left) (settle-right t C), total-most (C .delegations) (λ d m. f .each d m .weight), f .few)
+settle-most t C f = omega (arith, settles-most t (settle t C .changed) C (settle t C .left) (settle-right t C), total-most C f)
 
 -- ── each call ──
 cut-range : (t : List ℤ) (C : Register) → WellFormed C → let o = cut t C in CutInRange (o .first) (o .second) (o .third)

@@ -118,6 +118,11 @@ module _ (f : Delegation → ℤ) where
       capped-lowers x (f x) (concatMap (λ d. capped d (f d)) ds) ds (subst (λ (y : Delegation). code (f y) ≤ y .weight) e h) (cappedAll-total ds)
   cappedAll-falls (List·Memᴰ·tail {x = x} {xs = ds} m) h = capped-short x (f x) (concatMap (λ d. capped d (f d)) ds) ds (cappedAll-falls m h)
 
+  -- where no bound is below a weight nothing changes
+  cappedAll-same : (ds : List Delegation) → ((d : Delegation) → d ∈ ds → pos (d .weight) ≼ f d) → T (same (concatMap (λ d. capped d (f d)) ds) ds)
+  cappedAll-same [] h = tt
+  cappedAll-same (d ∷ ds) h = capped-same d (f d) (concatMap (λ d. capped d (f d)) ds) ds (h d (List·Memᴰ·head refl)) (cappedAll-same ds (λ e m. h e (List·Memᴰ·tail m)))
+
   -- a round changes nothing, or lowers the total
   cappedAll-either : (ds : List Delegation) → T (same (concatMap (λ d. capped d (f d)) ds) ds) ⊎ (total (concatMap (λ d. capped d (f d)) ds) < total ds)
   cappedAll-either [] = inl tt
@@ -143,6 +148,14 @@ module _ (t : List ℤ) where
       go : T (same (round t R .delegations) (R .delegations)) ⊎ (total (round t R .delegations) < total (R .delegations)) → total (round t R .delegations) < total (R .delegations)
       go (inl s) = absurd (n (round-eq R (same→eq _ _ s)))
       go (inr s) = s
+
+  -- where every weight is at most what counts for it, a round changes nothing
+  pub round-stays : (R : Register) → ((d : Delegation) → d ∈ R .delegations → pos (d .weight) ≼ allowed t R d) → round t R ≡ R
+  round-stays R h = round-eq R (same→eq _ _ (cappedAll-same (allowed t R) (R .delegations) h))
+
+  -- where some weight is above it, a round changes something
+  pub round-changes : (R : Register) (d : Delegation) → d ∈ R .delegations → code (allowed t R d) ≤ d .weight → round t R ≢ R
+  round-changes R d m h e = let c = cappedAll-falls (allowed t R) m h in omega (arith, c, ap (λ (x : Register). total (x .delegations)) e)
 
   -- the fuel is enough
   pub settleFrom-right : (k : ℕ) (R : Register) → total (R .delegations) < k → SettlesIn t (settleFrom t k R .changed) R (settleFrom t k R .left)

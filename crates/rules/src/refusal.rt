@@ -11,6 +11,8 @@ pub const EQUAL_PAIR: u32 = 5;
 
 pub const TO_OWNER: u32 = 6;
 
+pub const MALFORMED: u32 = 7;
+
 pub const NOT_WELL_FORMED: u32 = 8;
 
 pub const NOT_ENROLLED: u32 = 9;

@@ -3,9 +3,10 @@ use mathlib.Core.Path.{_≡_, refl, sym, ap, subst, _∙_}
 use mathlib.Core.Logic.{_⊎_, inl, inr}
 use mathlib.Core.Bool.{Bool, true, false}
 use mathlib.Core.List.{List}
-use Prim.Native.Nat.{ℕ, _+_, _<_}
+use Prim.Native.Nat.{ℕ, suc, _+_, _<_}
 use native.Mathlib.Omega.{arith}
-use lib.Dec.{T, ltb, ltb→lt, nltb→le, not-T}
+use borrow.Author.Tests.{lt-ltb}
+use lib.Dec.{T, leb·suc-suc, ltb, ltb→lt, nltb→le, not-T}
 use lib.IntN.{ℤ, pos, negsuc}
 use lib.Signed.{ltZ, mag}
 use lib.ListN.{length, getD, set}
@@ -33,6 +34,11 @@ pub read-limit : (l : List ℤ) (i : ℕ) → i < length l → mag (getD l i (po
 read-limit l i h f = toZ-ofZ record { sfits = f } ∙ getD-within l i (pos 0) none h
 
 -- ── signed comparisons of limits ──
+-- the test of a limit against a weight, as the code and as the definition make it
+pub below-weight : (z : ℤ) (w : ℕ) → ltZ z (pos w) ≡ ltb (code z) (suc w)
+below-weight (pos n) w = sym (leb·suc-suc (suc n) w)
+below-weight (negsuc n) w = sym (lt-ltb 0 (suc w) (omega arith))
+
 pub more : (y z : ℤ) → (y ≡ none) ⊎ (pos 0 ≼ y) → T (ltZ y z) → code y < code z
 more y z (inl e) h = go z (subst (λ (x : ℤ). T (ltZ x z)) e h)
   where

@@ -6,8 +6,8 @@ use mir.Syntax.{w32}
 use mir.Facts.{toZ-pos}
 use Rattle.rules.specs.Table.{steps}
 use Rattle.rules.specs.Call.{enrol}
+use Rattle.rules.proofs.Lists.{not-true, not-false}
 use Rattle.block.proofs.Bytes.{fits-bytes}
-use Rattle.register.proofs.Made.{not-true, not-false}
 use Rattle.register.proofs.Made.{made-length, made-form}
 use Rattle.register.proofs.Enrolling.{enrol-marks, enrol-through, enrol-full, enrol-done}
 use Rattle.register.proofs.enrol.Statement.{statement}

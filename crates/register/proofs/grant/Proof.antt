@@ -7,8 +7,9 @@ use mir.Syntax.{w32}
 use mir.Facts.{toZ-pos}
 use Rattle.rules.specs.Table.{steps}
 use Rattle.rules.specs.Call.{grant}
+use Rattle.rules.proofs.Lists.{not-true, not-false}
 use Rattle.block.proofs.Bytes.{fits-bytes}
-use Rattle.register.proofs.Made.{not-true, not-false, made-length, made-passed, made-form, made-held}
+use Rattle.register.proofs.Made.{made-length, made-passed, made-form, made-held}
 use Rattle.register.proofs.Holding.{grant-done, grant-through, grant-room}
 use Rattle.register.proofs.grant.Statement.{statement}
 use Rattle.register.proofs.grant.Tie as tie

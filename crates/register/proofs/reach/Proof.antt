@@ -6,9 +6,10 @@ use mir.Syntax.{w16, w32}
 use mir.Facts.{toZ-ofZ}
 use Rattle.rules.specs.Table.{steps}
 use Rattle.rules.specs.Call.{askReach}
+use Rattle.rules.proofs.Lists.{not-true, not-false}
 use Rattle.block.specs.Block.{subjectsIn}
 use Rattle.block.proofs.Bytes.{fits-bytes}
-use Rattle.register.proofs.Made.{not-true, not-false, made-length, made-passed, made-form}
+use Rattle.register.proofs.Made.{made-length, made-passed, made-form}
 use Rattle.register.proofs.Holding.{both-in, reach-unenrolled, reach-done}
 use Rattle.register.proofs.reach.Statement.{statement}
 use Rattle.register.proofs.reach.Tie as tie

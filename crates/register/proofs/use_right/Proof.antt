@@ -6,9 +6,9 @@ use native.Mathlib.Omega.{arith}
 use borrow.Author.Tests.{eq-eqb, ne-eqb}
 use Rattle.rules.specs.Table.{steps}
 use Rattle.rules.specs.Call.{askUse}
+use Rattle.rules.proofs.Lists.{not-true, not-false}
 use Rattle.block.proofs.Bytes.{fits-bytes}
 use Rattle.block.proofs.Held.{count-most}
-use Rattle.register.proofs.Made.{not-true, not-false}
 use Rattle.register.proofs.Made.{made-length, made-form}
 use Rattle.register.proofs.Using.{use-subject, use-through, use-enrolled, use-done}
 use Rattle.register.proofs.use_right.Statement.{statement}

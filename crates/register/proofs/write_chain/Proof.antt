@@ -2,7 +2,7 @@
 use borrow.Author.Needs.{needs}
 use mathlib.Core.Path.{sym, _∙_}
 use Rattle.rules.specs.Table.{steps}
-use Rattle.register.proofs.Made.{not-true, not-false}
+use Rattle.rules.proofs.Lists.{not-true, not-false}
 use Rattle.register.proofs.ChainWays.{pair-through, chain-block, chain-buffer, chain-passed, chain-form, chain-made}
 use Rattle.register.proofs.write_chain.Statement.{statement}
 use Rattle.register.proofs.write_chain.Tie as tie

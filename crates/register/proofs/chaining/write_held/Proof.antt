@@ -5,10 +5,10 @@ use mathlib.Core.Bool.{_||_}
 use native.Mathlib.Omega.{arith}
 use lib.Dec.{leb}
 use Rattle.rules.specs.Table.{steps}
+use Rattle.rules.proofs.Lists.{not-true, not-false}
 use Rattle.block.specs.Block.{subjectsIn}
 use Rattle.block.proofs.Bytes.{fits-bytes}
 use Rattle.block.proofs.Held.{size-held, count-most}
-use Rattle.register.proofs.Made.{not-true, not-false}
 use Rattle.register.proofs.Holding.{both-in}
 use Rattle.register.proofs.ChainWays.{chain-unenrolled, chain-missing, chain-carried}
 use Rattle.register.proofs.chaining.write_held.Statement.{statement}

@@ -8,10 +8,10 @@ use mir.Syntax.{w16}
 use mir.Facts.{toZ-ofZ, toZ-pos}
 use lib.Dec.{leb}
 use Rattle.rules.specs.Table.{steps}
+use Rattle.rules.proofs.Lists.{not-true, not-false}
 use Rattle.block.specs.Block.{subjectsIn, countIn}
 use Rattle.block.proofs.Bytes.{fits-bytes}
 use Rattle.block.proofs.Held.{size-held, count-most, stands-found, stands-missing}
-use Rattle.register.proofs.Made.{not-true, not-false}
 use Rattle.register.proofs.Holding.{both-in, grant-first}
 use Rattle.register.proofs.held.grant_held.Statement.{statement}
 use Rattle.register.proofs.held.grant_held.Tie as tie

@@ -1,0 +1,43 @@
+-- One call by its numbers: a number that is a call's, and another. Assumes nothing.
+use mathlib.Core.Path.{_≡_, sym, ap, subst, _∙_}
+use mathlib.Core.Logic.{_≢_}
+use mathlib.Core.Bool.{true, false}
+use mathlib.Core.List.{List}
+use Prim.Native.Nat.{ℕ, _+_, _*_, _<_}
+use native.Mathlib.Nat.{add-zero}
+use native.Mathlib.Omega.{arith}
+use borrow.Author.Tests.{lt-leb}
+use lib.Dec.{T, T-not}
+use lib.ListN.{getD, drop}
+use lib.Seq.{getD-drop}
+use Rattle.rules.specs.Table.{steps}
+use Rattle.block.proofs.Bytes.{allFrom-at}
+use Rattle.register.specs.Made.{refusedBy, Made}
+use Rattle.register.specs.declared.Answer.{Answer}
+use Rattle.replay.specs.Replay.{isCall, callOf, CallMade, callIn, callCount, allCalls}
+
+pub no-call : (n : ℕ) → n ≢ 0 → n ≢ 1 → n ≢ 2 → n ≢ 3 → n ≢ 4 → n ≢ 5 → isCall n ≡ false
+no-call n a b c d e f = lt-leb n 5 (omega arith)
+
+-- where every number is a call's, so is that of call i
+pub numbered : (calls : List ℕ) → allCalls calls ≡ true → (i : ℕ) → i < callCount calls → T (isCall (getD calls (7 * i) 0))
+numbered calls e i h =
+    let q : 0 + i ≡ i = omega arith in
+    subst (λ (k : ℕ). T (isCall (getD calls (7 * k) 0))) q (allFrom-at (λ k. isCall (getD calls (7 * k) 0)) 0 (callCount calls) (subst T (sym e) tt) i h)
+
+module _ (number by giver receiver weight need bar : ℕ) (before : List ℕ) (r : Answer) (after : List ℕ) where
+  pub call-named : (k : ℕ) → number ≡ k → T (isCall k) → Made steps (callOf k by giver receiver weight need bar) before r after → CallMade number by giver receiver weight need bar before r after
+  call-named k e t m = record {
+    made = λ h. subst (λ (n : ℕ). Made steps (callOf n by giver receiver weight need bar) before r after) (sym e) m;
+    other = λ h. absurd (T-not (isCall number) h (subst (λ (n : ℕ). T (isCall n)) (sym e) t));
+  }
+
+  pub call-other : isCall number ≡ false → r ≡ refusedBy 7 → after ≡ before → CallMade number by giver receiver weight need bar before r after
+  call-other e p q = record { made = λ h. absurd (subst T e h); other = λ h. (p, q) }
+
+-- the call at a place, read number by number
+pub call-at : (s : List ℕ) (at : ℕ)
+    → callIn (drop at s) ≡ callOf (getD s at 0) (getD s (at + 1) 0) (getD s (at + 2) 0) (getD s (at + 3) 0) (getD s (at + 4) 0) (getD s (at + 5) 0) (getD s (at + 6) 0)
+call-at s at =
+    let first : getD (drop at s) 0 0 ≡ getD s at 0 = getD-drop at s 0 0 ∙ ap (λ (n : ℕ). getD s n 0) (add-zero at) in
+    λ p. callOf (first p) (getD-drop at s 1 0 p) (getD-drop at s 2 0 p) (getD-drop at s 3 0 p) (getD-drop at s 4 0 p) (getD-drop at s 5 0 p) (getD-drop at s 6 0 p)

@@ -1,0 +1,4 @@
+pub mod Calling
+pub mod Sizes
+pub mod Slots
+pub mod Turns

@@ -1,0 +1,141 @@
+-- `replay::replay` makes a list of calls and keeps every block. Assumes nothing.
+use mathlib.Core.Path.{_≡_, refl, sym, _∙_}
+use Prim.Native.Nat.{_-_, _≤_}
+use native.Mathlib.Omega.{arith}
+use borrow.Author.Tests.{not-true, not-false}
+use borrow.Rule.Slice.PartMut.{postOf, same-len-mid}
+use lib.ListN.{length}
+use Rattle.replay.specs.Replay.{callCount}
+use Rattle.replay.specs.Turn.{Sized}
+use Rattle.replay.proofs.Calling.{numbered}
+use Rattle.replay.proofs.Sizes.{sized}
+use Rattle.replay.proofs.Turns.{opened, Through, through-none, through-on, replayed, made-length, made-number, made-all}
+use Rattle.replay.proofs.replay.Statement.{statement}
+use Rattle.replay.proofs.replay.Tie as tie
+
+abbrev Inv-loop : tie.InvT-loop
+Inv-loop calls blocks₀ refusals₀ answers₀ n i₀ blocks refusals answers i =
+    (i ≤ n) × (n ≡ callCount calls) × Sized calls blocks refusals answers × Through calls blocks refusals answers i
+
+abbrev μ-loop : tie.MeasureT-loop
+μ-loop calls blocks₀ refusals₀ answers₀ n i₀ blocks refusals answers i = n - i
+
+is-sized-requires : tie.Need-is-sized-requires Inv-loop μ-loop
+is-sized-requires c κs = tt
+
+returns : tie.Need-returns Inv-loop μ-loop
+returns c =
+    let a = c .before .before .before .before .before .args in
+    made-length (a .calls .now) (a .blocks .now) (a .refusals .now) (a .answers .now) (sym (c .before .is-sized .ensures) ∙ not-true (c .before .is-sized .result) (c .if1 .taken))
+
+all-calls-requires : tie.Need-all-calls-requires Inv-loop μ-loop
+all-calls-requires c κs = tt
+
+returns-2 : tie.Need-returns-2 Inv-loop μ-loop
+returns-2 c =
+    let a = c .before .before .before .before .before .before .before .args in
+    made-number (a .calls .now) (a .blocks .now) (a .refusals .now) (a .answers .now)
+    (sym (c .before .before .before .is-sized .ensures) ∙ not-false (c .before .before .before .is-sized .result) (c .before .before .if1 .left))
+    (sym (c .before .all-calls .ensures) ∙ not-true (c .before .all-calls .result) (c .if2 .taken))
+
+sub-open : tie.Need-sub-open Inv-loop μ-loop
+sub-open c = omega arith
+
+part-open-start : tie.Need-part-open-start Inv-loop μ-loop
+part-open-start c = omega arith
+
+part-open-end : tie.Need-part-open-end Inv-loop μ-loop
+part-open-end c =
+    let a = c .before .before .before .before .before .before .before .args in
+    let z = sized (length (a .calls .now)) (length (a .blocks .now)) (length (a .refusals .now)) (length (a .answers .now)) (sym (c .before .before .before .is-sized .ensures) ∙ not-false (c .before .before .before .is-sized .result) (c .before .before .if1 .left)) in
+    omega (arith, z .0)
+
+open-requires : tie.Need-open-requires Inv-loop μ-loop
+open-requires c κs = tt
+
+loop-holds : tie.Need-loop-holds Inv-loop μ-loop
+loop-holds c =
+    let a = c .before .before .before .before .before .before .before .before .before .before .before .args in
+    let o = c .before .before .«open» in
+    let z = sized (length (a .calls .now)) (length (a .blocks .now)) (length (a .refusals .now)) (length (a .answers .now)) (sym (c .before .before .before .before .before .before .before .is-sized .ensures) ∙ not-false (c .before .before .before .before .before .before .before .is-sized .result) (c .before .before .before .before .before .before .if1 .left)) in (
+      omega arith,
+      refl,
+      (same-len-mid 0 2180 (a .blocks .now) (o .last .0) (o .kept .0) ∙ z .0, z .1, z .2),
+      through-none (a .calls .now) _ (a .refusals .now) (a .answers .now)
+          (opened (a .blocks .now) (o .last .0) (postOf 0 2180 (a .blocks .now)) (o .result) (omega (arith, z .0)) (o .kept .0) (o .ensures)),
+    )
+
+turn-requires : tie.Need-turn-requires Inv-loop μ-loop
+turn-requires c κs =
+    let a = c .before .before .before .before .before .before .before .before .before .before .before .before .before .before .before .before .args in
+    let l = c .before .before .before .before .loop in
+    (omega arith, numbered (a .calls .now) (sym (c .before .before .before .before .before .before .before .before .before .before .all-calls .ensures) ∙ not-false (c .before .before .before .before .before .before .before .before .before .before .all-calls .result) (c .before .before .before .before .before .before .before .before .before .if2 .left)) (l .i) (omega arith), l .inv .2)
+
+add-i : tie.Need-add-i Inv-loop μ-loop
+add-i c = omega arith
+
+loop-less : tie.Need-loop-less Inv-loop μ-loop
+loop-less c = omega arith
+
+loop-again : tie.Need-loop-again Inv-loop μ-loop
+loop-again c =
+    let a = c .before .before .before .before .before .before .before .before .before .before .before .before .before .before .before .before .before .before .before .before .before .before .args in
+    let l = c .before .before .before .before .before .before .before .before .before .before .loop in
+    let t = c .before .before .before .before .before .turn in (
+      omega arith,
+      refl,
+      (t .kept .1 .1 .0 ∙ l .inv .2 .0, t .kept .1 .1 .1 .0 ∙ l .inv .2 .1, t .kept .1 .1 .1 .1 .0 ∙ l .inv .2 .2),
+      through-on (a .calls .now) (l .blocks) (l .refusals) (l .answers) (l .i) (l .inv .3) _ _ _ (t .ensures),
+    )
+
+same-length : tie.Need-same-length Inv-loop μ-loop
+same-length c =
+    let a = c .before .before .before .before .before .before .before .before .before .before .before .before .before .args in
+    let z = sized (length (a .calls .now)) (length (a .blocks .now)) (length (a .refusals .now)) (length (a .answers .now)) (sym (c .before .before .before .before .before .before .before .before .before .is-sized .ensures) ∙ not-false (c .before .before .before .before .before .before .before .before .before .is-sized .result) (c .before .before .before .before .before .before .before .before .if1 .left)) in
+    c .before .loop .inv .2 .0 ∙ sym (z .0)
+
+same-length-2 : tie.Need-same-length-2 Inv-loop μ-loop
+same-length-2 c =
+    let a = c .before .before .before .before .before .before .before .before .before .before .before .before .before .args in
+    let z = sized (length (a .calls .now)) (length (a .blocks .now)) (length (a .refusals .now)) (length (a .answers .now)) (sym (c .before .before .before .before .before .before .before .before .before .is-sized .ensures) ∙ not-false (c .before .before .before .before .before .before .before .before .before .is-sized .result) (c .before .before .before .before .before .before .before .before .if1 .left)) in
+    c .before .loop .inv .2 .1 ∙ sym (z .1)
+
+same-length-3 : tie.Need-same-length-3 Inv-loop μ-loop
+same-length-3 c =
+    let a = c .before .before .before .before .before .before .before .before .before .before .before .before .before .args in
+    let z = sized (length (a .calls .now)) (length (a .blocks .now)) (length (a .refusals .now)) (length (a .answers .now)) (sym (c .before .before .before .before .before .before .before .before .before .is-sized .ensures) ∙ not-false (c .before .before .before .before .before .before .before .before .before .is-sized .result) (c .before .before .before .before .before .before .before .before .if1 .left)) in
+    c .before .loop .inv .2 .2 ∙ sym (z .2)
+
+returns-3 : tie.Need-returns-3 Inv-loop μ-loop
+returns-3 c =
+    let a = c .before .before .before .before .before .before .before .before .before .before .before .before .before .args in
+    let l = c .before .loop in
+    made-all (a .calls .now) (a .blocks .now) (a .refusals .now) (a .answers .now)
+    (sym (c .before .before .before .before .before .before .before .before .before .is-sized .ensures) ∙ not-false (c .before .before .before .before .before .before .before .before .before .is-sized .result) (c .before .before .before .before .before .before .before .before .if1 .left))
+    (sym (c .before .before .before .before .before .before .before .all-calls .ensures) ∙ not-false (c .before .before .before .before .before .before .before .all-calls .result) (c .before .before .before .before .before .before .if2 .left))
+    (l .blocks) (l .refusals) (l .answers)
+    (replayed (a .calls .now) (l .blocks) (l .refusals) (l .answers) (l .i) (omega arith) (l .inv .3))
+
+pub replay-spec : {M : Type 1} → statement M
+replay-spec =
+    tie.close
+    (tie.spec
+    Inv-loop
+    μ-loop
+    is-sized-requires
+    returns
+    all-calls-requires
+    returns-2
+    sub-open
+    part-open-start
+    part-open-end
+    open-requires
+    loop-holds
+    turn-requires
+    add-i
+    loop-less
+    loop-again
+    same-length
+    same-length-2
+    same-length-3
+    returns-3)

@@ -1,0 +1,96 @@
+-- A list of calls made one after another with every block kept: what the buffers hold, and what is promised of them (document 01, 'Calls'). Assumes nothing.
+use mathlib.Core.Path.{_≡_}
+use mathlib.Core.Logic.{_≢_}
+use mathlib.Core.Bool.{Bool, cond, not, _&&_}
+use mathlib.Core.List.{List, [], _∷_}
+use Prim.Native.Nat.{ℕ, suc, _+_, _*_, _/_, _%_, _≤_}
+use lib.Dec.{T, leb, eqb}
+use lib.ListN.{length, getD, take, drop}
+use lib.IntN.{ℤ, pos}
+use Rattle.rules.specs.List.{At, tabulate}
+use Rattle.rules.specs.Table.{steps}
+use Rattle.rules.specs.Call.{Call, enrol, grant, revoke, downgrade, askReach, askUse, fresh}
+use Rattle.rules.specs.Refusal.{firstOf}
+use Rattle.block.specs.Layout.{blockSize}
+use Rattle.block.specs.Bytes.{readAll, allFrom}
+use Rattle.block.specs.Block.{encode}
+use Rattle.register.specs.Made.{refusedBy, Made}
+use Rattle.register.specs.History.{Entry, blockAt, PlaceRight}
+use Rattle.register.specs.declared.Answer.{Answer}
+
+-- ── one call ──
+
+-- the number is a call's: 0 enrol, 1 grant, 2 revoke, 3 downgrade, 4 reach, 5 use
+abbrev pub isCall : ℕ → Bool
+isCall n = leb n 5
+
+-- the call that seven numbers name
+unfoldable pub callOf : (number by giver receiver weight need bar : ℕ) → Call
+callOf number by giver receiver weight need bar =
+    cond (eqb number 0) (enrol need)
+    (cond (eqb number 1) (grant giver receiver weight need bar)
+    (cond (eqb number 2) (revoke by giver receiver)
+    (cond (eqb number 3) (downgrade by giver receiver weight)
+    (cond (eqb number 4) (askReach giver receiver) (askUse receiver)))))
+
+-- what `call` promises: the call that the numbers name is made; another number is refused with 7 and changes nothing
+pub record CallMade (number by giver receiver weight need bar : ℕ) (before : List ℕ) (r : Answer) (after : List ℕ) : Type 0 where
+  pub made : T (isCall number) → Made steps (callOf number by giver receiver weight need bar) before r after
+  pub other : T (not (isCall number)) → (r ≡ refusedBy 7) × (after ≡ before)
+
+-- ── the buffers ──
+
+-- the call whose seven numbers begin a list: the call's number, by, giver, receiver, weight, need, bar
+abbrev pub callIn : List ℕ → Call
+callIn s = callOf (getD s 0 0) (getD s 1 0) (getD s 2 0) (getD s 3 0) (getD s 4 0) (getD s 5 0) (getD s 6 0)
+
+-- how many calls a list of numbers has, and which
+abbrev pub callCount : List ℕ → ℕ
+callCount s = length s / 7
+
+abbrev pub callsIn : List ℕ → List Call
+callsIn s = readAll callIn 7 s (callCount s)
+
+-- block i: 0 is the opened one, i + 1 the one that call i left
+unfoldable pub slot : List ℕ → ℕ → List ℕ
+slot blocks i = take blockSize (drop (blockSize * i) blocks)
+
+-- what call i returned
+abbrev pub answerIn : List ℕ → List ℤ → ℕ → Answer
+answerIn refusals answers i =
+    record { refusal = getD refusals i 0; first = getD answers (3 * i) (pos 0); second = getD answers (3 * i + 1) (pos 0); third = getD answers (3 * i + 2) (pos 0) }
+
+-- every call with what it returned and the block that it left
+abbrev pub entryIn : List ℕ → List ℕ → List ℕ → List ℤ → ℕ → Entry
+entryIn calls blocks refusals answers i = record { call = callIn (drop (7 * i) calls); answer = answerIn refusals answers i; after = slot blocks (suc i) }
+
+abbrev pub entriesIn : List ℕ → List ℕ → List ℕ → List ℤ → List Entry
+entriesIn calls blocks refusals answers = tabulate (entryIn calls blocks refusals answers) 0 (callCount calls)
+
+-- ── refusals ──
+
+-- the lengths are whole calls, a block more than calls, one refusal and three answers a call
+abbrev pub isSized : (calls blocks refusals answers : ℕ) → Bool
+isSized calls blocks refusals answers = eqb (calls % 7) 0 && eqb blocks (blockSize * suc (calls / 7)) && eqb refusals (calls / 7) && eqb answers (3 * (calls / 7))
+
+-- every call number is a call's
+abbrev pub allCalls : List ℕ → Bool
+allCalls calls = allFrom (λ i. isCall (getD calls (7 * i) 0)) 0 (callCount calls)
+
+-- 1: the lengths do not fit; 7: some number is not a call's; else 0
+unfoldable pub replayRefusal : List ℕ → List ℕ → List ℕ → List ℤ → ℕ
+replayRefusal calls blocks refusals answers = firstOf ((1, not (isSized (length calls) (length blocks) (length refusals) (length answers))) ∷ (7, not (allCalls calls)) ∷ [])
+
+-- ── what `replay` promises ──
+
+-- the buffers hold the whole list of calls: S i in slot i, and at every place what demand 3 asks
+pub record Replayed (t : List ℤ) (calls blocks refusals : List ℕ) (answers : List ℤ) : Type 0 where
+  pub first : slot blocks 0 ≡ encode fresh
+  pub slots : (i : ℕ) → i ≤ length (callsIn calls) → slot blocks i ≡ blockAt t (callsIn calls) i
+  pub places : (i : ℕ) (e : Entry) → At (entriesIn calls blocks refusals answers) i e → PlaceRight t (blockAt t (callsIn calls) i) e
+
+-- r is returned; the buffers held blocks, refusals, answers and hold blocks', refusals', answers'
+pub record ReplayMade (calls blocks refusals : List ℕ) (answers : List ℤ) (r : ℕ) (blocks' refusals' : List ℕ) (answers' : List ℤ) : Type 0 where
+  pub refusal : r ≡ replayRefusal calls blocks refusals answers
+  pub refused : r ≢ 0 → (blocks' ≡ blocks) × (refusals' ≡ refusals) × (answers' ≡ answers)
+  pub accepted : r ≡ 0 → Replayed steps calls blocks' refusals' answers'

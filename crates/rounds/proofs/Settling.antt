@@ -1,0 +1,119 @@
+-- Rounds one after another: how it goes on after some that changed something, and how one that changes nothing ends it. Assumes nothing.
+use mathlib.Core.Path.{_≡_, refl, sym, ap, subst, _∙_}
+use mathlib.Core.Logic.{_≢_}
+use mathlib.Core.Bool.{Bool, true, false}
+use mathlib.Core.List.{List}
+use Prim.Native.Nat.{ℕ, suc, _+_, _*_, _≤_, _<_}
+use native.Mathlib.Nat.{zero-add, add-zero}
+use native.Mathlib.Omega.{arith}
+use lib.IntN.{ℤ}
+use lib.Dec.{T}
+use lib.ListN.{drop}
+use Rattle.rules.specs.Register.{Register, withDelegations}
+use Rattle.rules.specs.Round.{round, SettlesIn, settle, total}
+use Rattle.rules.specs.WellFormed.{WellFormed}
+use Rattle.rules.proofs.Rounds.{round-falls, settle-right, settles-unique}
+use Rattle.rules.proofs.WellFormed.{round-formed}
+use Rattle.rules.proofs.Ranges.{total-most}
+use Rattle.block.specs.Bytes.{IsBytes}
+use Rattle.block.specs.Block.{delegationIn, countIn, decode, encode}
+use Rattle.block.specs.WellFormed.{wellFormed}
+use Rattle.block.proofs.Encode.{decode-encode}
+use Rattle.block.proofs.Form.{encode-formed}
+use Rattle.block.proofs.Held.{held-formed, held-written}
+use Rattle.search.proofs.Signed.{no}
+use Rattle.rounds.specs.Rounded.{leftTo, Reckoned, RoundMade}
+
+-- n rounds from C on changed something and left R: however it goes on from R, it goes on from C
+pub record Going (t : List ℤ) (C : Register) (n : ℕ) (R : Register) : Type 0 where
+  pub formed : WellFormed R
+  pub falls : n + total (R .delegations) ≤ total (C .delegations)
+  pub on : (m : ℕ) (F : Register) → SettlesIn t m R F → SettlesIn t (n + m) C F
+
+module _ (t : List ℤ) (C : Register) where
+  pub going-none : WellFormed C → Going t C 0 C
+  going-none f = record { formed = f; falls = omega arith; on = λ m F s. subst (λ (k : ℕ). SettlesIn t k C F) (sym (zero-add m)) s }
+
+  module _ (n : ℕ) (R : Register) (g : Going t C n R) where
+    -- fewer than fit a number of 32 bits
+    pub going-few : WellFormed C → n ≤ 65536
+    going-few f = omega (arith, g .falls, total-most C f)
+
+    -- a round that changes something
+    pub going-on : round t R ≢ R → Going t C (n + 1) (round t R)
+    going-on c = record {
+      formed = round-formed t R (g .formed);
+      falls = omega (arith, g .falls, round-falls t R c);
+      on = λ m F s. let e : n + suc m ≡ n + 1 + m = omega arith in subst (λ (k : ℕ). SettlesIn t k C F) e (g .on (suc m) F (c, s));
+    }
+
+    -- one that changes nothing ends it
+    pub going-end : round t R ≡ R → (n ≡ settle t C .changed) × (R ≡ settle t C .left)
+    going-end e = settles-unique t n (settle t C .changed) C R (settle t C .left) (subst (λ (k : ℕ). SettlesIn t k C R) (add-zero n) (g .on 0 R (refl, e))) (settle-right t C)
+
+-- ── on the block ──
+
+-- a round that leaves every weight
+pub round-none : (t : List ℤ) (b : List ℕ) → IsBytes b → wellFormed b ≡ true → (x : Bool) (ws : List ℤ) → Reckoned t b x ws → x ≡ false → RoundMade t (decode b) false b
+round-none t b bytes formed x ws r e = record {
+  left = held-written b bytes formed ∙ ap encode (sym (r .same e));
+  same = λ _. r .same e;
+  change = λ z. absurd (no (sym z) tt);
+}
+
+-- a round that lowers one
+pub round-some : (t : List ℤ) (b : List ℕ) (x : Bool) (ws : List ℤ) → Reckoned t b x ws → x ≡ true → (after : List ℕ)
+    → after ≡ encode (withDelegations (decode b) (leftTo (λ k. delegationIn (drop (8 * k) (drop 132 b))) ws (countIn b))) → RoundMade t (decode b) true after
+round-some t b x ws r e after w = record { left = w ∙ ap encode (r .left); same = λ z. absurd (no z tt); change = λ _. r .change e }
+
+-- the block holds what n rounds left
+abbrev pub GoingOn : List ℤ → Register → ℕ → List ℕ → Type 0
+GoingOn t C n b = (R : Register) × (b ≡ encode R) × Going t C n R
+
+T-true : (b : Bool) → T b → b ≡ true
+T-true true h = refl
+T-true false h = absurd h
+
+pub on-first : (t : List ℤ) (b : List ℕ) → IsBytes b → wellFormed b ≡ true → GoingOn t (decode b) 0 b
+on-first t b bytes formed = (decode b, held-written b bytes formed, going-none t (decode b) (held-formed b bytes formed))
+
+module _ (t : List ℤ) (C : Register) (n : ℕ) (b : List ℕ) (s : GoingOn t C n b) where
+  pub on-formed : wellFormed b ≡ true
+  on-formed = ap wellFormed (s .1) ∙ T-true (wellFormed (encode (s .0))) (encode-formed (s .0) (s .2 .formed))
+
+  pub on-few : WellFormed C → n ≤ 65536
+  on-few f = going-few t C n (s .0) (s .2) f
+
+  module _ (x : Bool) (after : List ℕ) (r : RoundMade t (decode b) x after) where
+    held : decode b ≡ s .0
+    held = ap decode (s .1) ∙ decode-encode (s .0) (s .2 .formed)
+
+    left : after ≡ encode (round t (s .0))
+    left = r .left ∙ ap (λ (R : Register). encode (round t R)) held
+
+    changes : x ≡ true → round t (s .0) ≢ s .0
+    changes e = subst (λ (R : Register). round t R ≢ R) held (r .change e)
+
+    pub on-more : x ≡ true → GoingOn t C (n + 1) after
+    on-more e = (round t (s .0), left, going-on t C n (s .0) (s .2) (changes e))
+
+    -- the measure of the loop
+    pub on-falls : x ≡ true → total (decode after .delegations) < total (decode b .delegations)
+    on-falls e =
+        let p = ap (λ (R : Register). total (R .delegations)) (ap decode left ∙ decode-encode (round t (s .0)) (round-formed t (s .0) (s .2 .formed))) in
+        let q = ap (λ (R : Register). total (R .delegations)) held in
+        omega (arith, p, q, round-falls t (s .0) (changes e))
+
+    stays : x ≡ false → round t (s .0) ≡ s .0
+    stays e = subst (λ (R : Register). round t R ≡ R) held (r .same e)
+
+    -- the end: what is left is what the definition leaves, after as many rounds
+    pub on-end : x ≡ false → (n ≡ settle t C .changed) × (decode after ≡ settle t C .left) × (after ≡ encode (settle t C .left)) × (wellFormed after ≡ true)
+    on-end e =
+        let (m, F) = going-end t C n (s .0) (s .2) (stays e) in
+        let a = left ∙ ap encode (stays e) in (
+          m,
+          ap decode a ∙ decode-encode (s .0) (s .2 .formed) ∙ F,
+          a ∙ ap encode F,
+          ap wellFormed a ∙ T-true (wellFormed (encode (s .0))) (encode-formed (s .0) (s .2 .formed)),
+        )

@@ -1,0 +1,114 @@
+-- `rounds::settled` makes rounds until one changes nothing. Assumes nothing.
+use borrow.Author.Needs.{needs}
+use mathlib.Core.Path.{_≡_, refl, ap, _∙_}
+use Prim.Native.Nat.{suc}
+use native.Mathlib.Numerals.{add-one}
+use native.Mathlib.Omega.{arith}
+use lib.ListN.{length}
+use Rattle.rules.specs.Round.{total}
+use Rattle.rules.specs.Cut.{dropped, lowered}
+use Rattle.block.specs.Block.{decode}
+use Rattle.block.specs.WellFormed.{wellFormed}
+use Rattle.block.proofs.Bytes.{fits-bytes}
+use Rattle.block.proofs.Held.{size-held, held-formed}
+use Rattle.rounds.proofs.Settling.{GoingOn, on-first, on-formed, on-few, on-more, on-falls, on-end}
+use Rattle.rounds.proofs.settled.Statement.{statement}
+use Rattle.rounds.proofs.settled.Tie as tie
+
+abbrev Inv-loop : tie.InvT-loop
+Inv-loop block₀ table before changed₀ block changed = (length block ≡ length block₀) × GoingOn table (decode block₀) changed block
+
+abbrev μ-loop : tie.MeasureT-loop
+μ-loop block₀ table before changed₀ block changed = total (decode block .delegations)
+
+slice-aggregate-copy : tie.Need-slice-aggregate-copy Inv-loop μ-loop
+slice-aggregate-copy c = search needs
+
+copy-requires : tie.Need-copy-requires Inv-loop μ-loop
+copy-requires c κs =
+    let s = c .before .before .before in
+    size-held (s .args .block .now) (fits-bytes (s .args .block .now) (c .before .before .slice-known .given)) (s .pre .0)
+
+loop-holds : tie.Need-loop-holds Inv-loop μ-loop
+loop-holds c =
+    let s = c .before .before .before .before .before in
+    (refl, on-first (s .args .table .now) (s .args .block .now) (fits-bytes (s .args .block .now) (c .before .before .before .before .slice-known .given)) (s .pre .0))
+
+round-requires : tie.Need-round-requires Inv-loop μ-loop
+round-requires c κs =
+    let s = c .before .before .before .before .before .before .before in
+    let l = c .before .loop in
+    (on-formed (s .args .table .now) (decode (s .args .block .now)) (l .changed) (l .block) (l .inv .1), s .pre .1)
+
+add-changed : tie.Need-add-changed Inv-loop μ-loop
+add-changed c =
+    let s = c .before .before .before .before .before .before .before .before .before .before .before in
+    let l = c .before .before .before .before .before .loop in
+    omega (arith, on-few (s .args .table .now) (decode (s .args .block .now)) (l .changed) (l .block) (l .inv .1) (held-formed (s .args .block .now) (fits-bytes (s .args .block .now) (c .before .before .before .before .before .before .before .before .before .before .slice-known .given)) (s .pre .0)))
+
+loop-less : tie.Need-loop-less Inv-loop μ-loop
+loop-less c =
+    let s = c .before .before .before .before .before .before .before .before .before .before .before in
+    let l = c .before .before .before .before .before .loop in
+    let o = c .before .before .before .round in
+    on-falls (s .args .table .now) (decode (s .args .block .now)) (l .changed) (l .block) (l .inv .1) (o .result) (o .last .0) (o .ensures) (c .if1 .taken)
+
+loop-again : tie.Need-loop-again Inv-loop μ-loop
+loop-again c =
+    let s = c .before .before .before .before .before .before .before .before .before .before .before in
+    let l = c .before .before .before .before .before .loop in
+    let o = c .before .before .before .round in
+    (o .kept .0 ∙ l .inv .0, on-more (s .args .table .now) (decode (s .args .block .now)) (l .changed) (l .block) (l .inv .1) (o .result) (o .last .0) (o .ensures) (c .if1 .taken))
+
+slice-aggregate-counts : tie.Need-slice-aggregate-counts Inv-loop μ-loop
+slice-aggregate-counts c = search needs
+
+counts-requires : tie.Need-counts-requires Inv-loop μ-loop
+counts-requires c κs =
+    let s = c .before .before .before .before .before .before .before .before .before .before .before .before .before in
+    let l = c .before .before .before .before .before .before .before .loop in
+    let o = c .before .before .before .before .before .round in
+    let e = on-end (s .args .table .now) (decode (s .args .block .now)) (l .changed) (l .block) (l .inv .1) (o .result) (o .last .0) (o .ensures) (c .before .before .if1 .left) in
+    (ap wellFormed (c .before .before .before .before .before .before .before .before .before .copy .ensures) ∙ s .pre .0, e .3)
+
+add-t18 : tie.Need-add-t18 Inv-loop μ-loop
+add-t18 c =
+    let s = c .before .before .before .before .before .before .before .before .before .before .before .before .before .before in
+    let l = c .before .before .before .before .before .before .before .before .loop in
+    omega (arith, on-few (s .args .table .now) (decode (s .args .block .now)) (l .changed) (l .block) (l .inv .1) (held-formed (s .args .block .now) (fits-bytes (s .args .block .now) (c .before .before .before .before .before .before .before .before .before .before .before .before .before .slice-known .given)) (s .pre .0)))
+
+same-length : tie.Need-same-length Inv-loop μ-loop
+same-length c = c .before .before .before .before .before .before .round .kept .0 ∙ c .before .before .before .before .before .before .before .before .loop .inv .0
+
+returns : tie.Need-returns Inv-loop μ-loop
+returns c =
+    let s = c .before .before .before .before .before .before .before .before .before .before .before .before .before .before in
+    let l = c .before .before .before .before .before .before .before .before .loop in
+    let o = c .before .before .before .before .before .before .round in
+    let (n, F, left, formed) = on-end (s .args .table .now) (decode (s .args .block .now)) (l .changed) (l .block) (l .inv .1) (o .result) (o .last .0) (o .ensures) (c .before .before .before .if1 .left) in
+    let b = c .before .before .before .before .before .before .before .before .before .before .copy .ensures in
+    record {
+      left = left;
+      dropped = c .counts .ensures .0 ∙ (λ i. dropped (decode (b i)) (F i));
+      lowered = c .counts .ensures .1 ∙ (λ i. lowered (decode (b i)) (F i));
+      rounds = add-one (l .changed) ∙ ap suc n;
+    }
+
+pub settled-spec : {M : Type 1} → statement M
+settled-spec =
+    tie.close
+    (tie.spec
+    Inv-loop
+    μ-loop
+    slice-aggregate-copy
+    copy-requires
+    loop-holds
+    round-requires
+    add-changed
+    loop-less
+    loop-again
+    slice-aggregate-counts
+    counts-requires
+    add-t18
+    same-length
+    returns)

@@ -1,0 +1,63 @@
+// The block written anew after a round.
+ghost use mathlib.Core.Path.{_≡_};
+ghost use mathlib.Core.Bool.{true};
+ghost use mathlib.Core.List.{_++_};
+ghost use Prim.Native.Nat.{ℕ, _+_, _*_, _≤_, _<_};
+ghost use lib.Dec.{ltb};
+ghost use lib.IntN.{pos};
+ghost use lib.ListN.{length, getD, take, drop};
+ghost use lib.Seq.{sets};
+ghost use Rattle.rules.specs.List.{concatMap};
+ghost use Rattle.rules.specs.Limit.{code};
+ghost use Rattle.rules.specs.Register.{withDelegations};
+ghost use Rattle.rules.specs.Round.{placed};
+ghost use Rattle.block.specs.Block.{delegationIn, recordBytes, countIn, decode, encode};
+ghost use Rattle.block.specs.WellFormed.{wellFormed};
+ghost use Rattle.rounds.specs.Rounded.{leftTo};
+use block::layout;
+
+// Record `from` written at the place `to` with a new weight, unless that is -1; whether it was.
+fn keep_at(block: &mut [u8], from: usize, to: usize, weight: i16) -> bool
+    requires { ⌜ (to ≤ from) × (132 + 8 * from + 8 ≤ length (now block)) × (code weight ≤ 256) ⌝ }
+    ensures { λ r. ⌜ (r ≡ ltb 0 (code weight)) × (now (block .exit) ≡ sets (now (block .entry)) (132 + 8 * to) (concatMap recordBytes (placed (delegationIn (drop (8 * from) (drop 132 (now (block .entry))))) weight))) ⌝ }
+{
+    if weight < 0 {
+        return false;
+    }
+    let giver = block::giver(block, from);
+    let receiver = block::receiver(block, from);
+    let need = block::need(block, from);
+    let bar = block::bar(block, from);
+    let at = layout::RECORDS_AT + layout::RECORD_SIZE * to;
+    block::put_record(block, at, giver, receiver, weight as u8, need, bar);
+    true
+}
+
+// What is left of the first `n` records, each at its new weight, written from the first place on; how many.
+fn keep_left(block: &mut [u8], n: usize, weights: &[i16]) -> usize
+    requires { ⌜ (132 + 8 * n ≤ length (now block)) × (n ≤ length (now weights)) × ((k : ℕ) → k < n → code (getD (now weights) k (pos 0)) ≤ 256) ⌝ }
+    ensures { λ r. ⌜ (let ds = leftTo (λ k. delegationIn (drop (8 * k) (drop 132 (now (block .entry))))) (now (weights .entry)) n in (r ≡ length ds) × (now (block .exit) ≡ take 132 (now (block .entry)) ++ (concatMap recordBytes ds ++ drop (132 + 8 * r) (now (block .entry))))) ⌝ }
+{
+    let mut kept: usize = 0;
+    let mut k: usize = 0;
+    while k < n {
+        let weight = weights[k];
+        if keep_at(block, k, kept, weight) {
+            kept += 1;
+        }
+        k += 1;
+    }
+    kept
+}
+
+// The block written anew: what is left of its delegations, each at its new weight.
+pub fn write_left(block: &mut [u8], weights: &[i16])
+    requires { ⌜ (wellFormed (now block) ≡ true) × (length (now weights) ≡ 256) × ((k : ℕ) → k < countIn (now block) → code (getD (now weights) k (pos 0)) ≤ 256) ⌝ }
+    ensures { λ _. ⌜ now (block .exit) ≡ encode (withDelegations (decode (now (block .entry))) (leftTo (λ k. delegationIn (drop (8 * k) (drop 132 (now (block .entry))))) (now (weights .entry)) (countIn (now (block .entry))))) ⌝ }
+{
+    let n = block::count(block);
+    let kept = keep_left(block, n, weights);
+    let at = layout::RECORDS_AT + layout::RECORD_SIZE * kept;
+    block::zero_all(&mut block[at..]);
+    block::put_two(block, layout::COUNT_AT, kept as u16);
+}
