@@ -67,6 +67,16 @@ tabulate-mem f i zero m = absurd (List·Memᴰ·not-nil m)
 tabulate-mem f i (suc n) (List·Memᴰ·head e) = (zero, omega arith, e ∙ ap f (sym (add-zero i)))
 tabulate-mem f i (suc n) (List·Memᴰ·tail m) = let (k, l, e) = tabulate-mem f (suc i) n m in (suc k, omega arith, e ∙ ap f (suc-add i k ∙ sym (add-suc i k)))
 
+pub mem-tabulate : {A : Type 0} (f : ℕ → A) (i n k : ℕ) → k < n → f (i + k) ∈ tabulate f i n
+mem-tabulate f i zero k l = absurd (not-suc-le-zero l)
+mem-tabulate f i (suc n) zero l = List·Memᴰ·head (ap f (add-zero i))
+mem-tabulate f i (suc n) (suc k) l = List·Memᴰ·tail (subst (λ (m : ℕ). f m ∈ tabulate f (suc i) n) (suc-add i k ∙ sym (add-suc i k)) (mem-tabulate f (suc i) n k (le-of-suc-le-suc l)))
+
+pub getD-mem : {A : Type 0} (xs : List A) (k : ℕ) (d : A) → k < length xs → getD xs k d ∈ xs
+getD-mem [] k d l = absurd (not-suc-le-zero l)
+getD-mem (x ∷ xs) zero d l = List·Memᴰ·head refl
+getD-mem (x ∷ xs) (suc k) d l = List·Memᴰ·tail (getD-mem xs k d (le-of-suc-le-suc l))
+
 -- ── values of a fixed width ──
 module _ {A : Type 0} (f : List ℕ → A) (w : ℕ) where
   -- the first value, and the others from the next place on

@@ -19,7 +19,7 @@ use Rattle.rules.proofs.Pairs.{before-Before, Before-before}
 use Rattle.block.specs.Bytes.{IsBytes, two, twoBytes, readAll, padded, zeros}
 use Rattle.block.specs.Block.{marksIn, delegationIn, recordBytes, subjectsIn, countIn, decode, encode}
 use Rattle.block.specs.WellFormed.{headFormed, ownerUnmarked, restUnmarked, delegationFormed, recordFormed, recordsFormed, rises, recordsRise, restZero, wellFormed}
-use Rattle.block.proofs.Bytes.{tabulate-suc, twoBytes-two, two-most, bytes-drop, length-tabulate, tabulate-mem, length-written, written-at, written-read, allFrom-at, allFrom-all, padded-zeros}
+use Rattle.block.proofs.Bytes.{tabulate-suc, twoBytes-two, two-most, bytes-drop, length-tabulate, tabulate-mem, length-written, written-at, written-read, allFrom-at, allFrom-all, padded-zeros, getD-mem}
 use Rattle.block.proofs.Encode.{marksPart, recordsPart, marks-encode, record-wide, record-read, length-encode, subjects-encode, count-encode, records-encode, delegations-encode}
 
 -- ── the rules of a well-formed block, each by itself ──
@@ -251,11 +251,6 @@ module _ (b : List ℕ) (bytes : IsBytes b) (p : Parts b) where
       ∙ take-append-drop 4 b
 
 -- ── a well-formed register written is a well-formed block ──
-getD-mem : {A : Type 0} (xs : List A) (k : ℕ) (d : A) → k < length xs → getD xs k d ∈ xs
-getD-mem [] k d l = absurd (not-suc-le-zero l)
-getD-mem (x ∷ xs) zero d l = List·Memᴰ·head refl
-getD-mem (x ∷ xs) (suc k) d l = List·Memᴰ·tail (getD-mem xs k d (le-of-suc-le-suc l))
-
 -- zeros that stand after a list in a block are zeros of the block
 zeros-after : (b front rest : List ℕ) (at n m : ℕ) → drop at b ≡ (front ++ replicate m 0) ++ rest → n ≤ m → T (zeros b (at + length front) n)
 zeros-after b front rest at n m e l = allFrom-all (λ k. eqb (getD b k 0) 0) (at + length front) n one

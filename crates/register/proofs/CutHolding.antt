@@ -13,7 +13,7 @@ use Rattle.rules.specs.Register.{Register}
 use Rattle.rules.specs.Pair.{isPair, weightAt, stands}
 use Rattle.rules.specs.Call.{revoke, downgrade}
 use Rattle.rules.specs.Refusal.{firstOf, passed, held, notBelow}
-use Rattle.rules.proofs.Lists.{not-or-left, not-or-right, not-not}
+use Rattle.rules.proofs.Lists.{not-or-left, not-or-right, not-not, T-true}
 use Rattle.rules.proofs.Refusals.{numbered, firstOf-passes, passed-numbered}
 use Rattle.block.specs.Bytes.{IsBytes, readAll, leading}
 use Rattle.block.specs.Block.{delegationIn, subjectsIn, countIn, decode}
@@ -21,7 +21,6 @@ use Rattle.block.specs.WellFormed.{wellFormed}
 use Rattle.block.proofs.Held.{subjects-held, found-stands}
 use Rattle.register.proofs.Made.{firstOf-none, firstOf-some}
 use Rattle.register.proofs.Holding.{enrolled-test, weight-stands}
-use Rattle.register.proofs.History.{T-true}
 
 -- ── a downgrade is refused as a revocation is, or by its weight ──
 module _ (t : List ℤ) (R : Register) (y g r : ℕ) where

@@ -16,6 +16,7 @@ use Rattle.rules.specs.Refusal.{firstOf, passed, held}
 use Rattle.rules.specs.CallStep.{cut, accepted}
 use Rattle.rules.proofs.Calls.{removed-formed, lowered-formed}
 use Rattle.rules.proofs.Ranges.{both-few, settle-most}
+use Rattle.rules.proofs.Lists.{T-true}
 use Rattle.block.specs.Bytes.{IsBytes}
 use Rattle.block.specs.Block.{decode, encode}
 use Rattle.block.specs.WellFormed.{wellFormed}
@@ -30,7 +31,7 @@ use Rattle.register.specs.Cuts.{CutLeft, CutMade}
 use Rattle.register.specs.History.{Entry}
 use Rattle.register.specs.declared.Answer.{Answer}
 use Rattle.register.proofs.Made.{made-done}
-use Rattle.register.proofs.History.{T-true, place-right}
+use Rattle.register.proofs.History.{place-right}
 use Rattle.register.proofs.Exactly.{through}
 
 -- what `settled` promises, as the outcome of a cut

@@ -19,7 +19,7 @@ use Rattle.rules.specs.Call.{Call, fresh, IsCut}
 use Rattle.rules.specs.Refusal.{firstOf, passed, held, refusalOf}
 use Rattle.rules.specs.CallStep.{Outcome, accepted, refused, callStep}
 use Rattle.rules.specs.Trace.{registerFrom}
-use Rattle.rules.proofs.Lists.{either}
+use Rattle.rules.proofs.Lists.{either, T-true}
 use Rattle.rules.proofs.Refusals.{Passes, passed-numbered}
 use Rattle.rules.proofs.Table.{steps-rule}
 use Rattle.rules.proofs.Calls.{fresh-formed, accepted-refusal, callStep-cases, callStep-formed, callStep-refused}
@@ -37,10 +37,6 @@ use Rattle.register.proofs.Made.{firstOf-none, firstOf-some}
 -- an outcome on a register, with its register written
 abbrev pub onBytes : Outcome → Result
 onBytes o = record { refusal = o .refusal; first = o .first; second = o .second; third = o .third; bytes = encode (o .left) }
-
-pub T-true : (b : Bool) → T b → b ≡ true
-T-true true h = refl
-T-true false h = absurd h
 
 -- an accepted outcome leaves its register; a refused one the register that it found
 written-onBytes : (t : List ℤ) (R : Register) (c : Call) → written (encode R) (callStep t R c) ≡ onBytes (callStep t R c)

@@ -17,6 +17,7 @@ use Rattle.rules.specs.CallStep.{Outcome, callStep}
 use Rattle.rules.specs.Ranges.{Unused, InRange}
 use Rattle.rules.proofs.Calls.{fresh-formed, callStep-formed}
 use Rattle.rules.proofs.Ranges.{callStep-range}
+use Rattle.rules.proofs.Lists.{T-true}
 use Rattle.block.specs.Bytes.{IsBytes}
 use Rattle.block.specs.Block.{decode, encode}
 use Rattle.block.specs.WellFormed.{wellFormed}
@@ -27,7 +28,6 @@ use Rattle.register.specs.CallOn.{Result, early, turned, written, callOn
 use Rattle.register.specs.Kept.{Kept, KeptOpen}
 use Rattle.register.proofs.Made.{callOn-late}
 use Rattle.register.proofs.Exactly.{through, early-through}
-use Rattle.register.proofs.History.{T-true}
 
 module _ (t : List ℤ) (b : List ℕ) (c : Call) where
   written-same : (o : Outcome) → o .refusal ≢ 0 → written b o .bytes ≡ b

@@ -6,7 +6,6 @@ mod passed;
 mod reaching;
 
 ghost use mathlib.Core.Path.{_≡_};
-ghost use lib.IntN.{pos};
 ghost use denote.Ref.{ptr};
 ghost use Rattle.rules.specs.Table.{steps};
 ghost use Rattle.rules.specs.Cut.{removal, lowering};

@@ -2,7 +2,7 @@
 use mathlib.Core.Path.{_≡_, refl, sym, ap, subst, _∙_}
 use mathlib.Core.Logic.{_≢_}
 use mathlib.Core.Bool.{Bool, true, false, cond}
-use mathlib.Core.List.{List, [], _∷_, _++_, append-assoc, append-nil, List·Memᴰ·head, List·Memᴰ·tail}
+use mathlib.Core.List.{List, [], _∷_, _++_, append-assoc, append-nil}
 use Prim.Native.Nat.{ℕ, zero, suc, _+_, _*_, _≤_, _<_, min}
 use native.Mathlib.Nat.{add-zero, add-suc, suc-add, zero-add}
 use native.Mathlib.Omega.{arith}
@@ -13,14 +13,14 @@ use lib.Signed.{ltZ}
 use lib.ListN.{getD}
 use Rattle.rules.specs.List.{_∈_, tabulate, concatMap}
 use Rattle.rules.specs.Limit.{code, _≼_}
-use Rattle.rules.specs.Register.{Delegation, Register, reweigh, withDelegations}
+use Rattle.rules.specs.Register.{Delegation, reweigh, withDelegations}
 use Rattle.rules.specs.Support.{allowed}
 use Rattle.rules.specs.Round.{placed, capped, round}
 use Rattle.rules.proofs.Rounds.{round-stays, round-changes}
 use Rattle.block.specs.Bytes.{IsBytes}
 use Rattle.block.specs.Block.{countIn, decode}
 use Rattle.block.specs.WellFormed.{wellFormed}
-use Rattle.block.proofs.Bytes.{tabulate-mem}
+use Rattle.block.proofs.Bytes.{tabulate-mem, mem-tabulate}
 use Rattle.block.proofs.Fields.{recordAt}
 use Rattle.block.proofs.Held.{held-formed, delegations-held}
 use Rattle.search.proofs.Signed.{below-weight}
@@ -30,11 +30,6 @@ use Rattle.rounds.specs.Rounded.{Tabled, Decoded, lesser, reachOf, Lower
 tabulate-last : {A : Type 0} (f : ℕ → A) (i n : ℕ) → tabulate f i (suc n) ≡ tabulate f i n ++ (f (i + n) ∷ [])
 tabulate-last f i zero = λ j. f (sym (add-zero i) j) ∷ []
 tabulate-last f i (suc n) = ap (λ (xs : List _). f i ∷ xs) (tabulate-last f (suc i) n) ∙ ap (λ (m : ℕ). f i ∷ (tabulate f (suc i) n ++ (f m ∷ []))) (suc-add i n ∙ sym (add-suc i n))
-
-mem-tabulate : {A : Type 0} (f : ℕ → A) (i n k : ℕ) → k < n → f (i + k) ∈ tabulate f i n
-mem-tabulate f i zero k h = absurd (omega arith)
-mem-tabulate f i (suc n) zero h = List·Memᴰ·head (ap f (add-zero i))
-mem-tabulate f i (suc n) (suc k) h = List·Memᴰ·tail (subst (λ (m : ℕ). f m ∈ tabulate f (suc i) n) (suc-add i k ∙ sym (add-suc i k)) (mem-tabulate f (suc i) n k (omega arith)))
 
 concatMap-last : {A B : Type 0} (g : A → List B) (xs : List A) (y : A) → concatMap g (xs ++ (y ∷ [])) ≡ concatMap g xs ++ g y
 concatMap-last g [] y = append-nil (g y)

@@ -7,7 +7,6 @@ use Prim.Native.Nat.{ℕ, suc, _+_, _*_, _≤_, _<_}
 use native.Mathlib.Nat.{zero-add, add-zero}
 use native.Mathlib.Omega.{arith}
 use lib.IntN.{ℤ}
-use lib.Dec.{T}
 use lib.ListN.{drop}
 use Rattle.rules.specs.Register.{Register, withDelegations}
 use Rattle.rules.specs.Round.{round, SettlesIn, settle, total}
@@ -15,6 +14,7 @@ use Rattle.rules.specs.WellFormed.{WellFormed}
 use Rattle.rules.proofs.Rounds.{round-falls, settle-right, settles-unique}
 use Rattle.rules.proofs.WellFormed.{round-formed}
 use Rattle.rules.proofs.Ranges.{total-most}
+use Rattle.rules.proofs.Lists.{T-true}
 use Rattle.block.specs.Bytes.{IsBytes}
 use Rattle.block.specs.Block.{delegationIn, countIn, decode, encode}
 use Rattle.block.specs.WellFormed.{wellFormed}
@@ -69,10 +69,6 @@ round-some t b x ws r e after w = record { left = w ∙ ap encode (r .left); sam
 -- the block holds what n rounds left
 abbrev pub GoingOn : List ℤ → Register → ℕ → List ℕ → Type 0
 GoingOn t C n b = (R : Register) × (b ≡ encode R) × Going t C n R
-
-T-true : (b : Bool) → T b → b ≡ true
-T-true true h = refl
-T-true false h = absurd h
 
 pub on-first : (t : List ℤ) (b : List ℕ) → IsBytes b → wellFormed b ≡ true → GoingOn t (decode b) 0 b
 on-first t b bytes formed = (decode b, held-written b bytes formed, going-none t (decode b) (held-formed b bytes formed))

@@ -34,6 +34,10 @@ pub T-not-not : (b : Bool) → T b → T (not (not b))
 T-not-not true h = tt
 T-not-not false h = h
 
+pub T-true : (b : Bool) → T b → b ≡ true
+T-true true h = refl
+T-true false h = absurd h
+
 -- a test that the code asks the other way round
 pub not-true : (x : Bool) → not x ≡ true → x ≡ false
 not-true true e = let z : _≡_ {A = ℕ} 0 1 = cc in absurd (omega arith)

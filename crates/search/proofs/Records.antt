@@ -1,33 +1,22 @@
 -- Records as the delegations of the definitions: read in place, in a part, and by giver. Assumes nothing.
-use mathlib.Core.Path.{_≡_, refl, sym, ap, subst, _∙_}
+use mathlib.Core.Path.{_≡_, sym, ap, subst, _∙_}
 use mathlib.Core.Logic.{inl, inr}
-use mathlib.Core.List.{List, [], _∷_, List·Memᴰ·head, List·Memᴰ·tail}
+use mathlib.Core.List.{List, [], _∷_}
 use Prim.Native.Nat.{ℕ, zero, suc, _+_, _*_, _/_, _≤_, _<_}
-use native.Mathlib.Nat.{add-zero, zero-add, add-suc, suc-add, add-assoc, le-refl, le-of-suc-le-suc, not-suc-le-zero}
+use native.Mathlib.Nat.{add-zero, zero-add, add-assoc, le-refl, le-of-suc-le-suc, not-suc-le-zero}
 use native.Mathlib.Omega.{arith}
 use lib.ListN.{length, getD, take, drop}
 use lib.Seq.{getD-drop, getD-take}
-use Rattle.rules.specs.List.{_∈_, tabulate}
+use Rattle.rules.specs.List.{_∈_}
 use Rattle.rules.specs.Register.{Delegation}
 use Rattle.rules.specs.WellFormed.{Before, Rising}
 use Rattle.rules.proofs.Lists.{getD-tabulate}
 use Rattle.block.specs.Bytes.{two}
 use Rattle.block.specs.Block.{delegationIn}
-use Rattle.block.proofs.Bytes.{length-tabulate, tabulate-mem}
+use Rattle.block.proofs.Bytes.{length-tabulate, tabulate-mem, getD-mem, mem-tabulate}
 use Rattle.search.specs.Search.{delegationsOf, parentIn}
 use Rattle.search.specs.Steps.{recordAt}
 use Rattle.search.specs.Found.{delegationsIn}
-
-module _ {A : Type 0} where
-  pub getD-mem : (xs : List A) (k : ℕ) (z : A) → k < length xs → getD xs k z ∈ xs
-  getD-mem [] k z l = absurd (not-suc-le-zero l)
-  getD-mem (x ∷ xs) zero z l = List·Memᴰ·head refl
-  getD-mem (x ∷ xs) (suc k) z l = List·Memᴰ·tail (getD-mem xs k z (le-of-suc-le-suc l))
-
-  pub mem-tabulate : (f : ℕ → A) (i n k : ℕ) → k < n → f (i + k) ∈ tabulate f i n
-  mem-tabulate f i zero k l = absurd (not-suc-le-zero l)
-  mem-tabulate f i (suc n) zero l = List·Memᴰ·head (ap f (add-zero i))
-  mem-tabulate f i (suc n) (suc k) l = List·Memᴰ·tail (subst (λ (m : ℕ). f m ∈ tabulate f (suc i) n) (suc-add i k ∙ sym (add-suc i k)) (mem-tabulate f (suc i) n k (le-of-suc-le-suc l)))
 
 -- a list read at an offset has the record that stands there
 shifted : (r s : List ℕ) (i j : ℕ) → ((k : ℕ) → k < 8 → getD r (i + k) 0 ≡ getD s (j + k) 0) → recordAt r i ≡ recordAt s j

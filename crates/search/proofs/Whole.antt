@@ -20,11 +20,11 @@ use Rattle.rules.specs.Links.{linksTo}
 use Rattle.rules.proofs.Lists.{either, eq→eqb, not-not, T-not-not, getD-tabulate}
 use Rattle.rules.proofs.Search.{Found, search-start, search-settle, search-reach}
 use Rattle.rules.proofs.Links.{found-links}
-use Rattle.block.proofs.Bytes.{length-tabulate, tabulate-mem}
+use Rattle.block.proofs.Bytes.{length-tabulate, tabulate-mem, mem-tabulate}
 use Rattle.search.specs.Search.{underMarks, parentIn, Lent}
 use Rattle.search.specs.Steps.{recordAt, Started, Gave, Heaviest}
 use Rattle.search.specs.Found.{delegationsIn, Searched}
-use Rattle.search.proofs.Records.{delegation-mem, mem-delegation, mem-tabulate}
+use Rattle.search.proofs.Records.{delegation-mem, mem-delegation}
 use Rattle.search.proofs.State.{limitOf, isSettled, State, state-limit, state-top, ran}
 
 -- ── how many are left to settle ──

@@ -1,7 +1,6 @@
 -- `rounds::fill_reaches` fills the table of reaches. Assumes nothing.
 use mathlib.Core.Logic.{⊎-elim}
-use mathlib.Core.Path.{_≡_, sym, ap, _∙_}
-use mathlib.Core.Bool.{true, false}
+use mathlib.Core.Path.{_≡_, sym, _∙_}
 use Prim.Native.Nat.{_-_, _≤_}
 use native.Mathlib.Omega.{arith}
 use borrow.Author.Needs.{needs}
@@ -9,7 +8,7 @@ use lib.ListN.{length}
 use Rattle.rules.specs.Pair.{receives}
 use Rattle.block.specs.Block.{decode}
 use Rattle.block.proofs.Bytes.{fits-bytes}
-use Rattle.block.proofs.Held.{rules-of, size-held, count-most, held-formed, subjects-held, delegations-held}
+use Rattle.block.proofs.Held.{size-held, count-most, held-formed, subjects-held, delegations-held}
 use Rattle.rounds.proofs.Filling.{Filled, filled-none, filled-skip, filled-on, filled-tabled}
 use Rattle.rounds.proofs.reaches.fill_reaches.Statement.{statement}
 use Rattle.rounds.proofs.reaches.fill_reaches.Tie as tie
