@@ -21,7 +21,7 @@ use Rattle.rules.proofs.Lists.{either}
 use Rattle.block.specs.Bytes.{IsBytes, twoBytes, readAll, leading}
 use Rattle.block.specs.Block.{delegationIn, recordBytes, subjectsIn, countIn, decode, encode}
 use Rattle.block.specs.WellFormed.{wellFormed}
-use Rattle.block.specs.Shift.{raised, lowered}
+use Rattle.block.specs.Shift.{movedUp, movedDown}
 use Rattle.block.proofs.Bytes.{length-tabulate}
 use Rattle.block.proofs.Form.{Parts, parts, decode-formed, encode-decode}
 use Rattle.block.proofs.Splice.{leading-most, insert-leading, pairPlace, filter-pair, map-pair, weightAt-found, weightAt-missing}
@@ -69,12 +69,12 @@ module _ (b : List ℕ) (bytes : IsBytes b) (formed : wellFormed b ≡ true) whe
 
   -- one more delegation
   pub insert-held : (d : Delegation) (k : ℕ) → countIn b < 256 → k ≡ leading (λ e. not (before d e)) (readAll delegationIn 8 (drop 132 b) (countIn b))
-      → sets (sets (raised b (132 + 8 * k) (132 + 8 * countIn b)) (132 + 8 * k) (recordBytes d)) 2 (twoBytes (countIn b + 1)) ≡ encode (withDelegations (decode b) (insert d (decode b .delegations)))
+      → sets (sets (movedUp b (132 + 8 * k) (132 + 8 * countIn b)) (132 + 8 * k) (recordBytes d)) 2 (twoBytes (countIn b + 1)) ≡ encode (withDelegations (decode b) (insert d (decode b .delegations)))
   insert-held d k l e =
       let ds = decode b .delegations in
       let n : countIn b ≡ length (decode b .delegations) = sym count-held in
       let q : k ≡ leading (λ x. not (before d x)) ds = e ∙ ap (leading (λ x. not (before d x))) (sym delegations-held) in
-      (λ j. sets (sets (raised (held-written j) (132 + 8 * k) (132 + 8 * n j)) (132 + 8 * k) (recordBytes d)) 2 (twoBytes (n j + 1)))
+      (λ j. sets (sets (movedUp (held-written j) (132 + 8 * k) (132 + 8 * n j)) (132 + 8 * k) (recordBytes d)) 2 (twoBytes (n j + 1)))
       ∙ encode-insert (decode b) held-formed d k (subst (λ (x : ℕ). x ≤ length ds) (sym q) (leading-most (λ x. not (before d x)) ds)) (subst (λ (x : ℕ). x < 256) n l)
       ∙ ap (λ (x : ℕ). encode (withDelegations (decode b) (take x ds ++ (d ∷ drop x ds)))) q
       ∙ ap (λ (x : List Delegation). encode (withDelegations (decode b) x)) (sym (insert-leading d ds))
@@ -99,12 +99,12 @@ module _ (b : List ℕ) (bytes : IsBytes b) (formed : wellFormed b ≡ true) whe
 
     -- the pair's delegation removed
     pub remove-held : stands (decode b) g r ≡ true
-        → sets (sets (lowered b (132 + 8 * k) (132 + 8 * countIn b)) (132 + 8 * countIn b - 8) (recordBytes (granted 0 0 0 0 0))) 2 (twoBytes (countIn b - 1)) ≡ encode (named (decode b) (removal g r))
+        → sets (sets (movedDown b (132 + 8 * k) (132 + 8 * countIn b)) (132 + 8 * countIn b - 8) (recordBytes (granted 0 0 0 0 0))) 2 (twoBytes (countIn b - 1)) ≡ encode (named (decode b) (removal g r))
     unfolding named
     remove-held s =
         let ds = decode b .delegations in
         let n : countIn b ≡ length (decode b .delegations) = sym count-held in
-        (λ j. sets (sets (lowered (held-written j) (132 + 8 * k) (132 + 8 * n j)) (132 + 8 * n j - 8) (recordBytes (granted 0 0 0 0 0))) 2 (twoBytes (n j - 1)))
+        (λ j. sets (sets (movedDown (held-written j) (132 + 8 * k) (132 + 8 * n j)) (132 + 8 * n j - 8) (recordBytes (granted 0 0 0 0 0))) 2 (twoBytes (n j - 1)))
         ∙ encode-remove (decode b) held-formed k (omega (arith, found-stands s, count-held))
         ∙ ap (λ (x : ℕ). encode (withDelegations (decode b) (take x ds ++ drop (suc x) ds))) place-held
         ∙ ap (λ (x : List Delegation). encode (withDelegations (decode b) x)) (sym (filter-pair g r ds (held-formed .rising)))

@@ -12,7 +12,7 @@ use Rattle.rules.specs.WellFormed.{WellFormed}
 use Rattle.rules.specs.Call.{fresh, granted, enrolled}
 use Rattle.block.specs.Bytes.{twoBytes, padded}
 use Rattle.block.specs.Block.{recordBytes, encode}
-use Rattle.block.specs.Shift.{raised, lowered}
+use Rattle.block.specs.Shift.{movedUp, movedDown}
 use Rattle.block.proofs.Bytes.{length-written}
 use Rattle.block.proofs.Encode.{marksPart, recordsPart, record-wide, length-marksPart}
 use Rattle.block.proofs.Splice.{spliced-in, spliced-out}
@@ -57,7 +57,7 @@ module _ (R : Register) (f : WellFormed R) where
 
   -- a delegation inserted at place k
   pub encode-insert : (d : Delegation) (k : ℕ) → k ≤ length (R .delegations) → length (R .delegations) < 256
-      → sets (sets (raised (encode R) (132 + 8 * k) (132 + 8 * length (R .delegations))) (132 + 8 * k) (recordBytes d)) 2 (twoBytes (length (R .delegations) + 1))
+      → sets (sets (movedUp (encode R) (132 + 8 * k) (132 + 8 * length (R .delegations))) (132 + 8 * k) (recordBytes d)) 2 (twoBytes (length (R .delegations) + 1))
       ≡ encode (withDelegations R (take k (R .delegations) ++ (d ∷ drop k (R .delegations))))
   encode-insert d k l room =
       let ds = R .delegations in
@@ -78,7 +78,7 @@ module _ (R : Register) (f : WellFormed R) where
       let n′ : c + 1 ≡ length (take k ds ++ (d ∷ drop k ds)) = sym (length-append (take k ds) (d ∷ drop k ds) ∙ omega (arith, length-take-le k ds l, length-drop k ds)) in
       let more : 2048 - length (X ++ (recordBytes d ++ Y)) ≡ m - 8 = omega (arith, length-append X (recordBytes d ++ Y), length-append (recordBytes d) Y) in
       let after = encode-parts R′ (X ++ (recordBytes d ++ Y)) (m - 8) (concatMap-append recordBytes (take k ds) (d ∷ drop k ds)) more in
-      ap (λ (s : List ℕ). sets (sets (raised s (132 + 8 * k) (132 + 8 * c)) (132 + 8 * k) (recordBytes d)) 2 (twoBytes (c + 1))) (before ∙ group)
+      ap (λ (s : List ℕ). sets (sets (movedUp s (132 + 8 * k) (132 + 8 * c)) (132 + 8 * k) (recordBytes d)) 2 (twoBytes (c + 1))) (before ∙ group)
       ∙ ap (λ (s : List ℕ). sets s 2 (twoBytes (c + 1))) (in1 ∙ ap (λ (z : List ℕ). ((H ++ marksPart R) ++ X) ++ (recordBytes d ++ (Y ++ z))) zs ∙ ungroup)
       ∙ count-set (R .subjects) c (c + 1) (marksPart R ++ ((X ++ (recordBytes d ++ Y)) ++ replicate (m - 8) 0))
       ∙ ap (λ (n : ℕ). headOf (R .subjects) n ++ (marksPart R ++ ((X ++ (recordBytes d ++ Y)) ++ replicate (m - 8) 0))) n′
@@ -86,7 +86,7 @@ module _ (R : Register) (f : WellFormed R) where
 
   -- the delegation at place k removed
   pub encode-remove : (k : ℕ) → k < length (R .delegations)
-      → sets (sets (lowered (encode R) (132 + 8 * k) (132 + 8 * length (R .delegations))) (132 + 8 * length (R .delegations) - 8) (recordBytes (granted 0 0 0 0 0))) 2 (twoBytes (length (R .delegations) - 1))
+      → sets (sets (movedDown (encode R) (132 + 8 * k) (132 + 8 * length (R .delegations))) (132 + 8 * length (R .delegations) - 8) (recordBytes (granted 0 0 0 0 0))) 2 (twoBytes (length (R .delegations) - 1))
       ≡ encode (withDelegations R (take k (R .delegations) ++ drop (suc k) (R .delegations)))
   encode-remove k l =
       let ds = R .delegations in
@@ -110,7 +110,7 @@ module _ (R : Register) (f : WellFormed R) where
       let n′ : c - 1 ≡ length (take k ds ++ drop (suc k) ds) = sym (length-append (take k ds) (drop (suc k) ds) ∙ omega (arith, length-take-le k ds (omega arith), length-drop (suc k) ds)) in
       let fewer : 2048 - length (X ++ Y) ≡ 8 + m = omega (arith, length-append X Y, f .few) in
       let after = encode-parts R′ (X ++ Y) (8 + m) (concatMap-append recordBytes (take k ds) (drop (suc k) ds)) fewer in
-      ap (λ (s : List ℕ). sets (sets (lowered s (132 + 8 * k) (132 + 8 * c)) (132 + 8 * c - 8) (recordBytes (granted 0 0 0 0 0))) 2 (twoBytes (c - 1))) (before ∙ group)
+      ap (λ (s : List ℕ). sets (sets (movedDown s (132 + 8 * k) (132 + 8 * c)) (132 + 8 * c - 8) (recordBytes (granted 0 0 0 0 0))) 2 (twoBytes (c - 1))) (before ∙ group)
       ∙ ap (λ (s : List ℕ). sets s 2 (twoBytes (c - 1))) (out ∙ ap (λ (z : List ℕ). ((H ++ marksPart R) ++ X) ++ (Y ++ z)) zs ∙ ungroup)
       ∙ count-set (R .subjects) c (c - 1) (marksPart R ++ ((X ++ Y) ++ replicate (8 + m) 0))
       ∙ ap (λ (n : ℕ). headOf (R .subjects) n ++ (marksPart R ++ ((X ++ Y) ++ replicate (8 + m) 0))) n′

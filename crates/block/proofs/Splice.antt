@@ -18,13 +18,13 @@ use Rattle.rules.specs.CallStep.{before, insert}
 use Rattle.rules.proofs.WellFormed.{Before-irrefl}
 use Rattle.rules.proofs.Pairs.{test-pair}
 use Rattle.block.specs.Bytes.{leading}
-use Rattle.block.specs.Shift.{raised, lowered}
+use Rattle.block.specs.Shift.{movedUp, movedDown}
 
 -- ── bytes ──
 module _ (P : List ℕ) (at : ℕ) (here : length P ≡ at) where
   -- room made at the end of P, and filled
-  pub spliced-in : (Y Z rec : List ℕ) (end : ℕ) → at + length Y ≡ end → 8 ≤ length Z → length rec ≡ 8 → sets (raised (P ++ (Y ++ Z)) at end) at rec ≡ P ++ (rec ++ (Y ++ drop 8 Z))
-  unfolding raised
+  pub spliced-in : (Y Z rec : List ℕ) (end : ℕ) → at + length Y ≡ end → 8 ≤ length Z → length rec ≡ 8 → sets (movedUp (P ++ (Y ++ Z)) at end) at rec ≡ P ++ (rec ++ (Y ++ drop 8 Z))
+  unfolding movedUp
   spliced-in Y Z rec end e l w =
       let b = P ++ (Y ++ Z) in
       let rest = take (end - at) (drop at b) ++ drop (end + 8) b in
@@ -45,8 +45,8 @@ module _ (P : List ℕ) (at : ℕ) (here : length P ≡ at) where
       ∙ (λ j. P ++ (rec ++ (y j ++ z j)))
 
   -- the record W that begins at the end of P taken out, and zeros put at the end
-  pub spliced-out : (W Y Z rec : List ℕ) (end : ℕ) → length W ≡ 8 → at + 8 + length Y ≡ end → length rec ≡ 8 → sets (lowered (P ++ (W ++ (Y ++ Z))) at end) (end - 8) rec ≡ P ++ (Y ++ (rec ++ Z))
-  unfolding lowered
+  pub spliced-out : (W Y Z rec : List ℕ) (end : ℕ) → length W ≡ 8 → at + 8 + length Y ≡ end → length rec ≡ 8 → sets (movedDown (P ++ (W ++ (Y ++ Z))) at end) (end - 8) rec ≡ P ++ (Y ++ (rec ++ Z))
+  unfolding movedDown
   spliced-out W Y Z rec end w e k =
       let b = P ++ (W ++ (Y ++ Z)) in
       let n : end - (at + 8) ≡ length Y = omega arith in

@@ -6,7 +6,7 @@ ghost use lib.Seq.{sets};
 ghost use Rattle.rules.specs.Call.{granted};
 ghost use Rattle.block.specs.Bytes.{twoBytes};
 ghost use Rattle.block.specs.Block.{recordBytes};
-ghost use Rattle.block.specs.Shift.{raised, lowered};
+ghost use Rattle.block.specs.Shift.{movedUp, movedDown};
 
 // Zeros everywhere.
 pub fn zero_all(b: &mut [u8])
@@ -44,7 +44,7 @@ pub fn put_record(b: &mut [u8], at: usize, giver: u8, receiver: u8, weight: u8, 
 // The bytes from `at` to `end` moved up by the size of a record, the last one first.
 pub fn shift_up(b: &mut [u8], at: usize, end: usize)
     requires { ⌜ (at ≤ end) × (end + 8 ≤ length (now b)) ⌝ }
-    ensures { λ _. ⌜ now (b .exit) ≡ raised (now (b .entry)) at end ⌝ }
+    ensures { λ _. ⌜ now (b .exit) ≡ movedUp (now (b .entry)) at end ⌝ }
 {
     let mut i = end;
     while at < i {
@@ -56,7 +56,7 @@ pub fn shift_up(b: &mut [u8], at: usize, end: usize)
 // The bytes from `at + 8` to `end` moved down by the size of a record, the first one first.
 pub fn shift_down(b: &mut [u8], at: usize, end: usize)
     requires { ⌜ (at + 8 ≤ end) × (end ≤ length (now b)) ⌝ }
-    ensures { λ _. ⌜ now (b .exit) ≡ lowered (now (b .entry)) at end ⌝ }
+    ensures { λ _. ⌜ now (b .exit) ≡ movedDown (now (b .entry)) at end ⌝ }
 {
     let mut i = at;
     while i + 8 < end {

@@ -182,7 +182,7 @@ pub fn revoke(block: &mut [u8], by: u32, giver: u32, receiver: u32) -> Answer
     if !block::well_formed(block) {
         return refused(refusal::NOT_WELL_FORMED);
     }
-    let m = held::revoke_held(block, by, giver, receiver);
+    let m = cutting::revoke_held(block, by, giver, receiver);
     if m != 0 {
         return refused(m);
     }
@@ -204,7 +204,7 @@ pub fn downgrade(block: &mut [u8], by: u32, giver: u32, receiver: u32, weight: u
     if !block::well_formed(block) {
         return refused(refusal::NOT_WELL_FORMED);
     }
-    let m = held::downgrade_held(block, by, giver, receiver, weight);
+    let m = cutting::downgrade_held(block, by, giver, receiver, weight);
     if m != 0 {
         return refused(m);
     }

@@ -4,7 +4,7 @@ use Prim.Native.Nat.{_≤_, _-_, _+_}
 use native.Mathlib.Omega.{arith}
 use lib.ListN.{length, drop, length-set}
 use lib.Seq.{paste}
-use Rattle.block.proofs.Shift.{lowered-none, lowered-on, lowered-end}
+use Rattle.block.proofs.Shift.{movedDown-none, movedDown-on, movedDown-end}
 use Rattle.block.proofs.write.shift_down.Statement.{statement}
 use Rattle.block.proofs.write.shift_down.Tie as tie
 
@@ -15,7 +15,7 @@ abbrev μ-loop : tie.MeasureT-loop
 μ-loop b₀ at end i₀ b i = end - i
 
 loop-holds : tie.Need-loop-holds Inv-loop μ-loop
-loop-holds c = (omega arith, omega arith, refl, lowered-none (c .args .b .now) (c .args .at) (c .args .end) (omega arith))
+loop-holds c = (omega arith, omega arith, refl, movedDown-none (c .args .b .now) (c .args .at) (c .args .end) (omega arith))
 
 add-loop : tie.Need-add-loop Inv-loop μ-loop
 add-loop c = omega arith
@@ -40,14 +40,14 @@ loop-again c = (
   omega arith,
   omega arith,
   simp length-set (c .before .before .loop .inv .2),
-  lowered-on (c .before .before .before .args .b .now) (c .before .before .before .args .at) (c .before .before .before .args .end) (omega arith) (c .before .before .loop .i) (omega arith) (omega arith) (c .before .before .loop .b) (c .before .before .loop .inv .3),
+  movedDown-on (c .before .before .before .args .b .now) (c .before .before .before .args .at) (c .before .before .before .args .end) (omega arith) (c .before .before .loop .i) (omega arith) (omega arith) (c .before .before .loop .b) (c .before .before .loop .inv .3),
 )
 
 same-length : tie.Need-same-length Inv-loop μ-loop
 same-length c = c .before .loop .inv .2
 
 returns : tie.Need-returns Inv-loop μ-loop
-returns c = lowered-end (c .before .before .args .b .now) (c .before .before .args .at) (c .before .before .args .end) (omega arith) (c .before .loop .i) (omega arith) (omega arith) (c .before .loop .b) (c .before .loop .inv .3)
+returns c = movedDown-end (c .before .before .args .b .now) (c .before .before .args .at) (c .before .before .args .end) (omega arith) (c .before .loop .i) (omega arith) (omega arith) (c .before .loop .b) (c .before .loop .inv .3)
 
 pub shift-down-spec : {M : Type 1} → statement M
 shift-down-spec =

@@ -3,19 +3,19 @@ use mathlib.Core.Path.{_≡_, refl}
 use Prim.Native.Nat.{_≤_, _-_}
 use native.Mathlib.Omega.{arith}
 use lib.ListN.{length, length-set}
-use Rattle.block.specs.Shift.{raised}
-use Rattle.block.proofs.Shift.{raised-none, raised-on}
+use Rattle.block.specs.Shift.{movedUp}
+use Rattle.block.proofs.Shift.{movedUp-none, movedUp-on}
 use Rattle.block.proofs.write.shift_up.Statement.{statement}
 use Rattle.block.proofs.write.shift_up.Tie as tie
 
 abbrev Inv-loop : tie.InvT-loop
-Inv-loop b₀ at end i₀ b i = (at ≤ i) × (i ≤ end) × (length b ≡ length b₀) × (b ≡ raised b₀ i end)
+Inv-loop b₀ at end i₀ b i = (at ≤ i) × (i ≤ end) × (length b ≡ length b₀) × (b ≡ movedUp b₀ i end)
 
 abbrev μ-loop : tie.MeasureT-loop
 μ-loop b₀ at end i₀ b i = i
 
 loop-holds : tie.Need-loop-holds Inv-loop μ-loop
-loop-holds c = (omega arith, omega arith, refl, raised-none (c .args .b .now) (c .args .end) (omega arith))
+loop-holds c = (omega arith, omega arith, refl, movedUp-none (c .args .b .now) (c .args .end) (omega arith))
 
 sub-i : tie.Need-sub-i Inv-loop μ-loop
 sub-i c = omega arith
@@ -37,7 +37,7 @@ loop-again c = (
   omega arith,
   omega arith,
   simp length-set (c .before .before .loop .inv .2),
-  raised-on (c .before .before .before .args .b .now) (c .before .before .before .args .end) (omega arith) (c .before .before .loop .i) (omega arith) (omega arith) (c .before .before .loop .b) (c .before .before .loop .inv .3),
+  movedUp-on (c .before .before .before .args .b .now) (c .before .before .before .args .end) (omega arith) (c .before .before .loop .i) (omega arith) (omega arith) (c .before .before .loop .b) (c .before .before .loop .inv .3),
 )
 
 same-length : tie.Need-same-length Inv-loop μ-loop

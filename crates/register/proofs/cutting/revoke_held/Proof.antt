@@ -12,8 +12,8 @@ use Rattle.block.specs.Block.{subjectsIn}
 use Rattle.block.proofs.Bytes.{fits-bytes}
 use Rattle.block.proofs.Held.{size-held, count-most, stands-found, stands-missing}
 use Rattle.register.proofs.CutHolding.{revoke-first}
-use Rattle.register.proofs.held.revoke_held.Statement.{statement}
-use Rattle.register.proofs.held.revoke_held.Tie as tie
+use Rattle.register.proofs.cutting.revoke_held.Statement.{statement}
+use Rattle.register.proofs.cutting.revoke_held.Tie as tie
 
 subjects-requires : tie.Need-subjects-requires
 subjects-requires c κs =

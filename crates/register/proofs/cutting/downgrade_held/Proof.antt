@@ -9,8 +9,8 @@ use Rattle.block.specs.Block.{decode}
 use Rattle.block.proofs.Bytes.{fits-bytes}
 use Rattle.block.proofs.Held.{size-held, count-most}
 use Rattle.register.proofs.CutHolding.{downgrade-refused, revoke-found, downgrade-last}
-use Rattle.register.proofs.held.downgrade_held.Statement.{statement}
-use Rattle.register.proofs.held.downgrade_held.Tie as tie
+use Rattle.register.proofs.cutting.downgrade_held.Statement.{statement}
+use Rattle.register.proofs.cutting.downgrade_held.Tie as tie
 
 revoke-held-requires : tie.Need-revoke-held-requires
 revoke-held-requires c κs = search needs
