@@ -4,6 +4,7 @@ use mathlib.Core.Logic.{_≢_, _⊎_, inl, inr}
 use mathlib.Core.Bool.{Bool, true, false, cond, not}
 use mathlib.Core.List.{List, [], _∷_, _++_}
 use Prim.Native.Nat.{ℕ, zero, suc}
+use native.Mathlib.Omega.{arith}
 use borrow.Author.Tests.{eq-eqb, ne-eqb}
 use lib.Dec.{T, eqb, eqb→eq, T-not}
 use lib.ListN.{length}
@@ -28,10 +29,11 @@ use Rattle.block.specs.Block.{decode, encode}
 use Rattle.block.specs.WellFormed.{wellFormed}
 use Rattle.block.proofs.Encode.{length-encode, decode-encode}
 use Rattle.block.proofs.Form.{encode-formed}
-use Rattle.register.specs.CallOn.{Result, early, turned, written, callOn}
-use Rattle.register.specs.Made.{result}
+use Rattle.register.specs.CallOn.{Result, early, turned, written, callOn, openOn}
+use Rattle.register.specs.Made.{result, MadeOpen}
 use Rattle.register.specs.Cuts.{CutLeft}
 use Rattle.register.specs.History.{Entry, calls, History, blockFrom, PlaceRight, Demand3}
+use Rattle.register.specs.declared.Answer.{Answer}
 use Rattle.register.proofs.Made.{firstOf-none, firstOf-some}
 
 -- an outcome on a register, with its register written
@@ -77,6 +79,15 @@ module _ (t : List ℤ) (R : Register) (f : WellFormed R) (c : Call) where
           let n : firstOf (early (encode R) c) ≢ 0 = λ z. absurd (T-not true (subst (λ (x : Bool). T (not x)) (sym (sym (eq-eqb (firstOf (early (encode R) c)) 0 z) ∙ e)) tt) tt) in
           sym (ap onBytes (callStep-refused t R c (firstOf (early (encode R) c)) (refusal-of (λ z. n (early-encode ∙ z)) ∙ sym early-encode) n))
 
+-- what an accepted open writes
+open-written : (b : List ℕ) (o : Answer) (after : List ℕ) → MadeOpen b o after → o .refusal ≡ 0 → after ≡ encode fresh
+unfolding openOn
+open-written b o after q z = go (eqb (length b) 2180) q
+  where
+    go : (x : Bool) → result o after ≡ cond x record { refusal = 0; first = pos 0; second = pos 0; third = pos 0; bytes = encode fresh } (turned 1 b) → after ≡ encode fresh
+    go true e = ap (λ (r : Result). r .bytes) e
+    go false e = let n = sym z ∙ ap (λ (r : Result). r .refusal) e in absurd (omega arith)
+
 -- ── down a list ──
 module _ (t : List ℤ) (rule : TableRule t) where
   -- the blocks that the definitions lead to are the registers that they lead to, written
@@ -118,7 +129,7 @@ module _ (t : List ℤ) (rule : TableRule t) where
 
   -- THE WHOLE LIST, on bytes
   pub demand3 : Demand3 t
-  demand3 = record { places = λ es h i e a. history-places fresh fresh-formed es h i e a }
+  demand3 = record { opened = open-written; places = λ es h i e a. history-places fresh fresh-formed es h i e a }
 
 pub demand3-steps : Demand3 steps
 demand3-steps = demand3 steps steps-rule

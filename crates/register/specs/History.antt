@@ -8,7 +8,7 @@ use Rattle.rules.specs.Cut.{Cut, named}
 use Rattle.rules.specs.Call.{Call, fresh, IsCut}
 use Rattle.block.specs.Block.{decode, encode}
 use Rattle.register.specs.CallOn.{callOn}
-use Rattle.register.specs.Made.{result, Made}
+use Rattle.register.specs.Made.{result, Made, MadeOpen}
 use Rattle.register.specs.Cuts.{CutLeft}
 use Rattle.register.specs.declared.Answer.{Answer}
 
@@ -44,4 +44,6 @@ pub record PlaceRight (t : List ℤ) (S : List ℕ) (e : Entry) : Type 0 where
   pub cut : (k : Cut) → IsCut (e .call) k → e .answer .refusal ≡ 0 → CutLeft t (named (decode S) k) (e .answer) (e .after)
 
 pub record Demand3 (t : List ℤ) : Type 0 where
+  -- the list begins with the block that open writes
+  pub opened : (before : List ℕ) (o : Answer) (after : List ℕ) → MadeOpen before o after → o .refusal ≡ 0 → after ≡ blockAt t [] 0
   pub places : (es : List Entry) → History t (encode fresh) es → (i : ℕ) (e : Entry) → At es i e → PlaceRight t (blockAt t (calls es) i) e
