@@ -35,7 +35,14 @@ same-length : tie.Need-same-length
 same-length c = search needs
 
 returns-3 : tie.Need-returns-3
-returns-3 c = rw (c .refused3 .ensures) (made-form steps (enrol (c .before .before .before .before .before .before .before .args .marks)) (c .before .before .before .before .before .before .before .args .block .now) (c .before .before .before .before .before .if1 .left) (enrol-through steps (c .before .before .before .before .before .before .before .args .marks) (c .before .before .before .before .before .before .before .args .block .now) (c .before .before .before .before .before .if1 .left) (c .before .before .before .before .if2 .left)) (sym (c .before .before .well-formed .ensures) ∙ not-true _ (c .before .if3 .taken)))
+returns-3 c =
+    let s = c .before .before .before .before .before .before .before in
+    let a = s .args in
+    let b = a .block .now in
+    let at-if1 = c .before .before .before .before .before .if1 in
+    let at-if2 = c .before .before .before .before .if2 in
+    let at-well-formed = c .before .before .well-formed in
+    rw (c .refused3 .ensures) (made-form steps (enrol (a .marks)) b (at-if1 .left) (enrol-through steps (a .marks) b (at-if1 .left) (at-if2 .left)) (sym (at-well-formed .ensures) ∙ not-true _ (c .before .if3 .taken)))
 
 subjects-requires : tie.Need-subjects-requires
 subjects-requires c κs = search needs
@@ -47,7 +54,17 @@ same-length-2 : tie.Need-same-length-2
 same-length-2 c = search needs
 
 returns-4 : tie.Need-returns-4
-returns-4 c = rw (c .refused4 .ensures) (enrol-full steps (c .before .before .before .before .before .before .before .before .before .before .args .marks) (c .before .before .before .before .before .before .before .before .before .before .args .block .now) (c .before .before .before .before .before .before .before .before .if1 .left) (c .before .before .before .before .before .before .before .if2 .left) (fits-bytes (c .before .before .before .before .before .before .before .before .before .before .args .block .now) (c .before .before .before .before .before .before .before .before .before .slice-known .given)) (sym (c .before .before .before .before .before .well-formed .ensures) ∙ not-false _ (c .before .before .before .before .if3 .left)) (rw (← c .before .before .subjects .ensures) (c .before .if4 .taken)))
+returns-4 c =
+    let s = c .before .before .before .before .before .before .before .before .before .before in
+    let a = s .args in
+    let b = a .block .now in
+    let bytes = fits-bytes b (c .before .before .before .before .before .before .before .before .before .slice-known .given) in
+    let at-if1 = c .before .before .before .before .before .before .before .before .if1 in
+    let at-if2 = c .before .before .before .before .before .before .before .if2 in
+    let at-well-formed = c .before .before .before .before .before .well-formed in
+    let at-if3 = c .before .before .before .before .if3 in
+    let at-subjects = c .before .before .subjects in
+    rw (c .refused4 .ensures) (enrol-full steps (a .marks) b (at-if1 .left) (at-if2 .left) bytes (sym (at-well-formed .ensures) ∙ not-false _ (at-if3 .left)) (rw (← at-subjects .ensures) (c .before .if4 .taken)))
 
 cast-add-subject : tie.Need-cast-add-subject
 cast-add-subject c = search needs
@@ -65,7 +82,19 @@ same-length-3 : tie.Need-same-length-3
 same-length-3 c = search needs
 
 returns-5 : tie.Need-returns-5
-returns-5 c = rw (c .answered .ensures, toZ-pos w32 {n = c .before .before .before .before .before .before .subjects .result} (omega arith), c .before .before .before .before .before .before .subjects .ensures) (enrol-done steps (c .before .before .before .before .before .before .before .before .before .before .before .before .before .before .args .marks) (c .before .before .before .before .before .before .before .before .before .before .before .before .before .before .args .block .now) (c .before .before .before .before .before .before .before .before .before .before .before .before .if1 .left) (c .before .before .before .before .before .before .before .before .before .before .before .if2 .left) (fits-bytes (c .before .before .before .before .before .before .before .before .before .before .before .before .before .before .args .block .now) (c .before .before .before .before .before .before .before .before .before .before .before .before .before .slice-known .given)) (sym (c .before .before .before .before .before .before .before .before .before .well-formed .ensures) ∙ not-false _ (c .before .before .before .before .before .before .before .before .if3 .left)) (rw (← c .before .before .before .before .before .before .subjects .ensures) (c .before .before .before .before .before .if4 .left)) (c .before .before .before .add-subject .last .0) (c .before .before .before .add-subject .ensures))
+returns-5 c =
+    let s = c .before .before .before .before .before .before .before .before .before .before .before .before .before .before in
+    let a = s .args in
+    let b = a .block .now in
+    let bytes = fits-bytes b (c .before .before .before .before .before .before .before .before .before .before .before .before .before .slice-known .given) in
+    let at-if1 = c .before .before .before .before .before .before .before .before .before .before .before .before .if1 in
+    let at-if2 = c .before .before .before .before .before .before .before .before .before .before .before .if2 in
+    let at-well-formed = c .before .before .before .before .before .before .before .before .before .well-formed in
+    let at-if3 = c .before .before .before .before .before .before .before .before .if3 in
+    let at-subjects = c .before .before .before .before .before .before .subjects in
+    let at-if4 = c .before .before .before .before .before .if4 in
+    let at-add-subject = c .before .before .before .add-subject in
+    rw (c .answered .ensures, toZ-pos w32 {n = at-subjects .result} (omega arith), at-subjects .ensures) (enrol-done steps (a .marks) b (at-if1 .left) (at-if2 .left) bytes (sym (at-well-formed .ensures) ∙ not-false _ (at-if3 .left)) (rw (← at-subjects .ensures) (at-if4 .left)) (at-add-subject .last .0) (at-add-subject .ensures))
 
 pub enrol-spec : {M : Type 1} → statement M
 enrol-spec =

@@ -18,7 +18,11 @@ refused-requires : tie.Need-refused-requires
 refused-requires c κs = search needs
 
 returns : tie.Need-returns
-returns c = rw (c .refused .ensures) (made-length steps (grant (c .before .before .before .args .giver) (c .before .before .before .args .receiver) (c .before .before .before .args .weight) (c .before .before .before .args .need) (c .before .before .before .args .bar)) (c .before .before .before .args .block .now) (c .before .if1 .taken))
+returns c =
+    let s = c .before .before .before in
+    let a = s .args in
+    let b = a .block .now in
+    rw (c .refused .ensures) (made-length steps (grant (a .giver) (a .receiver) (a .weight) (a .need) (a .bar)) b (c .before .if1 .taken))
 
 grant-passed-requires : tie.Need-grant-passed-requires
 grant-passed-requires c κs = search needs
@@ -27,7 +31,13 @@ refused-requires-2 : tie.Need-refused-requires-2
 refused-requires-2 c κs = search needs
 
 returns-2 : tie.Need-returns-2
-returns-2 c = rw (c .refused2 .ensures) (made-passed steps (grant (c .before .before .before .before .before .args .giver) (c .before .before .before .before .before .args .receiver) (c .before .before .before .before .before .args .weight) (c .before .before .before .before .before .args .need) (c .before .before .before .before .before .args .bar)) (c .before .before .before .before .before .args .block .now) (c .before .before .before .if1 .left) (c .before .before .grant-passed .result) (sym (c .before .before .grant-passed .ensures)) (c .before .if2 .taken))
+returns-2 c =
+    let s = c .before .before .before .before .before in
+    let a = s .args in
+    let b = a .block .now in
+    let at-if1 = c .before .before .before .if1 in
+    let at-grant-passed = c .before .before .grant-passed in
+    rw (c .refused2 .ensures) (made-passed steps (grant (a .giver) (a .receiver) (a .weight) (a .need) (a .bar)) b (at-if1 .left) (at-grant-passed .result) (sym (at-grant-passed .ensures)) (c .before .if2 .taken))
 
 well-formed-requires : tie.Need-well-formed-requires
 well-formed-requires c κs = search needs
@@ -39,10 +49,25 @@ same-length : tie.Need-same-length
 same-length c = search needs
 
 returns-3 : tie.Need-returns-3
-returns-3 c = rw (c .refused3 .ensures) (made-form steps (grant (c .before .before .before .before .before .before .before .before .args .giver) (c .before .before .before .before .before .before .before .before .args .receiver) (c .before .before .before .before .before .before .before .before .args .weight) (c .before .before .before .before .before .before .before .before .args .need) (c .before .before .before .before .before .before .before .before .args .bar)) (c .before .before .before .before .before .before .before .before .args .block .now) (c .before .before .before .before .before .before .if1 .left) (sym (c .before .before .before .before .before .grant-passed .ensures) ∙ c .before .before .before .before .if2 .left) (sym (c .before .before .well-formed .ensures) ∙ not-true _ (c .before .if3 .taken)))
+returns-3 c =
+    let s = c .before .before .before .before .before .before .before .before in
+    let a = s .args in
+    let b = a .block .now in
+    let at-if1 = c .before .before .before .before .before .before .if1 in
+    let at-grant-passed = c .before .before .before .before .before .grant-passed in
+    let at-if2 = c .before .before .before .before .if2 in
+    let at-well-formed = c .before .before .well-formed in
+    rw (c .refused3 .ensures) (made-form steps (grant (a .giver) (a .receiver) (a .weight) (a .need) (a .bar)) b (at-if1 .left) (sym (at-grant-passed .ensures) ∙ at-if2 .left) (sym (at-well-formed .ensures) ∙ not-true _ (c .before .if3 .taken)))
 
 grant-held-requires : tie.Need-grant-held-requires
-grant-held-requires c κs = let (a, b, w, x, y) = grant-through (c .before .before .before .before .before .before .before .before .args .giver) (c .before .before .before .before .before .before .before .before .args .receiver) (c .before .before .before .before .before .before .before .before .args .weight) (c .before .before .before .before .before .before .before .before .args .need) (c .before .before .before .before .before .before .before .before .args .bar) (sym (c .before .before .before .before .before .grant-passed .ensures) ∙ c .before .before .before .before .if2 .left) in ((sym (c .before .before .well-formed .ensures) ∙ not-false _ (c .before .if3 .left)), a, b, w)
+grant-held-requires c κs =
+    let s = c .before .before .before .before .before .before .before .before in
+    let a = s .args in
+    let at-grant-passed = c .before .before .before .before .before .grant-passed in
+    let at-if2 = c .before .before .before .before .if2 in
+    let at-well-formed = c .before .before .well-formed in
+    let (a, b, w, x, y) = grant-through (a .giver) (a .receiver) (a .weight) (a .need) (a .bar) (sym (at-grant-passed .ensures) ∙ at-if2 .left) in
+    ((sym (at-well-formed .ensures) ∙ not-false _ (c .before .if3 .left)), a, b, w)
 
 refused-requires-4 : tie.Need-refused-requires-4
 refused-requires-4 c κs = search needs
@@ -51,34 +76,103 @@ same-length-2 : tie.Need-same-length-2
 same-length-2 c = search needs
 
 returns-4 : tie.Need-returns-4
-returns-4 c = rw (c .refused4 .ensures) (made-held steps (grant (c .before .before .before .before .before .before .before .before .before .before .before .args .giver) (c .before .before .before .before .before .before .before .before .before .before .before .args .receiver) (c .before .before .before .before .before .before .before .before .before .before .before .args .weight) (c .before .before .before .before .before .before .before .before .before .before .before .args .need) (c .before .before .before .before .before .before .before .before .before .before .before .args .bar)) (c .before .before .before .before .before .before .before .before .before .before .before .args .block .now) (c .before .before .before .before .before .before .before .before .before .if1 .left) (sym (c .before .before .before .before .before .before .before .before .grant-passed .ensures) ∙ c .before .before .before .before .before .before .before .if2 .left) (sym (c .before .before .before .before .before .well-formed .ensures) ∙ not-false _ (c .before .before .before .before .if3 .left)) (c .before .before .grant-held .result) (sym (c .before .before .grant-held .ensures)) (c .before .if4 .taken))
+returns-4 c =
+    let s = c .before .before .before .before .before .before .before .before .before .before .before in
+    let a = s .args in
+    let b = a .block .now in
+    let at-if1 = c .before .before .before .before .before .before .before .before .before .if1 in
+    let at-grant-passed = c .before .before .before .before .before .before .before .before .grant-passed in
+    let at-if2 = c .before .before .before .before .before .before .before .if2 in
+    let at-well-formed = c .before .before .before .before .before .well-formed in
+    let at-if3 = c .before .before .before .before .if3 in
+    let at-grant-held = c .before .before .grant-held in
+    rw (c .refused4 .ensures) (made-held steps (grant (a .giver) (a .receiver) (a .weight) (a .need) (a .bar)) b (at-if1 .left) (sym (at-grant-passed .ensures) ∙ at-if2 .left) (sym (at-well-formed .ensures) ∙ not-false _ (at-if3 .left)) (at-grant-held .result) (sym (at-grant-held .ensures)) (c .before .if4 .taken))
 
 count-requires : tie.Need-count-requires
 count-requires c κs = search needs
 
 cast-insert : tie.Need-cast-insert
-cast-insert c = let (a, b, w, x, y) = grant-through (c .before .before .before .before .before .before .before .before .before .before .before .before .before .args .giver) (c .before .before .before .before .before .before .before .before .before .before .before .before .before .args .receiver) (c .before .before .before .before .before .before .before .before .before .before .before .before .before .args .weight) (c .before .before .before .before .before .before .before .before .before .before .before .before .before .args .need) (c .before .before .before .before .before .before .before .before .before .before .before .before .before .args .bar) (sym (c .before .before .before .before .before .before .before .before .before .before .grant-passed .ensures) ∙ c .before .before .before .before .before .before .before .before .before .if2 .left) in omega arith
+cast-insert c =
+    let s = c .before .before .before .before .before .before .before .before .before .before .before .before .before in
+    let a = s .args in
+    let at-grant-passed = c .before .before .before .before .before .before .before .before .before .before .grant-passed in
+    let at-if2 = c .before .before .before .before .before .before .before .before .before .if2 in
+    let (a, b, w, x, y) = grant-through (a .giver) (a .receiver) (a .weight) (a .need) (a .bar) (sym (at-grant-passed .ensures) ∙ at-if2 .left) in
+    omega arith
 
 cast-insert-2 : tie.Need-cast-insert-2
-cast-insert-2 c = let (a, b, w, x, y) = grant-through (c .before .before .before .before .before .before .before .before .before .before .before .before .before .args .giver) (c .before .before .before .before .before .before .before .before .before .before .before .before .before .args .receiver) (c .before .before .before .before .before .before .before .before .before .before .before .before .before .args .weight) (c .before .before .before .before .before .before .before .before .before .before .before .before .before .args .need) (c .before .before .before .before .before .before .before .before .before .before .before .before .before .args .bar) (sym (c .before .before .before .before .before .before .before .before .before .before .grant-passed .ensures) ∙ c .before .before .before .before .before .before .before .before .before .if2 .left) in omega arith
+cast-insert-2 c =
+    let s = c .before .before .before .before .before .before .before .before .before .before .before .before .before in
+    let a = s .args in
+    let at-grant-passed = c .before .before .before .before .before .before .before .before .before .before .grant-passed in
+    let at-if2 = c .before .before .before .before .before .before .before .before .before .if2 in
+    let (a, b, w, x, y) = grant-through (a .giver) (a .receiver) (a .weight) (a .need) (a .bar) (sym (at-grant-passed .ensures) ∙ at-if2 .left) in
+    omega arith
 
 cast-insert-3 : tie.Need-cast-insert-3
-cast-insert-3 c = let (a, b, w, x, y) = grant-through (c .before .before .before .before .before .before .before .before .before .before .before .before .before .args .giver) (c .before .before .before .before .before .before .before .before .before .before .before .before .before .args .receiver) (c .before .before .before .before .before .before .before .before .before .before .before .before .before .args .weight) (c .before .before .before .before .before .before .before .before .before .before .before .before .before .args .need) (c .before .before .before .before .before .before .before .before .before .before .before .before .before .args .bar) (sym (c .before .before .before .before .before .before .before .before .before .before .grant-passed .ensures) ∙ c .before .before .before .before .before .before .before .before .before .if2 .left) in omega arith
+cast-insert-3 c =
+    let s = c .before .before .before .before .before .before .before .before .before .before .before .before .before in
+    let a = s .args in
+    let at-grant-passed = c .before .before .before .before .before .before .before .before .before .before .grant-passed in
+    let at-if2 = c .before .before .before .before .before .before .before .before .before .if2 in
+    let (a, b, w, x, y) = grant-through (a .giver) (a .receiver) (a .weight) (a .need) (a .bar) (sym (at-grant-passed .ensures) ∙ at-if2 .left) in
+    omega arith
 
 cast-insert-4 : tie.Need-cast-insert-4
-cast-insert-4 c = let (a, b, w, x, y) = grant-through (c .before .before .before .before .before .before .before .before .before .before .before .before .before .args .giver) (c .before .before .before .before .before .before .before .before .before .before .before .before .before .args .receiver) (c .before .before .before .before .before .before .before .before .before .before .before .before .before .args .weight) (c .before .before .before .before .before .before .before .before .before .before .before .before .before .args .need) (c .before .before .before .before .before .before .before .before .before .before .before .before .before .args .bar) (sym (c .before .before .before .before .before .before .before .before .before .before .grant-passed .ensures) ∙ c .before .before .before .before .before .before .before .before .before .if2 .left) in omega arith
+cast-insert-4 c =
+    let s = c .before .before .before .before .before .before .before .before .before .before .before .before .before in
+    let a = s .args in
+    let at-grant-passed = c .before .before .before .before .before .before .before .before .before .before .grant-passed in
+    let at-if2 = c .before .before .before .before .before .before .before .before .before .if2 in
+    let (a, b, w, x, y) = grant-through (a .giver) (a .receiver) (a .weight) (a .need) (a .bar) (sym (at-grant-passed .ensures) ∙ at-if2 .left) in
+    omega arith
 
 cast-insert-5 : tie.Need-cast-insert-5
-cast-insert-5 c = let (a, b, w, x, y) = grant-through (c .before .before .before .before .before .before .before .before .before .before .before .before .before .args .giver) (c .before .before .before .before .before .before .before .before .before .before .before .before .before .args .receiver) (c .before .before .before .before .before .before .before .before .before .before .before .before .before .args .weight) (c .before .before .before .before .before .before .before .before .before .before .before .before .before .args .need) (c .before .before .before .before .before .before .before .before .before .before .before .before .before .args .bar) (sym (c .before .before .before .before .before .before .before .before .before .before .grant-passed .ensures) ∙ c .before .before .before .before .before .before .before .before .before .if2 .left) in omega arith
+cast-insert-5 c =
+    let s = c .before .before .before .before .before .before .before .before .before .before .before .before .before in
+    let a = s .args in
+    let at-grant-passed = c .before .before .before .before .before .before .before .before .before .before .grant-passed in
+    let at-if2 = c .before .before .before .before .before .before .before .before .before .if2 in
+    let (a, b, w, x, y) = grant-through (a .giver) (a .receiver) (a .weight) (a .need) (a .bar) (sym (at-grant-passed .ensures) ∙ at-if2 .left) in
+    omega arith
 
 insert-requires : tie.Need-insert-requires
-insert-requires c κs = ((sym (c .before .before .before .before .before .before .before .well-formed .ensures) ∙ not-false _ (c .before .before .before .before .before .before .if3 .left)), grant-room steps (c .before .before .before .before .before .before .before .before .before .before .before .before .before .args .block .now) (fits-bytes (c .before .before .before .before .before .before .before .before .before .before .before .before .before .args .block .now) (c .before .before .before .before .before .before .before .before .before .before .before .before .slice-known .given)) (sym (c .before .before .before .before .before .before .before .well-formed .ensures) ∙ not-false _ (c .before .before .before .before .before .before .if3 .left)) (c .before .before .before .before .before .before .before .before .before .before .before .before .before .args .giver) (c .before .before .before .before .before .before .before .before .before .before .before .before .before .args .receiver) (c .before .before .before .before .before .before .before .before .before .before .before .before .before .args .weight) (c .before .before .before .before .before .before .before .before .before .before .before .before .before .args .need) (c .before .before .before .before .before .before .before .before .before .before .before .before .before .args .bar) (sym (c .before .before .before .before .grant-held .ensures) ∙ c .before .before .before .if4 .left))
+insert-requires c κs =
+    let s = c .before .before .before .before .before .before .before .before .before .before .before .before .before in
+    let a = s .args in
+    let b = a .block .now in
+    let bytes = fits-bytes b (c .before .before .before .before .before .before .before .before .before .before .before .before .slice-known .given) in
+    let at-well-formed = c .before .before .before .before .before .before .before .well-formed in
+    let at-if3 = c .before .before .before .before .before .before .if3 in
+    let at-grant-held = c .before .before .before .before .grant-held in
+    let at-if4 = c .before .before .before .if4 in
+    ((sym (at-well-formed .ensures) ∙ not-false _ (at-if3 .left)), grant-room steps b bytes (sym (at-well-formed .ensures) ∙ not-false _ (at-if3 .left)) (a .giver) (a .receiver) (a .weight) (a .need) (a .bar) (sym (at-grant-held .ensures) ∙ at-if4 .left))
 
 add-answered : tie.Need-add-answered
-add-answered c = omega (arith, grant-room steps (c .before .before .before .before .before .before .before .before .before .before .before .before .before .before .before .before .args .block .now) (fits-bytes (c .before .before .before .before .before .before .before .before .before .before .before .before .before .before .before .before .args .block .now) (c .before .before .before .before .before .before .before .before .before .before .before .before .before .before .before .slice-known .given)) (sym (c .before .before .before .before .before .before .before .before .before .before .well-formed .ensures) ∙ not-false _ (c .before .before .before .before .before .before .before .before .before .if3 .left)) (c .before .before .before .before .before .before .before .before .before .before .before .before .before .before .before .before .args .giver) (c .before .before .before .before .before .before .before .before .before .before .before .before .before .before .before .before .args .receiver) (c .before .before .before .before .before .before .before .before .before .before .before .before .before .before .before .before .args .weight) (c .before .before .before .before .before .before .before .before .before .before .before .before .before .before .before .before .args .need) (c .before .before .before .before .before .before .before .before .before .before .before .before .before .before .before .before .args .bar) (sym (c .before .before .before .before .before .before .before .grant-held .ensures) ∙ c .before .before .before .before .before .before .if4 .left), c .before .before .before .before .count .ensures)
+add-answered c =
+    let s = c .before .before .before .before .before .before .before .before .before .before .before .before .before .before .before .before in
+    let a = s .args in
+    let b = a .block .now in
+    let bytes = fits-bytes b (c .before .before .before .before .before .before .before .before .before .before .before .before .before .before .before .slice-known .given) in
+    let at-well-formed = c .before .before .before .before .before .before .before .before .before .before .well-formed in
+    let at-if3 = c .before .before .before .before .before .before .before .before .before .if3 in
+    let at-grant-held = c .before .before .before .before .before .before .before .grant-held in
+    let at-if4 = c .before .before .before .before .before .before .if4 in
+    let at-count = c .before .before .before .before .count in
+    omega (arith, grant-room steps b bytes (sym (at-well-formed .ensures) ∙ not-false _ (at-if3 .left)) (a .giver) (a .receiver) (a .weight) (a .need) (a .bar) (sym (at-grant-held .ensures) ∙ at-if4 .left), at-count .ensures)
 
 cast-answered : tie.Need-cast-answered
-cast-answered c = omega (arith, grant-room steps (c .before .before .before .before .before .before .before .before .before .before .before .before .before .before .before .before .args .block .now) (fits-bytes (c .before .before .before .before .before .before .before .before .before .before .before .before .before .before .before .before .args .block .now) (c .before .before .before .before .before .before .before .before .before .before .before .before .before .before .before .slice-known .given)) (sym (c .before .before .before .before .before .before .before .before .before .before .well-formed .ensures) ∙ not-false _ (c .before .before .before .before .before .before .before .before .before .if3 .left)) (c .before .before .before .before .before .before .before .before .before .before .before .before .before .before .before .before .args .giver) (c .before .before .before .before .before .before .before .before .before .before .before .before .before .before .before .before .args .receiver) (c .before .before .before .before .before .before .before .before .before .before .before .before .before .before .before .before .args .weight) (c .before .before .before .before .before .before .before .before .before .before .before .before .before .before .before .before .args .need) (c .before .before .before .before .before .before .before .before .before .before .before .before .before .before .before .before .args .bar) (sym (c .before .before .before .before .before .before .before .grant-held .ensures) ∙ c .before .before .before .before .before .before .if4 .left), c .before .before .before .before .count .ensures)
+cast-answered c =
+    let s = c .before .before .before .before .before .before .before .before .before .before .before .before .before .before .before .before in
+    let a = s .args in
+    let b = a .block .now in
+    let bytes = fits-bytes b (c .before .before .before .before .before .before .before .before .before .before .before .before .before .before .before .slice-known .given) in
+    let at-well-formed = c .before .before .before .before .before .before .before .before .before .before .well-formed in
+    let at-if3 = c .before .before .before .before .before .before .before .before .before .if3 in
+    let at-grant-held = c .before .before .before .before .before .before .before .grant-held in
+    let at-if4 = c .before .before .before .before .before .before .if4 in
+    let at-count = c .before .before .before .before .count in
+    omega (arith, grant-room steps b bytes (sym (at-well-formed .ensures) ∙ not-false _ (at-if3 .left)) (a .giver) (a .receiver) (a .weight) (a .need) (a .bar) (sym (at-grant-held .ensures) ∙ at-if4 .left), at-count .ensures)
 
 answered-requires : tie.Need-answered-requires
 answered-requires c κs = search needs
@@ -87,7 +181,21 @@ same-length-3 : tie.Need-same-length-3
 same-length-3 c = search needs
 
 returns-5 : tie.Need-returns-5
-returns-5 c = rw (c .answered .ensures, toZ-pos w32 {n = c .before .before .before .before .before .count .result + 1} (omega (arith, grant-room steps (c .before .before .before .before .before .before .before .before .before .before .before .before .before .before .before .before .before .args .block .now) (fits-bytes (c .before .before .before .before .before .before .before .before .before .before .before .before .before .before .before .before .before .args .block .now) (c .before .before .before .before .before .before .before .before .before .before .before .before .before .before .before .before .slice-known .given)) (sym (c .before .before .before .before .before .before .before .before .before .before .before .well-formed .ensures) ∙ not-false _ (c .before .before .before .before .before .before .before .before .before .before .if3 .left)) (c .before .before .before .before .before .before .before .before .before .before .before .before .before .before .before .before .before .args .giver) (c .before .before .before .before .before .before .before .before .before .before .before .before .before .before .before .before .before .args .receiver) (c .before .before .before .before .before .before .before .before .before .before .before .before .before .before .before .before .before .args .weight) (c .before .before .before .before .before .before .before .before .before .before .before .before .before .before .before .before .before .args .need) (c .before .before .before .before .before .before .before .before .before .before .before .before .before .before .before .before .before .args .bar) (sym (c .before .before .before .before .before .before .before .before .grant-held .ensures) ∙ c .before .before .before .before .before .before .before .if4 .left), c .before .before .before .before .before .count .ensures)), c .before .before .before .before .before .count .ensures) (grant-done steps (c .before .before .before .before .before .before .before .before .before .before .before .before .before .before .before .before .before .args .block .now) (fits-bytes (c .before .before .before .before .before .before .before .before .before .before .before .before .before .before .before .before .before .args .block .now) (c .before .before .before .before .before .before .before .before .before .before .before .before .before .before .before .before .slice-known .given)) (sym (c .before .before .before .before .before .before .before .before .before .before .before .well-formed .ensures) ∙ not-false _ (c .before .before .before .before .before .before .before .before .before .before .if3 .left)) (c .before .before .before .before .before .before .before .before .before .before .before .before .before .before .before .before .before .args .giver) (c .before .before .before .before .before .before .before .before .before .before .before .before .before .before .before .before .before .args .receiver) (c .before .before .before .before .before .before .before .before .before .before .before .before .before .before .before .before .before .args .weight) (c .before .before .before .before .before .before .before .before .before .before .before .before .before .before .before .before .before .args .need) (c .before .before .before .before .before .before .before .before .before .before .before .before .before .before .before .before .before .args .bar) (c .before .before .before .before .before .before .before .before .before .before .before .before .before .before .before .if1 .left) (sym (c .before .before .before .before .before .before .before .before .before .before .before .before .before .before .grant-passed .ensures) ∙ c .before .before .before .before .before .before .before .before .before .before .before .before .before .if2 .left) (sym (c .before .before .before .before .before .before .before .before .grant-held .ensures) ∙ c .before .before .before .before .before .before .before .if4 .left) (c .before .before .before .insert .last .0) (c .before .before .before .insert .ensures))
+returns-5 c =
+    let s = c .before .before .before .before .before .before .before .before .before .before .before .before .before .before .before .before .before in
+    let a = s .args in
+    let b = a .block .now in
+    let bytes = fits-bytes b (c .before .before .before .before .before .before .before .before .before .before .before .before .before .before .before .before .slice-known .given) in
+    let at-if1 = c .before .before .before .before .before .before .before .before .before .before .before .before .before .before .before .if1 in
+    let at-grant-passed = c .before .before .before .before .before .before .before .before .before .before .before .before .before .before .grant-passed in
+    let at-if2 = c .before .before .before .before .before .before .before .before .before .before .before .before .before .if2 in
+    let at-well-formed = c .before .before .before .before .before .before .before .before .before .before .before .well-formed in
+    let at-if3 = c .before .before .before .before .before .before .before .before .before .before .if3 in
+    let at-grant-held = c .before .before .before .before .before .before .before .before .grant-held in
+    let at-if4 = c .before .before .before .before .before .before .before .if4 in
+    let at-count = c .before .before .before .before .before .count in
+    let at-insert = c .before .before .before .insert in
+    rw (c .answered .ensures, toZ-pos w32 {n = at-count .result + 1} (omega (arith, grant-room steps b bytes (sym (at-well-formed .ensures) ∙ not-false _ (at-if3 .left)) (a .giver) (a .receiver) (a .weight) (a .need) (a .bar) (sym (at-grant-held .ensures) ∙ at-if4 .left), at-count .ensures)), at-count .ensures) (grant-done steps b bytes (sym (at-well-formed .ensures) ∙ not-false _ (at-if3 .left)) (a .giver) (a .receiver) (a .weight) (a .need) (a .bar) (at-if1 .left) (sym (at-grant-passed .ensures) ∙ at-if2 .left) (sym (at-grant-held .ensures) ∙ at-if4 .left) (at-insert .last .0) (at-insert .ensures))
 
 pub grant-spec : {M : Type 1} → statement M
 grant-spec =

@@ -33,7 +33,14 @@ refused-requires-3 : tie.Need-refused-requires-3
 refused-requires-3 c κs = search needs
 
 returns-3 : tie.Need-returns-3
-returns-3 c = rw (c .refused3 .ensures) (made-form steps (askUse (c .before .before .before .before .before .before .args .receiver)) (c .before .before .before .before .before .before .args .block .now) (c .before .before .before .before .if1 .left) (use-through steps (c .before .before .before .before .before .before .args .receiver) (c .before .before .before .before .before .before .args .block .now) (c .before .before .before .before .if1 .left) (c .before .before .before .if2 .left)) (sym (c .before .before .well-formed .ensures) ∙ not-true _ (c .before .if3 .taken)))
+returns-3 c =
+    let s = c .before .before .before .before .before .before in
+    let a = s .args in
+    let b = a .block .now in
+    let at-if1 = c .before .before .before .before .if1 in
+    let at-if2 = c .before .before .before .if2 in
+    let at-well-formed = c .before .before .well-formed in
+    rw (c .refused3 .ensures) (made-form steps (askUse (a .receiver)) b (at-if1 .left) (use-through steps (a .receiver) b (at-if1 .left) (at-if2 .left)) (sym (at-well-formed .ensures) ∙ not-true _ (c .before .if3 .taken)))
 
 subjects-requires : tie.Need-subjects-requires
 subjects-requires c κs = search needs
@@ -45,13 +52,34 @@ refused-requires-4 : tie.Need-refused-requires-4
 refused-requires-4 c κs = search needs
 
 returns-4 : tie.Need-returns-4
-returns-4 c = rw (c .refused4 .ensures) (use-enrolled steps (c .before .before .before .before .before .before .before .before .args .receiver) (c .before .before .before .before .before .before .before .before .args .block .now) (c .before .before .before .before .before .before .if1 .left) (c .before .before .before .before .before .if2 .left) (fits-bytes (c .before .before .before .before .before .before .before .before .args .block .now) (c .before .before .before .before .before .before .before .shared-slice-known .given)) (sym (c .before .before .before .before .well-formed .ensures) ∙ not-false _ (c .before .before .before .if3 .left)) (rw (← c .before .before .subjects .ensures) (c .before .if4 .taken)))
+returns-4 c =
+    let s = c .before .before .before .before .before .before .before .before in
+    let a = s .args in
+    let b = a .block .now in
+    let bytes = fits-bytes b (c .before .before .before .before .before .before .before .shared-slice-known .given) in
+    let at-if1 = c .before .before .before .before .before .before .if1 in
+    let at-if2 = c .before .before .before .before .before .if2 in
+    let at-well-formed = c .before .before .before .before .well-formed in
+    let at-if3 = c .before .before .before .if3 in
+    let at-subjects = c .before .before .subjects in
+    rw (c .refused4 .ensures) (use-enrolled steps (a .receiver) b (at-if1 .left) (at-if2 .left) bytes (sym (at-well-formed .ensures) ∙ not-false _ (at-if3 .left)) (rw (← at-subjects .ensures) (c .before .if4 .taken)))
 
 answered-requires : tie.Need-answered-requires
 answered-requires c κs = search needs
 
 returns-5 : tie.Need-returns-5
-returns-5 c = rw (c .answered .ensures) (use-done steps (c .before .before .before .before .before .before .before .before .before .args .receiver) (c .before .before .before .before .before .before .before .before .before .args .block .now) (c .before .before .before .before .before .before .before .if1 .left) (c .before .before .before .before .before .before .if2 .left) (fits-bytes (c .before .before .before .before .before .before .before .before .before .args .block .now) (c .before .before .before .before .before .before .before .before .shared-slice-known .given)) (sym (c .before .before .before .before .before .well-formed .ensures) ∙ not-false _ (c .before .before .before .before .if3 .left)) (rw (← c .before .before .before .subjects .ensures) (c .before .before .if4 .left)) true (rw (eq-eqb (c .before .before .before .before .before .before .before .before .before .args .receiver) 0 (c .before .if5 .taken))))
+returns-5 c =
+    let s = c .before .before .before .before .before .before .before .before .before in
+    let a = s .args in
+    let b = a .block .now in
+    let bytes = fits-bytes b (c .before .before .before .before .before .before .before .before .shared-slice-known .given) in
+    let at-if1 = c .before .before .before .before .before .before .before .if1 in
+    let at-if2 = c .before .before .before .before .before .before .if2 in
+    let at-well-formed = c .before .before .before .before .before .well-formed in
+    let at-if3 = c .before .before .before .before .if3 in
+    let at-subjects = c .before .before .before .subjects in
+    let at-if4 = c .before .before .if4 in
+    rw (c .answered .ensures) (use-done steps (a .receiver) b (at-if1 .left) (at-if2 .left) bytes (sym (at-well-formed .ensures) ∙ not-false _ (at-if3 .left)) (rw (← at-subjects .ensures) (at-if4 .left)) true (rw (eq-eqb (a .receiver) 0 (c .before .if5 .taken))))
 
 count-requires : tie.Need-count-requires
 count-requires c κs = search needs
@@ -60,19 +88,55 @@ cast-receives : tie.Need-cast-receives
 cast-receives c = search needs
 
 receives-requires : tie.Need-receives-requires
-receives-requires c κs = omega (arith, c .before .before .before .before .before .before .before .if1 .left, count-most (c .before .before .before .before .before .before .before .before .before .args .block .now) (fits-bytes (c .before .before .before .before .before .before .before .before .before .args .block .now) (c .before .before .before .before .before .before .before .before .shared-slice-known .given)) (sym (c .before .before .before .before .before .well-formed .ensures) ∙ not-false _ (c .before .before .before .before .if3 .left)), c .count .ensures)
+receives-requires c κs =
+    let s = c .before .before .before .before .before .before .before .before .before in
+    let a = s .args in
+    let b = a .block .now in
+    let bytes = fits-bytes b (c .before .before .before .before .before .before .before .before .shared-slice-known .given) in
+    let at-if1 = c .before .before .before .before .before .before .before .if1 in
+    let at-well-formed = c .before .before .before .before .before .well-formed in
+    let at-if3 = c .before .before .before .before .if3 in
+    omega (arith, at-if1 .left, count-most b bytes (sym (at-well-formed .ensures) ∙ not-false _ (at-if3 .left)), c .count .ensures)
 
 answered-requires-2 : tie.Need-answered-requires-2
 answered-requires-2 c κs = search needs
 
 returns-6 : tie.Need-returns-6
-returns-6 c = rw (c .answered2 .ensures) (use-done steps (c .before .before .before .before .before .before .before .before .before .before .before .before .args .receiver) (c .before .before .before .before .before .before .before .before .before .before .before .before .args .block .now) (c .before .before .before .before .before .before .before .before .before .before .if1 .left) (c .before .before .before .before .before .before .before .before .before .if2 .left) (fits-bytes (c .before .before .before .before .before .before .before .before .before .before .before .before .args .block .now) (c .before .before .before .before .before .before .before .before .before .before .before .shared-slice-known .given)) (sym (c .before .before .before .before .before .before .before .before .well-formed .ensures) ∙ not-false _ (c .before .before .before .before .before .before .before .if3 .left)) (rw (← c .before .before .before .before .before .before .subjects .ensures) (c .before .before .before .before .before .if4 .left)) true (rw (ne-eqb (c .before .before .before .before .before .before .before .before .before .before .before .before .args .receiver) 0 (c .before .before .before .before .if5 .left), ← c .before .before .before .count .ensures) (sym (c .before .if6 .taken) ∙ c .before .before .receives .ensures)))
+returns-6 c =
+    let s = c .before .before .before .before .before .before .before .before .before .before .before .before in
+    let a = s .args in
+    let b = a .block .now in
+    let bytes = fits-bytes b (c .before .before .before .before .before .before .before .before .before .before .before .shared-slice-known .given) in
+    let at-if1 = c .before .before .before .before .before .before .before .before .before .before .if1 in
+    let at-if2 = c .before .before .before .before .before .before .before .before .before .if2 in
+    let at-well-formed = c .before .before .before .before .before .before .before .before .well-formed in
+    let at-if3 = c .before .before .before .before .before .before .before .if3 in
+    let at-subjects = c .before .before .before .before .before .before .subjects in
+    let at-if4 = c .before .before .before .before .before .if4 in
+    let at-if5 = c .before .before .before .before .if5 in
+    let at-count = c .before .before .before .count in
+    let at-receives = c .before .before .receives in
+    rw (c .answered2 .ensures) (use-done steps (a .receiver) b (at-if1 .left) (at-if2 .left) bytes (sym (at-well-formed .ensures) ∙ not-false _ (at-if3 .left)) (rw (← at-subjects .ensures) (at-if4 .left)) true (rw (ne-eqb (a .receiver) 0 (at-if5 .left), ← at-count .ensures) (sym (c .before .if6 .taken) ∙ at-receives .ensures)))
 
 answered-requires-3 : tie.Need-answered-requires-3
 answered-requires-3 c κs = search needs
 
 returns-7 : tie.Need-returns-7
-returns-7 c = rw (c .answered3 .ensures) (use-done steps (c .before .before .before .before .before .before .before .before .before .before .before .before .args .receiver) (c .before .before .before .before .before .before .before .before .before .before .before .before .args .block .now) (c .before .before .before .before .before .before .before .before .before .before .if1 .left) (c .before .before .before .before .before .before .before .before .before .if2 .left) (fits-bytes (c .before .before .before .before .before .before .before .before .before .before .before .before .args .block .now) (c .before .before .before .before .before .before .before .before .before .before .before .shared-slice-known .given)) (sym (c .before .before .before .before .before .before .before .before .well-formed .ensures) ∙ not-false _ (c .before .before .before .before .before .before .before .if3 .left)) (rw (← c .before .before .before .before .before .before .subjects .ensures) (c .before .before .before .before .before .if4 .left)) false (rw (ne-eqb (c .before .before .before .before .before .before .before .before .before .before .before .before .args .receiver) 0 (c .before .before .before .before .if5 .left), ← c .before .before .before .count .ensures) (sym (c .before .if6 .left) ∙ c .before .before .receives .ensures)))
+returns-7 c =
+    let s = c .before .before .before .before .before .before .before .before .before .before .before .before in
+    let a = s .args in
+    let b = a .block .now in
+    let bytes = fits-bytes b (c .before .before .before .before .before .before .before .before .before .before .before .shared-slice-known .given) in
+    let at-if1 = c .before .before .before .before .before .before .before .before .before .before .if1 in
+    let at-if2 = c .before .before .before .before .before .before .before .before .before .if2 in
+    let at-well-formed = c .before .before .before .before .before .before .before .before .well-formed in
+    let at-if3 = c .before .before .before .before .before .before .before .if3 in
+    let at-subjects = c .before .before .before .before .before .before .subjects in
+    let at-if4 = c .before .before .before .before .before .if4 in
+    let at-if5 = c .before .before .before .before .if5 in
+    let at-count = c .before .before .before .count in
+    let at-receives = c .before .before .receives in
+    rw (c .answered3 .ensures) (use-done steps (a .receiver) b (at-if1 .left) (at-if2 .left) bytes (sym (at-well-formed .ensures) ∙ not-false _ (at-if3 .left)) (rw (← at-subjects .ensures) (at-if4 .left)) false (rw (ne-eqb (a .receiver) 0 (at-if5 .left), ← at-count .ensures) (sym (c .before .if6 .left) ∙ at-receives .ensures)))
 
 pub use-right-spec : {M : Type 1} → statement M
 use-right-spec =

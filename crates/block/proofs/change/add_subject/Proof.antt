@@ -28,13 +28,25 @@ add-put-two : tie.Need-add-put-two
 add-put-two c = search needs
 
 put-two-requires : tie.Need-put-two-requires
-put-two-requires c κs = simp length-set (omega (arith, size-held (c .before .before .before .before .args .b .now) (fits-bytes (c .before .before .before .before .args .b .now) (c .before .before .before .slice-known .given)) (c .before .before .before .before .pre .0), c .before .subjects .ensures, c .before .before .before .before .pre .1))
+put-two-requires c κs =
+    let s = c .before .before .before .before in
+    let a = s .args in
+    let b = a .b .now in
+    let bytes = fits-bytes b (c .before .before .before .slice-known .given) in
+    simp length-set (omega (arith, size-held b bytes (s .pre .0), c .before .subjects .ensures, s .pre .1))
 
 same-length : tie.Need-same-length
 same-length c = omega (arith, simp length-set at (c .before .before .put-two .kept .0))
 
 returns : tie.Need-returns
-returns c = rw (c .before .before .put-two .ensures, c .before .before .before .before .subjects .ensures) (enrol-held (c .before .before .before .before .before .before .before .args .b .now) (fits-bytes (c .before .before .before .before .before .before .before .args .b .now) (c .before .before .before .before .before .before .slice-known .given)) (c .before .before .before .before .before .before .before .pre .0) (c .before .before .before .before .before .before .before .args .marks) (c .before .before .before .before .before .before .before .pre .1))
+returns c =
+    let s = c .before .before .before .before .before .before .before in
+    let a = s .args in
+    let b = a .b .now in
+    let bytes = fits-bytes b (c .before .before .before .before .before .before .slice-known .given) in
+    let at-subjects = c .before .before .before .before .subjects in
+    let at-put-two = c .before .before .put-two in
+    rw (at-put-two .ensures, at-subjects .ensures) (enrol-held b bytes (s .pre .0) (a .marks) (s .pre .1))
 
 pub add-subject-spec : {M : Type 1} → statement M
 add-subject-spec =

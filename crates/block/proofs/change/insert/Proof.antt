@@ -15,40 +15,119 @@ count-requires : tie.Need-count-requires
 count-requires c κs = omega (arith, size-held (c .before .before .args .b .now) (fits-bytes (c .before .before .args .b .now) (c .before .slice-known .given)) (c .before .before .pre .0))
 
 place-requires : tie.Need-place-requires
-place-requires c κs = omega (arith, size-held (c .before .before .before .before .args .b .now) (fits-bytes (c .before .before .before .before .args .b .now) (c .before .before .before .slice-known .given)) (c .before .before .before .before .pre .0), count-most (c .before .before .before .before .args .b .now) (fits-bytes (c .before .before .before .before .args .b .now) (c .before .before .before .slice-known .given)) (c .before .before .before .before .pre .0), c .before .count .ensures)
+place-requires c κs =
+    let s = c .before .before .before .before in
+    let a = s .args in
+    let b = a .b .now in
+    let bytes = fits-bytes b (c .before .before .before .slice-known .given) in
+    omega (arith, size-held b bytes (s .pre .0), count-most b bytes (s .pre .0), c .before .count .ensures)
 
 mul-at : tie.Need-mul-at
-mul-at c = let k : c .place .result ≤ c .before .before .count .result = rw (c .place .ensures) (leading-read (λ e. not (before (granted (c .before .before .before .before .before .args .giver) (c .before .before .before .before .before .args .receiver) 0 0 0) e)) delegationIn 8 (drop 132 (c .before .before .before .before .before .args .b .now)) (c .before .before .count .result)) in omega (arith, count-most (c .before .before .before .before .before .args .b .now) (fits-bytes (c .before .before .before .before .before .args .b .now) (c .before .before .before .before .slice-known .given)) (c .before .before .before .before .before .pre .0), c .before .before .count .ensures)
+mul-at c =
+    let s = c .before .before .before .before .before in
+    let a = s .args in
+    let b = a .b .now in
+    let bytes = fits-bytes b (c .before .before .before .before .slice-known .given) in
+    let at-count = c .before .before .count in
+    let at-place = c .place in
+    let k : at-place .result ≤ at-count .result = rw (at-place .ensures) (leading-read (λ e. not (before (granted (a .giver) (a .receiver) 0 0 0) e)) delegationIn 8 (drop 132 b) (at-count .result)) in
+    omega (arith, count-most b bytes (s .pre .0), at-count .ensures)
 
 add-at : tie.Need-add-at
-add-at c = let k : c .place .result ≤ c .before .before .count .result = rw (c .place .ensures) (leading-read (λ e. not (before (granted (c .before .before .before .before .before .args .giver) (c .before .before .before .before .before .args .receiver) 0 0 0) e)) delegationIn 8 (drop 132 (c .before .before .before .before .before .args .b .now)) (c .before .before .count .result)) in omega (arith, count-most (c .before .before .before .before .before .args .b .now) (fits-bytes (c .before .before .before .before .before .args .b .now) (c .before .before .before .before .slice-known .given)) (c .before .before .before .before .before .pre .0), c .before .before .count .ensures)
+add-at c =
+    let s = c .before .before .before .before .before in
+    let a = s .args in
+    let b = a .b .now in
+    let bytes = fits-bytes b (c .before .before .before .before .slice-known .given) in
+    let at-count = c .before .before .count in
+    let at-place = c .place in
+    let k : at-place .result ≤ at-count .result = rw (at-place .ensures) (leading-read (λ e. not (before (granted (a .giver) (a .receiver) 0 0 0) e)) delegationIn 8 (drop 132 b) (at-count .result)) in
+    omega (arith, count-most b bytes (s .pre .0), at-count .ensures)
 
 mul-shift-up : tie.Need-mul-shift-up
-mul-shift-up c = omega (arith, count-most (c .before .before .before .before .before .before .args .b .now) (fits-bytes (c .before .before .before .before .before .before .args .b .now) (c .before .before .before .before .before .slice-known .given)) (c .before .before .before .before .before .before .pre .0), c .before .before .before .count .ensures)
+mul-shift-up c =
+    let s = c .before .before .before .before .before .before in
+    let a = s .args in
+    let b = a .b .now in
+    let bytes = fits-bytes b (c .before .before .before .before .before .slice-known .given) in
+    let at-count = c .before .before .before .count in
+    omega (arith, count-most b bytes (s .pre .0), at-count .ensures)
 
 add-shift-up : tie.Need-add-shift-up
-add-shift-up c = omega (arith, count-most (c .before .before .before .before .before .before .args .b .now) (fits-bytes (c .before .before .before .before .before .before .args .b .now) (c .before .before .before .before .before .slice-known .given)) (c .before .before .before .before .before .before .pre .0), c .before .before .before .count .ensures)
+add-shift-up c =
+    let s = c .before .before .before .before .before .before in
+    let a = s .args in
+    let b = a .b .now in
+    let bytes = fits-bytes b (c .before .before .before .before .before .slice-known .given) in
+    let at-count = c .before .before .before .count in
+    omega (arith, count-most b bytes (s .pre .0), at-count .ensures)
 
 shift-up-requires : tie.Need-shift-up-requires
-shift-up-requires c κs = let k : c .before .place .result ≤ c .before .before .before .count .result = rw (c .before .place .ensures) (leading-read (λ e. not (before (granted (c .before .before .before .before .before .before .args .giver) (c .before .before .before .before .before .before .args .receiver) 0 0 0) e)) delegationIn 8 (drop 132 (c .before .before .before .before .before .before .args .b .now)) (c .before .before .before .count .result)) in omega (arith, size-held (c .before .before .before .before .before .before .args .b .now) (fits-bytes (c .before .before .before .before .before .before .args .b .now) (c .before .before .before .before .before .slice-known .given)) (c .before .before .before .before .before .before .pre .0), count-most (c .before .before .before .before .before .before .args .b .now) (fits-bytes (c .before .before .before .before .before .before .args .b .now) (c .before .before .before .before .before .slice-known .given)) (c .before .before .before .before .before .before .pre .0), c .before .before .before .count .ensures)
+shift-up-requires c κs =
+    let s = c .before .before .before .before .before .before in
+    let a = s .args in
+    let b = a .b .now in
+    let bytes = fits-bytes b (c .before .before .before .before .before .slice-known .given) in
+    let at-count = c .before .before .before .count in
+    let at-place = c .before .place in
+    let k : at-place .result ≤ at-count .result = rw (at-place .ensures) (leading-read (λ e. not (before (granted (a .giver) (a .receiver) 0 0 0) e)) delegationIn 8 (drop 132 b) (at-count .result)) in
+    omega (arith, size-held b bytes (s .pre .0), count-most b bytes (s .pre .0), at-count .ensures)
 
 put-record-requires : tie.Need-put-record-requires
-put-record-requires c κs = let k : c .before .before .before .before .before .place .result ≤ c .before .before .before .before .before .before .before .count .result = rw (c .before .before .before .before .before .place .ensures) (leading-read (λ e. not (before (granted (c .before .before .before .before .before .before .before .before .before .before .args .giver) (c .before .before .before .before .before .before .before .before .before .before .args .receiver) 0 0 0) e)) delegationIn 8 (drop 132 (c .before .before .before .before .before .before .before .before .before .before .args .b .now)) (c .before .before .before .before .before .before .before .count .result)) in omega (arith, size-held (c .before .before .before .before .before .before .before .before .before .before .args .b .now) (fits-bytes (c .before .before .before .before .before .before .before .before .before .before .args .b .now) (c .before .before .before .before .before .before .before .before .before .slice-known .given)) (c .before .before .before .before .before .before .before .before .before .before .pre .0), count-most (c .before .before .before .before .before .before .before .before .before .before .args .b .now) (fits-bytes (c .before .before .before .before .before .before .before .before .before .before .args .b .now) (c .before .before .before .before .before .before .before .before .before .slice-known .given)) (c .before .before .before .before .before .before .before .before .before .before .pre .0), c .before .before .before .before .before .before .before .count .ensures, c .before .before .before .shift-up .kept .0)
+put-record-requires c κs =
+    let s = c .before .before .before .before .before .before .before .before .before .before in
+    let a = s .args in
+    let b = a .b .now in
+    let bytes = fits-bytes b (c .before .before .before .before .before .before .before .before .before .slice-known .given) in
+    let at-count = c .before .before .before .before .before .before .before .count in
+    let at-place = c .before .before .before .before .before .place in
+    let at-shift-up = c .before .before .before .shift-up in
+    let k : at-place .result ≤ at-count .result = rw (at-place .ensures) (leading-read (λ e. not (before (granted (a .giver) (a .receiver) 0 0 0) e)) delegationIn 8 (drop 132 b) (at-count .result)) in
+    omega (arith, size-held b bytes (s .pre .0), count-most b bytes (s .pre .0), at-count .ensures, at-shift-up .kept .0)
 
 add-put-two : tie.Need-add-put-two
-add-put-two c = omega (arith, count-most (c .before .before .before .before .before .before .before .before .before .before .before .before .before .before .args .b .now) (fits-bytes (c .before .before .before .before .before .before .before .before .before .before .before .before .before .before .args .b .now) (c .before .before .before .before .before .before .before .before .before .before .before .before .before .slice-known .given)) (c .before .before .before .before .before .before .before .before .before .before .before .before .before .before .pre .0), c .before .before .before .before .before .before .before .before .before .before .before .count .ensures)
+add-put-two c =
+    let s = c .before .before .before .before .before .before .before .before .before .before .before .before .before .before in
+    let a = s .args in
+    let b = a .b .now in
+    let bytes = fits-bytes b (c .before .before .before .before .before .before .before .before .before .before .before .before .before .slice-known .given) in
+    let at-count = c .before .before .before .before .before .before .before .before .before .before .before .count in
+    omega (arith, count-most b bytes (s .pre .0), at-count .ensures)
 
 cast-put-two : tie.Need-cast-put-two
-cast-put-two c = omega (arith, count-most (c .before .before .before .before .before .before .before .before .before .before .before .before .before .before .args .b .now) (fits-bytes (c .before .before .before .before .before .before .before .before .before .before .before .before .before .before .args .b .now) (c .before .before .before .before .before .before .before .before .before .before .before .before .before .slice-known .given)) (c .before .before .before .before .before .before .before .before .before .before .before .before .before .before .pre .0), c .before .before .before .before .before .before .before .before .before .before .before .count .ensures)
+cast-put-two c =
+    let s = c .before .before .before .before .before .before .before .before .before .before .before .before .before .before in
+    let a = s .args in
+    let b = a .b .now in
+    let bytes = fits-bytes b (c .before .before .before .before .before .before .before .before .before .before .before .before .before .slice-known .given) in
+    let at-count = c .before .before .before .before .before .before .before .before .before .before .before .count in
+    omega (arith, count-most b bytes (s .pre .0), at-count .ensures)
 
 put-two-requires : tie.Need-put-two-requires
-put-two-requires c κs = omega (arith, size-held (c .before .before .before .before .before .before .before .before .before .before .before .before .before .before .args .b .now) (fits-bytes (c .before .before .before .before .before .before .before .before .before .before .before .before .before .before .args .b .now) (c .before .before .before .before .before .before .before .before .before .before .before .before .before .slice-known .given)) (c .before .before .before .before .before .before .before .before .before .before .before .before .before .before .pre .0), c .before .before .before .put-record .kept .0, c .before .before .before .before .before .before .before .shift-up .kept .0)
+put-two-requires c κs =
+    let s = c .before .before .before .before .before .before .before .before .before .before .before .before .before .before in
+    let a = s .args in
+    let b = a .b .now in
+    let bytes = fits-bytes b (c .before .before .before .before .before .before .before .before .before .before .before .before .before .slice-known .given) in
+    let at-shift-up = c .before .before .before .before .before .before .before .shift-up in
+    let at-put-record = c .before .before .before .put-record in
+    omega (arith, size-held b bytes (s .pre .0), at-put-record .kept .0, at-shift-up .kept .0)
 
 same-length : tie.Need-same-length
 same-length c = omega (arith, c .before .before .put-two .kept .0, c .before .before .before .before .before .before .put-record .kept .0, c .before .before .before .before .before .before .before .before .before .before .shift-up .kept .0)
 
 returns : tie.Need-returns
-returns c = rw (c .before .before .put-two .ensures, c .before .before .before .before .before .before .put-record .ensures, c .before .before .before .before .before .before .before .before .before .before .shift-up .ensures, c .before .before .before .before .before .before .before .before .before .before .before .before .before .before .count .ensures) (insert-held (c .before .before .before .before .before .before .before .before .before .before .before .before .before .before .before .before .before .args .b .now) (fits-bytes (c .before .before .before .before .before .before .before .before .before .before .before .before .before .before .before .before .before .args .b .now) (c .before .before .before .before .before .before .before .before .before .before .before .before .before .before .before .before .slice-known .given)) (c .before .before .before .before .before .before .before .before .before .before .before .before .before .before .before .before .before .pre .0) (granted (c .before .before .before .before .before .before .before .before .before .before .before .before .before .before .before .before .before .args .giver) (c .before .before .before .before .before .before .before .before .before .before .before .before .before .before .before .before .before .args .receiver) (c .before .before .before .before .before .before .before .before .before .before .before .before .before .before .before .before .before .args .weight) (c .before .before .before .before .before .before .before .before .before .before .before .before .before .before .before .before .before .args .need) (c .before .before .before .before .before .before .before .before .before .before .before .before .before .before .before .before .before .args .bar)) (c .before .before .before .before .before .before .before .before .before .before .before .before .place .result) (c .before .before .before .before .before .before .before .before .before .before .before .before .before .before .before .before .before .pre .1) (rw (← c .before .before .before .before .before .before .before .before .before .before .before .before .before .before .count .ensures) (c .before .before .before .before .before .before .before .before .before .before .before .before .place .ensures)))
+returns c =
+    let s = c .before .before .before .before .before .before .before .before .before .before .before .before .before .before .before .before .before in
+    let a = s .args in
+    let b = a .b .now in
+    let bytes = fits-bytes b (c .before .before .before .before .before .before .before .before .before .before .before .before .before .before .before .before .slice-known .given) in
+    let at-count = c .before .before .before .before .before .before .before .before .before .before .before .before .before .before .count in
+    let at-place = c .before .before .before .before .before .before .before .before .before .before .before .before .place in
+    let at-shift-up = c .before .before .before .before .before .before .before .before .before .before .shift-up in
+    let at-put-record = c .before .before .before .before .before .before .put-record in
+    let at-put-two = c .before .before .put-two in
+    rw (at-put-two .ensures, at-put-record .ensures, at-shift-up .ensures, at-count .ensures) (insert-held b bytes (s .pre .0) (granted (a .giver) (a .receiver) (a .weight) (a .need) (a .bar)) (at-place .result) (s .pre .1) (rw (← at-count .ensures) (at-place .ensures)))
 
 pub insert-spec : {M : Type 1} → statement M
 insert-spec =

@@ -13,25 +13,70 @@ count-requires : tie.Need-count-requires
 count-requires c κs = omega (arith, size-held (c .before .before .args .b .now) (fits-bytes (c .before .before .args .b .now) (c .before .slice-known .given)) (c .before .before .pre .0))
 
 find-requires : tie.Need-find-requires
-find-requires c κs = omega (arith, size-held (c .before .before .before .before .args .b .now) (fits-bytes (c .before .before .before .before .args .b .now) (c .before .before .before .slice-known .given)) (c .before .before .before .before .pre .0), count-most (c .before .before .before .before .args .b .now) (fits-bytes (c .before .before .before .before .args .b .now) (c .before .before .before .slice-known .given)) (c .before .before .before .before .pre .0), c .before .count .ensures)
+find-requires c κs =
+    let s = c .before .before .before .before in
+    let a = s .args in
+    let b = a .b .now in
+    let bytes = fits-bytes b (c .before .before .before .slice-known .given) in
+    omega (arith, size-held b bytes (s .pre .0), count-most b bytes (s .pre .0), c .before .count .ensures)
 
 mul-b : tie.Need-mul-b
-mul-b c = let k : c .find .result < c .before .before .count .result = rw (c .before .before .count .ensures) (found-stands (c .before .before .before .before .before .args .b .now) (fits-bytes (c .before .before .before .before .before .args .b .now) (c .before .before .before .before .slice-known .given)) (c .before .before .before .before .before .pre .0) (c .before .before .before .before .before .args .giver) (c .before .before .before .before .before .args .receiver) (c .find .result) (rw (← c .before .before .count .ensures) (c .find .ensures)) (c .before .before .before .before .before .pre .1)) in omega (arith, count-most (c .before .before .before .before .before .args .b .now) (fits-bytes (c .before .before .before .before .before .args .b .now) (c .before .before .before .before .slice-known .given)) (c .before .before .before .before .before .pre .0), c .before .before .count .ensures)
+mul-b c =
+    let s = c .before .before .before .before .before in
+    let a = s .args in
+    let b = a .b .now in
+    let bytes = fits-bytes b (c .before .before .before .before .slice-known .given) in
+    let at-count = c .before .before .count in
+    let at-find = c .find in
+    let k : at-find .result < at-count .result = rw (at-count .ensures) (found-stands b bytes (s .pre .0) (a .giver) (a .receiver) (at-find .result) (rw (← at-count .ensures) (at-find .ensures)) (s .pre .1)) in
+    omega (arith, count-most b bytes (s .pre .0), at-count .ensures)
 
 add-b : tie.Need-add-b
-add-b c = let k : c .find .result < c .before .before .count .result = rw (c .before .before .count .ensures) (found-stands (c .before .before .before .before .before .args .b .now) (fits-bytes (c .before .before .before .before .before .args .b .now) (c .before .before .before .before .slice-known .given)) (c .before .before .before .before .before .pre .0) (c .before .before .before .before .before .args .giver) (c .before .before .before .before .before .args .receiver) (c .find .result) (rw (← c .before .before .count .ensures) (c .find .ensures)) (c .before .before .before .before .before .pre .1)) in omega (arith, count-most (c .before .before .before .before .before .args .b .now) (fits-bytes (c .before .before .before .before .before .args .b .now) (c .before .before .before .before .slice-known .given)) (c .before .before .before .before .before .pre .0), c .before .before .count .ensures)
+add-b c =
+    let s = c .before .before .before .before .before in
+    let a = s .args in
+    let b = a .b .now in
+    let bytes = fits-bytes b (c .before .before .before .before .slice-known .given) in
+    let at-count = c .before .before .count in
+    let at-find = c .find in
+    let k : at-find .result < at-count .result = rw (at-count .ensures) (found-stands b bytes (s .pre .0) (a .giver) (a .receiver) (at-find .result) (rw (← at-count .ensures) (at-find .ensures)) (s .pre .1)) in
+    omega (arith, count-most b bytes (s .pre .0), at-count .ensures)
 
 add-b-2 : tie.Need-add-b-2
-add-b-2 c = let k : c .find .result < c .before .before .count .result = rw (c .before .before .count .ensures) (found-stands (c .before .before .before .before .before .args .b .now) (fits-bytes (c .before .before .before .before .before .args .b .now) (c .before .before .before .before .slice-known .given)) (c .before .before .before .before .before .pre .0) (c .before .before .before .before .before .args .giver) (c .before .before .before .before .before .args .receiver) (c .find .result) (rw (← c .before .before .count .ensures) (c .find .ensures)) (c .before .before .before .before .before .pre .1)) in omega (arith, count-most (c .before .before .before .before .before .args .b .now) (fits-bytes (c .before .before .before .before .before .args .b .now) (c .before .before .before .before .slice-known .given)) (c .before .before .before .before .before .pre .0), c .before .before .count .ensures)
+add-b-2 c =
+    let s = c .before .before .before .before .before in
+    let a = s .args in
+    let b = a .b .now in
+    let bytes = fits-bytes b (c .before .before .before .before .slice-known .given) in
+    let at-count = c .before .before .count in
+    let at-find = c .find in
+    let k : at-find .result < at-count .result = rw (at-count .ensures) (found-stands b bytes (s .pre .0) (a .giver) (a .receiver) (at-find .result) (rw (← at-count .ensures) (at-find .ensures)) (s .pre .1)) in
+    omega (arith, count-most b bytes (s .pre .0), at-count .ensures)
 
 slice-write-b : tie.Need-slice-write-b
-slice-write-b c = let k : c .find .result < c .before .before .count .result = rw (c .before .before .count .ensures) (found-stands (c .before .before .before .before .before .args .b .now) (fits-bytes (c .before .before .before .before .before .args .b .now) (c .before .before .before .before .slice-known .given)) (c .before .before .before .before .before .pre .0) (c .before .before .before .before .before .args .giver) (c .before .before .before .before .before .args .receiver) (c .find .result) (rw (← c .before .before .count .ensures) (c .find .ensures)) (c .before .before .before .before .before .pre .1)) in omega (arith, size-held (c .before .before .before .before .before .args .b .now) (fits-bytes (c .before .before .before .before .before .args .b .now) (c .before .before .before .before .slice-known .given)) (c .before .before .before .before .before .pre .0), count-most (c .before .before .before .before .before .args .b .now) (fits-bytes (c .before .before .before .before .before .args .b .now) (c .before .before .before .before .slice-known .given)) (c .before .before .before .before .before .pre .0), c .before .before .count .ensures)
+slice-write-b c =
+    let s = c .before .before .before .before .before in
+    let a = s .args in
+    let b = a .b .now in
+    let bytes = fits-bytes b (c .before .before .before .before .slice-known .given) in
+    let at-count = c .before .before .count in
+    let at-find = c .find in
+    let k : at-find .result < at-count .result = rw (at-count .ensures) (found-stands b bytes (s .pre .0) (a .giver) (a .receiver) (at-find .result) (rw (← at-count .ensures) (at-find .ensures)) (s .pre .1)) in
+    omega (arith, size-held b bytes (s .pre .0), count-most b bytes (s .pre .0), at-count .ensures)
 
 same-length : tie.Need-same-length
 same-length c = simp length-set refl
 
 returns : tie.Need-returns
-returns c = let e : 132 + 8 * c .find .result + 2 ≡ 134 + 8 * c .find .result = omega arith in rw e (lower-held (c .before .before .before .before .before .args .b .now) (fits-bytes (c .before .before .before .before .before .args .b .now) (c .before .before .before .before .slice-known .given)) (c .before .before .before .before .before .pre .0) (c .before .before .before .before .before .args .giver) (c .before .before .before .before .before .args .receiver) (c .find .result) (rw (← c .before .before .count .ensures) (c .find .ensures)) (c .before .before .before .before .before .args .weight) (c .before .before .before .before .before .pre .1))
+returns c =
+    let s = c .before .before .before .before .before in
+    let a = s .args in
+    let b = a .b .now in
+    let bytes = fits-bytes b (c .before .before .before .before .slice-known .given) in
+    let at-count = c .before .before .count in
+    let at-find = c .find in
+    let e : 132 + 8 * at-find .result + 2 ≡ 134 + 8 * at-find .result = omega arith in
+    rw e (lower-held b bytes (s .pre .0) (a .giver) (a .receiver) (at-find .result) (rw (← at-count .ensures) (at-find .ensures)) (a .weight) (s .pre .1))
 
 pub set-weight-spec : {M : Type 1} → statement M
 set-weight-spec =

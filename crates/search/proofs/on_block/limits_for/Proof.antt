@@ -14,7 +14,12 @@ count-requires : tie.Need-count-requires
 count-requires c κs = omega (arith, size-held (c .before .before .args .block .now) (fits-bytes (c .before .before .args .block .now) (c .before .shared-slice-known .given)) (c .before .before .pre .0))
 
 marks-requires : tie.Need-marks-requires
-marks-requires c κs = omega (arith, size-held (c .before .before .before .args .block .now) (fits-bytes (c .before .before .before .args .block .now) (c .before .before .shared-slice-known .given)) (c .before .before .before .pre .0), rules-of (c .before .before .before .args .block .now) (fits-bytes (c .before .before .before .args .block .now) (c .before .before .shared-slice-known .given)) (c .before .before .before .pre .0) .most, c .before .before .before .pre .2)
+marks-requires c κs =
+    let s = c .before .before .before in
+    let a = s .args in
+    let b = a .block .now in
+    let bytes = fits-bytes b (c .before .before .shared-slice-known .given) in
+    omega (arith, size-held b bytes (s .pre .0), rules-of b bytes (s .pre .0) .most, s .pre .2)
 
 mul-end : tie.Need-mul-end
 mul-end c = omega (arith, count-most (c .before .before .before .before .args .block .now) (fits-bytes (c .before .before .before .before .args .block .now) (c .before .before .before .shared-slice-known .given)) (c .before .before .before .before .pre .0), c .before .count .ensures)
@@ -29,7 +34,12 @@ part-search-start : tie.Need-part-search-start
 part-search-start c = search needs
 
 part-search-end : tie.Need-part-search-end
-part-search-end c = omega (arith, size-held (c .before .before .before .before .args .block .now) (fits-bytes (c .before .before .before .before .args .block .now) (c .before .before .before .shared-slice-known .given)) (c .before .before .before .before .pre .0), count-most (c .before .before .before .before .args .block .now) (fits-bytes (c .before .before .before .before .args .block .now) (c .before .before .before .shared-slice-known .given)) (c .before .before .before .before .pre .0), c .before .count .ensures)
+part-search-end c =
+    let s = c .before .before .before .before in
+    let a = s .args in
+    let b = a .block .now in
+    let bytes = fits-bytes b (c .before .before .before .shared-slice-known .given) in
+    omega (arith, size-held b bytes (s .pre .0), count-most b bytes (s .pre .0), c .before .count .ensures)
 
 search-requires : tie.Need-search-requires
 search-requires c κs =

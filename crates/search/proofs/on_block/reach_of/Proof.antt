@@ -21,13 +21,29 @@ limits-for-requires : tie.Need-limits-for-requires
 limits-for-requires c κs = search needs
 
 mul-result : tie.Need-mul-result
-mul-result c = omega (arith, rules-of (c .before .before .before .before .before .before .args .block .now) (fits-bytes (c .before .before .before .before .before .before .args .block .now) (c .before .before .before .before .before .shared-slice-known .given)) (c .before .before .before .before .before .before .pre .0) .most, c .before .before .before .before .before .before .pre .1)
+mul-result c =
+    let s = c .before .before .before .before .before .before in
+    let a = s .args in
+    let b = a .block .now in
+    let bytes = fits-bytes b (c .before .before .before .before .before .shared-slice-known .given) in
+    omega (arith, rules-of b bytes (s .pre .0) .most, s .pre .1)
 
 array-copy-out-result : tie.Need-array-copy-out-result
-array-copy-out-result c = omega (arith, rules-of (c .before .before .before .before .before .before .args .block .now) (fits-bytes (c .before .before .before .before .before .before .args .block .now) (c .before .before .before .before .before .shared-slice-known .given)) (c .before .before .before .before .before .before .pre .0) .most, c .before .before .before .before .before .before .pre .1)
+array-copy-out-result c =
+    let s = c .before .before .before .before .before .before in
+    let a = s .args in
+    let b = a .block .now in
+    let bytes = fits-bytes b (c .before .before .before .before .before .shared-slice-known .given) in
+    omega (arith, rules-of b bytes (s .pre .0) .most, s .pre .1)
 
 returns : tie.Need-returns
-returns c = toZ-ofZ {w = w16} record { sfits = c .result .given } ∙ reach-found (c .before .before .before .before .before .before .before .args .block .now) (fits-bytes (c .before .before .before .before .before .before .before .args .block .now) (c .before .before .before .before .before .before .shared-slice-known .given)) (c .before .before .before .before .before .before .before .pre .0) (c .before .before .before .before .before .before .before .args .table .now) (c .before .before .before .before .before .before .before .args .receiver) (c .before .before .before .limits-for .last .1 .1 .1 .0) (c .before .before .before .limits-for .last .1 .1 .1 .1 .0) (c .before .before .before .limits-for .ensures) (c .before .before .before .before .before .before .before .args .giver) (omega (arith, rules-of (c .before .before .before .before .before .before .before .args .block .now) (fits-bytes (c .before .before .before .before .before .before .before .args .block .now) (c .before .before .before .before .before .before .shared-slice-known .given)) (c .before .before .before .before .before .before .before .pre .0) .most, c .before .before .before .before .before .before .before .pre .1))
+returns c =
+    let s = c .before .before .before .before .before .before .before in
+    let a = s .args in
+    let b = a .block .now in
+    let bytes = fits-bytes b (c .before .before .before .before .before .before .shared-slice-known .given) in
+    let at-limits-for = c .before .before .before .limits-for in
+    toZ-ofZ {w = w16} record { sfits = c .result .given } ∙ reach-found b bytes (s .pre .0) (a .table .now) (a .receiver) (at-limits-for .last .1 .1 .1 .0) (at-limits-for .last .1 .1 .1 .1 .0) (at-limits-for .ensures) (a .giver) (omega (arith, rules-of b bytes (s .pre .0) .most, s .pre .1))
 
 pub reach-of-spec : {M : Type 1} → statement M
 reach-of-spec =
