@@ -1,13 +1,17 @@
 -- `register::grant` adds a delegation or refuses. Assumes nothing.
 use borrow.Author.Needs.{needs}
-use mathlib.Core.Path.{sym, _∙_}
+use mathlib.Core.Path.{_≡_, sym, _∙_}
+use mathlib.Core.Bool.{true}
 use Prim.Native.Nat.{_+_}
 use native.Mathlib.Omega.{arith}
 use mir.Syntax.{w32}
 use mir.Facts.{toZ-pos}
 use Rattle.rules.specs.Table.{steps}
 use Rattle.rules.specs.Call.{grant}
+use Rattle.rules.specs.Refusal.{firstOf, passed, held}
 use Rattle.rules.proofs.Lists.{not-true, not-false}
+use Rattle.block.specs.Block.{decode}
+use Rattle.block.specs.WellFormed.{wellFormed}
 use Rattle.block.proofs.Bytes.{fits-bytes}
 use Rattle.register.proofs.Made.{made-length, made-passed, made-form, made-held}
 use Rattle.register.proofs.Holding.{grant-done, grant-through, grant-room}
@@ -57,7 +61,8 @@ returns-3 c =
     let at-grant-passed = c .before .before .before .before .before .grant-passed in
     let at-if2 = c .before .before .before .before .if2 in
     let at-well-formed = c .before .before .well-formed in
-    rw (c .refused3 .ensures) (made-form steps (grant (a .giver) (a .receiver) (a .weight) (a .need) (a .bar)) b (at-if1 .left) (sym (at-grant-passed .ensures) ∙ at-if2 .left) (sym (at-well-formed .ensures) ∙ not-true _ (c .before .if3 .taken)))
+    let through : firstOf (passed (grant (a .giver) (a .receiver) (a .weight) (a .need) (a .bar))) ≡ 0 = sym (at-grant-passed .ensures) ∙ at-if2 .left in
+    rw (c .refused3 .ensures) (made-form steps (grant (a .giver) (a .receiver) (a .weight) (a .need) (a .bar)) b (at-if1 .left) through (sym (at-well-formed .ensures) ∙ not-true _ (c .before .if3 .taken)))
 
 grant-held-requires : tie.Need-grant-held-requires
 grant-held-requires c κs =
@@ -66,8 +71,10 @@ grant-held-requires c κs =
     let at-grant-passed = c .before .before .before .before .before .grant-passed in
     let at-if2 = c .before .before .before .before .if2 in
     let at-well-formed = c .before .before .well-formed in
-    let (a, b, w, x, y) = grant-through (a .giver) (a .receiver) (a .weight) (a .need) (a .bar) (sym (at-grant-passed .ensures) ∙ at-if2 .left) in
-    ((sym (at-well-formed .ensures) ∙ not-false _ (c .before .if3 .left)), a, b, w)
+    let through : firstOf (passed (grant (a .giver) (a .receiver) (a .weight) (a .need) (a .bar))) ≡ 0 = sym (at-grant-passed .ensures) ∙ at-if2 .left in
+    let (p, q, w, x, y) = grant-through (a .giver) (a .receiver) (a .weight) (a .need) (a .bar) through in
+    let formed : wellFormed (a .block .now) ≡ true = sym (at-well-formed .ensures) ∙ not-false _ (c .before .if3 .left) in
+    (formed, p, q, w)
 
 refused-requires-4 : tie.Need-refused-requires-4
 refused-requires-4 c κs = search needs
@@ -86,7 +93,9 @@ returns-4 c =
     let at-well-formed = c .before .before .before .before .before .well-formed in
     let at-if3 = c .before .before .before .before .if3 in
     let at-grant-held = c .before .before .grant-held in
-    rw (c .refused4 .ensures) (made-held steps (grant (a .giver) (a .receiver) (a .weight) (a .need) (a .bar)) b (at-if1 .left) (sym (at-grant-passed .ensures) ∙ at-if2 .left) (sym (at-well-formed .ensures) ∙ not-false _ (at-if3 .left)) (at-grant-held .result) (sym (at-grant-held .ensures)) (c .before .if4 .taken))
+    let through : firstOf (passed (grant (a .giver) (a .receiver) (a .weight) (a .need) (a .bar))) ≡ 0 = sym (at-grant-passed .ensures) ∙ at-if2 .left in
+    let formed : wellFormed (a .block .now) ≡ true = sym (at-well-formed .ensures) ∙ not-false _ (at-if3 .left) in
+    rw (c .refused4 .ensures) (made-held steps (grant (a .giver) (a .receiver) (a .weight) (a .need) (a .bar)) b (at-if1 .left) through formed (at-grant-held .result) (sym (at-grant-held .ensures)) (c .before .if4 .taken))
 
 count-requires : tie.Need-count-requires
 count-requires c κs = search needs
@@ -97,7 +106,8 @@ cast-insert c =
     let a = s .args in
     let at-grant-passed = c .before .before .before .before .before .before .before .before .before .before .grant-passed in
     let at-if2 = c .before .before .before .before .before .before .before .before .before .if2 in
-    let (a, b, w, x, y) = grant-through (a .giver) (a .receiver) (a .weight) (a .need) (a .bar) (sym (at-grant-passed .ensures) ∙ at-if2 .left) in
+    let through : firstOf (passed (grant (a .giver) (a .receiver) (a .weight) (a .need) (a .bar))) ≡ 0 = sym (at-grant-passed .ensures) ∙ at-if2 .left in
+    let (p, q, w, x, y) = grant-through (a .giver) (a .receiver) (a .weight) (a .need) (a .bar) through in
     omega arith
 
 cast-insert-2 : tie.Need-cast-insert-2
@@ -106,7 +116,8 @@ cast-insert-2 c =
     let a = s .args in
     let at-grant-passed = c .before .before .before .before .before .before .before .before .before .before .grant-passed in
     let at-if2 = c .before .before .before .before .before .before .before .before .before .if2 in
-    let (a, b, w, x, y) = grant-through (a .giver) (a .receiver) (a .weight) (a .need) (a .bar) (sym (at-grant-passed .ensures) ∙ at-if2 .left) in
+    let through : firstOf (passed (grant (a .giver) (a .receiver) (a .weight) (a .need) (a .bar))) ≡ 0 = sym (at-grant-passed .ensures) ∙ at-if2 .left in
+    let (p, q, w, x, y) = grant-through (a .giver) (a .receiver) (a .weight) (a .need) (a .bar) through in
     omega arith
 
 cast-insert-3 : tie.Need-cast-insert-3
@@ -115,7 +126,8 @@ cast-insert-3 c =
     let a = s .args in
     let at-grant-passed = c .before .before .before .before .before .before .before .before .before .before .grant-passed in
     let at-if2 = c .before .before .before .before .before .before .before .before .before .if2 in
-    let (a, b, w, x, y) = grant-through (a .giver) (a .receiver) (a .weight) (a .need) (a .bar) (sym (at-grant-passed .ensures) ∙ at-if2 .left) in
+    let through : firstOf (passed (grant (a .giver) (a .receiver) (a .weight) (a .need) (a .bar))) ≡ 0 = sym (at-grant-passed .ensures) ∙ at-if2 .left in
+    let (p, q, w, x, y) = grant-through (a .giver) (a .receiver) (a .weight) (a .need) (a .bar) through in
     omega arith
 
 cast-insert-4 : tie.Need-cast-insert-4
@@ -124,7 +136,8 @@ cast-insert-4 c =
     let a = s .args in
     let at-grant-passed = c .before .before .before .before .before .before .before .before .before .before .grant-passed in
     let at-if2 = c .before .before .before .before .before .before .before .before .before .if2 in
-    let (a, b, w, x, y) = grant-through (a .giver) (a .receiver) (a .weight) (a .need) (a .bar) (sym (at-grant-passed .ensures) ∙ at-if2 .left) in
+    let through : firstOf (passed (grant (a .giver) (a .receiver) (a .weight) (a .need) (a .bar))) ≡ 0 = sym (at-grant-passed .ensures) ∙ at-if2 .left in
+    let (p, q, w, x, y) = grant-through (a .giver) (a .receiver) (a .weight) (a .need) (a .bar) through in
     omega arith
 
 cast-insert-5 : tie.Need-cast-insert-5
@@ -133,7 +146,8 @@ cast-insert-5 c =
     let a = s .args in
     let at-grant-passed = c .before .before .before .before .before .before .before .before .before .before .grant-passed in
     let at-if2 = c .before .before .before .before .before .before .before .before .before .if2 in
-    let (a, b, w, x, y) = grant-through (a .giver) (a .receiver) (a .weight) (a .need) (a .bar) (sym (at-grant-passed .ensures) ∙ at-if2 .left) in
+    let through : firstOf (passed (grant (a .giver) (a .receiver) (a .weight) (a .need) (a .bar))) ≡ 0 = sym (at-grant-passed .ensures) ∙ at-if2 .left in
+    let (p, q, w, x, y) = grant-through (a .giver) (a .receiver) (a .weight) (a .need) (a .bar) through in
     omega arith
 
 insert-requires : tie.Need-insert-requires
@@ -146,7 +160,9 @@ insert-requires c κs =
     let at-if3 = c .before .before .before .before .before .before .if3 in
     let at-grant-held = c .before .before .before .before .grant-held in
     let at-if4 = c .before .before .before .if4 in
-    ((sym (at-well-formed .ensures) ∙ not-false _ (at-if3 .left)), grant-room steps b bytes (sym (at-well-formed .ensures) ∙ not-false _ (at-if3 .left)) (a .giver) (a .receiver) (a .weight) (a .need) (a .bar) (sym (at-grant-held .ensures) ∙ at-if4 .left))
+    let formed : wellFormed (a .block .now) ≡ true = sym (at-well-formed .ensures) ∙ not-false _ (at-if3 .left) in
+    let unheld : firstOf (held steps (decode (a .block .now)) (grant (a .giver) (a .receiver) (a .weight) (a .need) (a .bar))) ≡ 0 = sym (at-grant-held .ensures) ∙ at-if4 .left in
+    (formed, grant-room steps b bytes formed (a .giver) (a .receiver) (a .weight) (a .need) (a .bar) unheld)
 
 add-answered : tie.Need-add-answered
 add-answered c =
@@ -159,7 +175,9 @@ add-answered c =
     let at-grant-held = c .before .before .before .before .before .before .before .grant-held in
     let at-if4 = c .before .before .before .before .before .before .if4 in
     let at-count = c .before .before .before .before .count in
-    omega (arith, grant-room steps b bytes (sym (at-well-formed .ensures) ∙ not-false _ (at-if3 .left)) (a .giver) (a .receiver) (a .weight) (a .need) (a .bar) (sym (at-grant-held .ensures) ∙ at-if4 .left), at-count .ensures)
+    let formed : wellFormed (a .block .now) ≡ true = sym (at-well-formed .ensures) ∙ not-false _ (at-if3 .left) in
+    let unheld : firstOf (held steps (decode (a .block .now)) (grant (a .giver) (a .receiver) (a .weight) (a .need) (a .bar))) ≡ 0 = sym (at-grant-held .ensures) ∙ at-if4 .left in
+    omega (arith, grant-room steps b bytes formed (a .giver) (a .receiver) (a .weight) (a .need) (a .bar) unheld, at-count .ensures)
 
 cast-answered : tie.Need-cast-answered
 cast-answered c =
@@ -172,7 +190,9 @@ cast-answered c =
     let at-grant-held = c .before .before .before .before .before .before .before .grant-held in
     let at-if4 = c .before .before .before .before .before .before .if4 in
     let at-count = c .before .before .before .before .count in
-    omega (arith, grant-room steps b bytes (sym (at-well-formed .ensures) ∙ not-false _ (at-if3 .left)) (a .giver) (a .receiver) (a .weight) (a .need) (a .bar) (sym (at-grant-held .ensures) ∙ at-if4 .left), at-count .ensures)
+    let formed : wellFormed (a .block .now) ≡ true = sym (at-well-formed .ensures) ∙ not-false _ (at-if3 .left) in
+    let unheld : firstOf (held steps (decode (a .block .now)) (grant (a .giver) (a .receiver) (a .weight) (a .need) (a .bar))) ≡ 0 = sym (at-grant-held .ensures) ∙ at-if4 .left in
+    omega (arith, grant-room steps b bytes formed (a .giver) (a .receiver) (a .weight) (a .need) (a .bar) unheld, at-count .ensures)
 
 answered-requires : tie.Need-answered-requires
 answered-requires c κs = search needs
@@ -195,7 +215,10 @@ returns-5 c =
     let at-if4 = c .before .before .before .before .before .before .before .if4 in
     let at-count = c .before .before .before .before .before .count in
     let at-insert = c .before .before .before .insert in
-    rw (c .answered .ensures, toZ-pos w32 {n = at-count .result + 1} (omega (arith, grant-room steps b bytes (sym (at-well-formed .ensures) ∙ not-false _ (at-if3 .left)) (a .giver) (a .receiver) (a .weight) (a .need) (a .bar) (sym (at-grant-held .ensures) ∙ at-if4 .left), at-count .ensures)), at-count .ensures) (grant-done steps b bytes (sym (at-well-formed .ensures) ∙ not-false _ (at-if3 .left)) (a .giver) (a .receiver) (a .weight) (a .need) (a .bar) (at-if1 .left) (sym (at-grant-passed .ensures) ∙ at-if2 .left) (sym (at-grant-held .ensures) ∙ at-if4 .left) (at-insert .last .0) (at-insert .ensures))
+    let through : firstOf (passed (grant (a .giver) (a .receiver) (a .weight) (a .need) (a .bar))) ≡ 0 = sym (at-grant-passed .ensures) ∙ at-if2 .left in
+    let formed : wellFormed (a .block .now) ≡ true = sym (at-well-formed .ensures) ∙ not-false _ (at-if3 .left) in
+    let unheld : firstOf (held steps (decode (a .block .now)) (grant (a .giver) (a .receiver) (a .weight) (a .need) (a .bar))) ≡ 0 = sym (at-grant-held .ensures) ∙ at-if4 .left in
+    rw (c .answered .ensures, toZ-pos w32 {n = at-count .result + 1} (omega (arith, grant-room steps b bytes formed (a .giver) (a .receiver) (a .weight) (a .need) (a .bar) unheld, at-count .ensures)), at-count .ensures) (grant-done steps b bytes formed (a .giver) (a .receiver) (a .weight) (a .need) (a .bar) (at-if1 .left) through unheld (at-insert .last .0) (at-insert .ensures))
 
 pub grant-spec : {M : Type 1} → statement M
 grant-spec =
