@@ -10,6 +10,8 @@ pub mod WellFormed
 pub mod Refusals
 pub mod Pairs
 pub mod Calls
+pub mod Firm
+pub mod Bound
 pub mod Ranges
 pub mod History
 pub mod Certificate

@@ -3,7 +3,7 @@ use mathlib.Core.Path.{_≡_, refl, sym, subst}
 use mathlib.Core.Logic.{_⊎_, inl, inr}
 use mathlib.Core.Bool.{Bool, true, false, not, cond, _&&_, _||_}
 use mathlib.Core.List.{List, [], _∷_, _++_, List·Memᴰ·head, List·Memᴰ·tail}
-use Prim.Native.Nat.{ℕ, zero, suc, _+_, _*_, _≤_, zero-le}
+use Prim.Native.Nat.{ℕ, zero, suc, _+_, _*_, _≤_, zero-le, _<_}
 use native.Mathlib.Nat.{le-refl}
 use native.Mathlib.Omega.{arith}
 use lib.Dec.{T, leb, eqb, nleb→lt, nltb→le}
@@ -16,7 +16,7 @@ use Rattle.rules.specs.Register.{Delegation, Register}
 use Rattle.rules.specs.Chain.{limit, IsChain}
 use Rattle.rules.specs.Reach.{reach}
 use Rattle.rules.specs.Pair.{weightAt, stands, receives}
-use Rattle.rules.specs.Round.{round, total, settle, SettlesIn}
+use Rattle.rules.specs.Round.{round, total, settle, SettlesIn, rounds}
 use Rattle.rules.specs.Cut.{removal, lowering, named, isDropped, isLowered, dropped, lowered}
 use Rattle.rules.specs.WellFormed.{WellFormed}
 use Rattle.rules.specs.Call.{Call, enrol, grant, revoke, downgrade, askReach, askUse, granted}
@@ -29,6 +29,8 @@ use Rattle.rules.proofs.Rounds.{round-falls, settle-right}
 use Rattle.rules.proofs.Refusals.{Passes}
 use Rattle.rules.proofs.Pairs.{insert-length}
 use Rattle.rules.proofs.Calls.{removed-formed, lowered-formed, callStep-cases}
+use Rattle.rules.proofs.Bound.{rounds-below}
+use Rattle.rules.proofs.Lists.{not-not}
 
 -- ── two tests that no element passes together ──
 module _ {A : Type 0} (f g : A → Bool) (apart : (x : A) → T (f x) → T (not (g x))) where
@@ -71,11 +73,11 @@ pub settle-most : (t : List ℤ) (C : Register) → WellFormed C → settle t C 
 settle-most t C f = omega (arith, settles-most t (settle t C .changed) C (settle t C .left) (settle-right t C), total-most C f)
 
 -- ── each call ──
-cut-range : (t : List ℤ) (C : Register) → WellFormed C → let o = cut t C in CutInRange (o .first) (o .second) (o .third)
+cut-range : (t : List ℤ) (C : Register) → WellFormed C → rounds (settle t C) < 512 → let o = cut t C in CutInRange (o .first) (o .second) (o .third)
 unfolding cut
-cut-range t C f =
+cut-range t C f h =
     let s = settle t C in
-    ((dropped C (s .left), lowered C (s .left), refl, refl, omega (arith, both-few C (s .left), f .few)), (suc (s .changed), refl, omega arith, omega (arith, settle-most t C f)))
+    ((dropped C (s .left), lowered C (s .left), refl, refl, omega (arith, both-few C (s .left), f .few)), (suc (s .changed), refl, omega arith, omega arith))
 
 pub reach-range : (t : List ℤ) → TableRule t → (R : Register) (u v : ℕ) → T (fromNone (reach t R u v)) × (reach t R u v ≼ pos 255)
 unfolding fromNone
@@ -99,8 +101,9 @@ accepted-range t rule R (enrol m) p f = ((R .subjects, refl, f .some, omega (ari
 accepted-range t rule R (grant g r w n b) p f =
     let e = insert-length (granted g r w n b) (R .delegations) in
     ((_, refl, omega (arith, e), omega (arith, e, nleb→lt 256 (length (R .delegations)) (p .1 .1 .1 .1 .1 .1 .1 .0))), refl, refl)
-accepted-range t rule R (revoke y g r) p f = cut-range t (named R (removal g r)) (removed-formed R g r f)
-accepted-range t rule R (downgrade y g r w) p f = cut-range t (named R (lowering g r w)) (lowered-formed R g r w (nltb→le 255 w (p .1 .0)) f)
+accepted-range t rule R (revoke y g r) p f = cut-range t (named R (removal g r)) (removed-formed R g r f) (rounds-below t rule R (removal g r) f (not-not (stands R g r) (p .1 .1 .1 .1 .0)))
+accepted-range t rule R (downgrade y g r w) p f =
+    cut-range t (named R (lowering g r w)) (lowered-formed R g r w (nltb→le 255 w (p .1 .0)) f) (rounds-below t rule R (lowering g r w) f (nleb→lt (code (weightAt (R .delegations) g r)) (suc w) (p .1 .1 .1 .1 .1 .1 .1 .0)))
 accepted-range t rule R (askReach g r) p f = let (a, b) = reach-range t rule R g r in (a, b, refl, refl)
 accepted-range t rule R (askUse r) p f = (use-range (eqb r 0 || receives r (R .delegations)), refl, refl)
 

@@ -16,7 +16,7 @@ Unused z = z ≡ pos 0
 
 -- of a cut: dropped and lowered together at most the delegations, and the rounds
 abbrev pub CutInRange : ℤ → ℤ → ℤ → Type 0
-CutInRange a b c = ((m : ℕ) × (n : ℕ) × (a ≡ pos m) × (b ≡ pos n) × (m + n ≤ 256)) × FromTo 1 65537 c
+CutInRange a b c = ((m : ℕ) × (n : ℕ) × (a ≡ pos m) × (b ≡ pos n) × (m + n ≤ 256)) × FromTo 1 511 c
 
 -- the first, second and third answer
 abbrev pub InRange : Call → ℤ → ℤ → ℤ → Type 0
