@@ -7,6 +7,7 @@ pub mod casefile;
 pub mod chain;
 pub mod cut;
 pub mod engine;
+pub mod host;
 pub mod judge;
 pub mod random;
 pub mod refusal;

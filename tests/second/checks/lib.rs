@@ -10,6 +10,7 @@ mod cuts;
 mod examples;
 mod faults;
 mod generated;
+mod hosts;
 mod pairs;
 mod relaxed;
 mod searches;

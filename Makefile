@@ -1,0 +1,74 @@
+# The seat register for hosts in C.
+#   make host                         builds and runs the example, and compares what it prints
+#   make compare [SEED=n] [CASES=n]   random calls through the archive and the second implementation
+#   make self-test                    the same with faults put in on purpose: each must be found
+#   make install [PREFIX=dir] [DESTDIR=dir]
+#   make test                         the gate
+#   make clean                        removes what is built here; what is proved stays
+PREFIX ?= /usr/local
+SEED ?= 1
+CASES ?= 2000000
+VERSION := 1
+
+ifeq ($(origin CC),default)
+CC := gcc
+endif
+CFLAGS ?= -O2
+STRICT := -std=c99 -Wall -Wextra -Werror
+RUSTC ?= rustc
+RT ?= rt
+INSTALL ?= install
+
+archive := target/staticlib/libseatreg.a
+proved := $(shell find $(addprefix crates/,rules block search rounds register seatreg) -name '*.rt' -o -name '*.antt')
+second := target/second/libsecond.rlib
+compare := target/compare/compare
+host := target/host/host
+rust := $(RUSTC) --edition 2021 -D warnings -O -C overflow-checks=on
+
+.PHONY: lib host compare self-test install test clean
+
+lib: $(archive)
+
+$(archive): crates.txt $(proved)
+	$(RT) staticlib seatreg
+
+host: $(host)
+	@$(host) > target/host/stdout && cat target/host/stdout && diff examples/host.expected target/host/stdout
+
+$(host): examples/host.c include/seatreg.h $(archive)
+	@mkdir -p $(@D)
+	$(CC) $(CFLAGS) $(STRICT) -Iinclude $< $(archive) -o $@
+
+compare: $(compare)
+	$(compare) $(SEED) $(CASES)
+
+# The comparison with a fault put in on purpose, once for each: it must find them all.
+self-test: $(compare)
+	$(compare) self-test $(SEED) 2000
+
+$(compare): $(wildcard tests/compare/*.rs) $(second) $(archive)
+	@mkdir -p $(@D)
+	$(rust) --extern second=$(second) --crate-name compare tests/compare/main.rs -L native=$(dir $(archive)) -l static=seatreg -o $@
+
+$(second): $(wildcard tests/second/*.rs)
+	@mkdir -p $(@D)
+	$(rust) --crate-type rlib --crate-name second tests/second/lib.rs --out-dir $(@D)
+
+prefix := $(abspath $(PREFIX))
+dest := $(DESTDIR)$(prefix)
+
+install: $(archive)
+	$(INSTALL) -d '$(dest)/include' '$(dest)/lib/pkgconfig'
+	$(INSTALL) -m 644 include/seatreg.h '$(dest)/include/seatreg.h'
+	$(INSTALL) -m 644 $(archive) '$(dest)/lib/libseatreg.a'
+	@printf '%s\n' 'prefix=$(prefix)' 'includedir=$${prefix}/include' 'libdir=$${prefix}/lib' '' \
+	    'Name: seatreg' 'Description: The seat register: delegations, support chains, cuts' \
+	    'Version: $(VERSION)' 'Cflags: -I$${includedir}' 'Libs: -L$${libdir} -lseatreg' \
+	    > '$(dest)/lib/pkgconfig/seatreg.pc'
+
+test:
+	bash .ci/run
+
+clean:
+	rm -rf target/host target/compare $(archive)

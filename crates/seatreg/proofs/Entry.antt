@@ -1,0 +1,76 @@
+-- The ways of an entry point: an answers buffer of another length, a call accepted, a call refused. Assumes nothing.
+use mathlib.Core.Path.{_≡_, refl, sym, ap, _∙_}
+use mathlib.Core.Logic.{_≢_}
+use mathlib.Core.Bool.{Bool, cond}
+use mathlib.Core.List.{List}
+use Prim.Native.Nat.{ℕ}
+use native.Mathlib.Omega.{arith}
+use borrow.Author.Tests.{eq-eqb, ne-eqb}
+use lib.ListN.{length}
+use lib.IntN.{ℤ}
+use Rattle.rules.specs.Register.{Register}
+use Rattle.rules.specs.Cut.{Cut, named}
+use Rattle.rules.specs.Call.{Call}
+use Rattle.block.specs.Block.{decode}
+use Rattle.register.specs.CallOn.{Result, callOn, openOn}
+use Rattle.register.specs.Made.{result, Made, MadeOpen}
+use Rattle.register.specs.Cuts.{CutLeft, CutMade}
+use Rattle.register.specs.declared.Answer.{Answer}
+use Rattle.seatreg.specs.Answers.{answerBytes}
+use Rattle.seatreg.specs.Entry.{handedOut, wrongAnswers, entryOf, entryOn, entryOpen, EntryMade, EntryOpened, EntryCutLeft, EntryCutMade, AnswersPut}
+
+-- ── what is handed out ──
+module _ (o : Answer) (a : List ℕ) where
+  pub accepted : o .refusal ≡ 0 → AnswersPut o a (o .refusal) (answerBytes (o .first) (o .second) (o .third))
+  accepted z = (refl, ap (λ (x : Bool). cond x (answerBytes (o .first) (o .second) (o .third)) a) (sym (eq-eqb (o .refusal) 0 z)))
+
+  pub refused : o .refusal ≢ 0 → AnswersPut o a (o .refusal) a
+  refused n = (refl, ap (λ (x : Bool). cond x (answerBytes (o .first) (o .second) (o .third)) a) (sym (ne-eqb (o .refusal) 0 n)))
+
+  -- an accepted call's answers are in the buffer
+  accepted-bytes : (n : ℕ) (a' : List ℕ) → AnswersPut o a n a' → n ≡ 0 → a' ≡ answerBytes (o .first) (o .second) (o .third)
+  accepted-bytes n a' h z = h .1 ∙ ap (λ (x : Bool). cond x (answerBytes (o .first) (o .second) (o .third)) a) (eq-eqb (o .refusal) 0 (sym (h .0) ∙ z))
+
+-- an accepted cut's answers as bytes
+pub cut-left : (t : List ℤ) (C : Register) (o : Answer) (b' a' : List ℕ) → CutLeft t C o b' → a' ≡ answerBytes (o .first) (o .second) (o .third) → EntryCutLeft t C b' a'
+cut-left t C o b' a' d e = record { best = d .best; counts = (d .rounds .0, d .rounds .2, e ∙ (λ i. answerBytes (d .dropped i) (d .lowered i) (d .rounds .1 i))) }
+
+-- ── of any library call with the result r ──
+module _ (r : Result) (b a : List ℕ) where
+  -- another length than twelve
+  short-of : length a ≢ 12 → wrongAnswers b a ≡ entryOf r b a
+  short-of n = rw (ne-eqb (length a) 12 n)
+
+  -- twelve bytes: what the library call returned was handed out
+  made-of : length a ≡ 12 → (o : Answer) (b' : List ℕ) → result o b' ≡ r → (n : ℕ) (a' : List ℕ) → AnswersPut o a n a' → record { refusal = n; block = b'; answers = a' } ≡ entryOf r b a
+  made-of l o b' e n a' h =
+      let (p, q) = h in
+      (λ i. record { refusal = p i; block = b'; answers = q i })
+      ∙ ap (λ (x : Result). handedOut x a) e
+      ∙ rw (eq-eqb (length a) 12 l)
+
+-- ── of the calls of a list, of the cuts and of open ──
+module _ (b a : List ℕ) where
+  module _ (t : List ℤ) (c : Call) where
+    pub short : length a ≢ 12 → EntryMade t c b a 1 b a
+    unfolding entryOn
+    short n = short-of (callOn t b c) b a n
+
+    pub made : length a ≡ 12 → (o : Answer) (b' : List ℕ) → Made t c b o b' → (n : ℕ) (a' : List ℕ) → AnswersPut o a n a' → EntryMade t c b a n b' a'
+    unfolding entryOn
+    made l o b' e n a' h = made-of (callOn t b c) b a l o b' e n a' h
+
+    module _ (k : Cut) where
+      pub cut-short : length a ≢ 12 → EntryCutMade t c k b a 1 b a
+      cut-short n = (short n, λ z. absurd (omega arith))
+
+      pub cut-made : length a ≡ 12 → (o : Answer) (b' : List ℕ) → CutMade t c k b o b' → (n : ℕ) (a' : List ℕ) → AnswersPut o a n a' → EntryCutMade t c k b a n b' a'
+      cut-made l o b' m n a' h = (made l o b' (m .0) n a' h, λ z. cut-left t (named (decode b) k) o b' a' (m .1 (sym (h .0) ∙ z)) (accepted-bytes o a n a' h z))
+
+  pub open-short : length a ≢ 12 → EntryOpened b a 1 b a
+  unfolding entryOpen
+  open-short n = short-of (openOn b) b a n
+
+  pub open-made : length a ≡ 12 → (o : Answer) (b' : List ℕ) → MadeOpen b o b' → (n : ℕ) (a' : List ℕ) → AnswersPut o a n a' → EntryOpened b a n b' a'
+  unfolding entryOpen
+  open-made l o b' e n a' h = made-of (openOn b) b a l o b' e n a' h

@@ -1,0 +1,155 @@
+-- Demand 1 for the entry points follows from that of the calls on bytes. Assumes nothing.
+use mathlib.Core.Path.{_≡_, refl, sym, subst, _∙_}
+use mathlib.Core.Logic.{_≢_}
+use mathlib.Core.Bool.{Bool, true, false, cond}
+use mathlib.Core.List.{List}
+use Prim.Native.Nat.{ℕ, zero, suc, _<_}
+use native.Mathlib.Omega.{arith}
+use borrow.Author.Tests.{eq-eqb}
+use lib.Dec.{T, eqb, eqb→eq}
+use lib.ListN.{length}
+use lib.IntN.{ℤ, pos, negsuc}
+use Rattle.rules.specs.Limit.{_≼_, fromNone}
+use Rattle.rules.specs.Table.{TableRule, steps}
+use Rattle.rules.specs.Call.{Call, enrol, grant, revoke, downgrade, askReach, askUse, fresh}
+use Rattle.rules.specs.Ranges.{FromTo, Unused, CutInRange, InRange}
+use Rattle.rules.proofs.Table.{steps-rule}
+use Rattle.rules.proofs.Calls.{fresh-formed}
+use Rattle.block.specs.Bytes.{IsBytes}
+use Rattle.block.specs.Block.{encode}
+use Rattle.block.specs.WellFormed.{wellFormed}
+use Rattle.block.proofs.Encode.{bytes-encode}
+use Rattle.register.specs.CallOn.{Result, turned, callOn, openOn}
+use Rattle.register.proofs.Keeping.{kept, kept-open}
+use Rattle.seatreg.specs.Answers.{answerBytes, answerIn}
+use Rattle.seatreg.specs.Entry.{wrongAnswers, entryOf, entryOn, entryOpen}
+use Rattle.seatreg.specs.Kept.{BuffersKept, EntryKept, EntryKeptOpen}
+use Rattle.seatreg.proofs.AnswerBytes.{Fits32, length-answers, bytes-answers, first-back, second-back, third-back}
+
+-- ── answers in range have 32 bits ──
+module _ {a : ℤ} where
+  range-fits : {low high : ℕ} → high < 65538 → FromTo low high a → Fits32 a
+  range-fits m (n, e, l, h) = rw e (omega arith)
+
+  unused-fits : Unused a → Fits32 a
+  unused-fits e = rw e (omega arith)
+
+reach-fits : (a : ℤ) → T (fromNone a) → a ≼ pos 255 → Fits32 a
+unfolding fromNone
+reach-fits (pos n) f h = omega arith
+reach-fits (negsuc zero) f h = omega arith
+reach-fits (negsuc (suc n)) f h = absurd f
+
+abbrev AllFit32 : ℤ → ℤ → ℤ → Type 0
+AllFit32 a b c = Fits32 a × Fits32 b × Fits32 c
+
+unused-fit : (a b c : ℤ) → Unused a × Unused b × Unused c → AllFit32 a b c
+unused-fit a b c (x, y, z) = (unused-fits x, unused-fits y, unused-fits z)
+
+cut-fits : (a b c : ℤ) → CutInRange a b c → AllFit32 a b c
+cut-fits a b c ((m, n, x, y, h), r) = (rw x (omega arith), rw y (omega arith), range-fits (omega arith) r)
+
+all-fit : (d : Call) (a b c : ℤ) → InRange d a b c → AllFit32 a b c
+all-fit (enrol m) a b c (r, y, z) = (range-fits (omega arith) r, unused-fits y, unused-fits z)
+all-fit (grant g r w n bar) a b c (k, y, z) = (range-fits (omega arith) k, unused-fits y, unused-fits z)
+all-fit (revoke y g r) a b c h = cut-fits a b c h
+all-fit (downgrade y g r w) a b c h = cut-fits a b c h
+all-fit (askReach g r) a b c (f, h, y, z) = (reach-fits a f h, unused-fits y, unused-fits z)
+all-fit (askUse r) a b c (k, y, z) = (range-fits (omega arith) k, unused-fits y, unused-fits z)
+
+-- ── what is handed out, of a library call's result r that is kept ──
+apart : (n : ℕ) → eqb n 0 ≡ false → n ≢ 0
+apart n q e = let z : true ≡ false = sym (eq-eqb n 0 e) ∙ q in let y : _≡_ {A = ℕ} 0 1 = cc in omega arith
+
+record ResultKept (Range : ℤ → ℤ → ℤ → Type 0) (b : List ℕ) (r : Result) : Type 0 where
+  refused : r .refusal ≢ 0 → r .bytes ≡ b
+  formed : r .refusal ≡ 0 → wellFormed (r .bytes) ≡ true
+  range : r .refusal ≡ 0 → Range (r .first) (r .second) (r .third)
+  fits : r .refusal ≡ 0 → AllFit32 (r .first) (r .second) (r .third)
+  bytes : IsBytes (r .bytes)
+
+module _ (Range : ℤ → ℤ → ℤ → Type 0) (b a : List ℕ) (found : IsBytes b) (lent : IsBytes a) (r : Result) (k : ResultKept Range b r) where
+  short-kept : BuffersKept Range b a (wrongAnswers b a)
+  short-kept = record {
+    refused = λ n. (refl, refl);
+    formed = λ z. absurd (omega arith);
+    size = λ z. absurd (omega arith);
+    answers = λ z. absurd (omega arith);
+    range = λ z. absurd (omega arith);
+    bytes = (found, lent);
+  }
+
+  refused-kept : r .refusal ≢ 0 → BuffersKept Range b a record { refusal = r .refusal; block = r .bytes; answers = a }
+  refused-kept n = record {
+    refused = λ _. (k .refused n, refl);
+    formed = λ z. absurd (n z);
+    size = λ z. absurd (n z);
+    answers = λ z. absurd (n z);
+    range = λ z. absurd (n z);
+    bytes = (k .bytes, lent);
+  }
+
+  accepted-kept : r .refusal ≡ 0 → BuffersKept Range b a record { refusal = r .refusal; block = r .bytes; answers = answerBytes (r .first) (r .second) (r .third) }
+  accepted-kept e =
+      let x = r .first in
+      let y = r .second in
+      let z = r .third in
+      let s = k .fits e in
+      let p : answerIn (answerBytes x y z) 0 ≡ x = first-back x y z (s .0) in
+      let q : answerIn (answerBytes x y z) 1 ≡ y = second-back x y z (s .1) in
+      let w : answerIn (answerBytes x y z) 2 ≡ z = third-back x y z (s .2) in
+      record {
+        refused = λ n. absurd (n e);
+        formed = k .formed;
+        size = λ _. length-answers x y z;
+        answers = λ _. sym (λ i. answerBytes (p i) (q i) (w i));
+        range = λ _.
+            subst (λ (v : ℤ). Range v (answerIn (answerBytes x y z) 1) (answerIn (answerBytes x y z) 2)) (sym p)
+            (subst (λ (v : ℤ). Range x v (answerIn (answerBytes x y z) 2)) (sym q) (subst (λ (v : ℤ). Range x y v) (sym w) (k .range e)));
+        bytes = (k .bytes, bytes-answers x y z);
+      }
+
+  kept-of : BuffersKept Range b a (entryOf r b a)
+  kept-of = go (eqb (length a) 12) (eqb (r .refusal) 0) refl
+    where
+      go : (x y : Bool) → eqb (r .refusal) 0 ≡ y
+          → BuffersKept Range b a (cond x record { refusal = r .refusal; block = r .bytes; answers = cond y (answerBytes (r .first) (r .second) (r .third)) a } (wrongAnswers b a))
+      go false y q = short-kept
+      go true true q = accepted-kept (eqb→eq (r .refusal) 0 (subst T (sym q) tt))
+      go true false q = refused-kept (apart (r .refusal) q)
+
+-- ── the calls of a list, and open ──
+pub entry-kept : (t : List ℤ) → TableRule t → (c : Call) (b a : List ℕ) → IsBytes b → IsBytes a → EntryKept t c b a
+unfolding entryOn
+entry-kept t rule c b a found lent =
+    let k = kept t b c rule found in
+    kept-of (InRange c) b a found lent (callOn t b c) record {
+      refused = k .refused;
+      formed = k .formed;
+      range = k .range;
+      fits = λ e. all-fit c (callOn t b c .first) (callOn t b c .second) (callOn t b c .third) (k .range e);
+      bytes = k .bytes;
+    }
+
+pub entry-kept-steps : (c : Call) (b a : List ℕ) → IsBytes b → IsBytes a → EntryKept steps c b a
+entry-kept-steps = entry-kept steps steps-rule
+
+open-bytes : (b : List ℕ) → IsBytes b → IsBytes (openOn b .bytes)
+unfolding openOn
+open-bytes b found = go (eqb (length b) 2180)
+  where
+    go : (x : Bool) → IsBytes (cond x record { refusal = 0; first = pos 0; second = pos 0; third = pos 0; bytes = encode fresh } (turned 1 b) .bytes)
+    go true = bytes-encode fresh fresh-formed
+    go false = found
+
+pub entry-kept-open : (b a : List ℕ) → IsBytes b → IsBytes a → EntryKeptOpen b a
+unfolding entryOpen
+entry-kept-open b a found lent =
+    let k = kept-open b in
+    kept-of (λ x y z. Unused x × Unused y × Unused z) b a found lent (openOn b) record {
+      refused = k .refused;
+      formed = k .formed;
+      range = k .range;
+      fits = λ e. unused-fit (openOn b .first) (openOn b .second) (openOn b .third) (k .range e);
+      bytes = open-bytes b found;
+    }

@@ -1,0 +1,5 @@
+pub mod Bits
+pub mod AnswerBytes
+pub mod Entry
+pub mod Keeping
+pub mod History

@@ -1,0 +1,4 @@
+pub mod Answers
+pub mod Entry
+pub mod Kept
+pub mod History

@@ -1,0 +1,113 @@
+// The C entry points of the register: the calls on plain numbers, a lent block and twelve lent bytes for the answers, both of any length and content.
+mod answers;
+
+ghost use Rattle.rules.specs.Table.{steps};
+ghost use Rattle.rules.specs.Cut.{removal, lowering};
+ghost use Rattle.rules.specs.Call.{enrol, grant, revoke, downgrade, askReach, askUse};
+ghost use Rattle.seatreg.specs.Entry.{EntryMade, EntryOpened, EntryCutMade};
+use rules::refusal;
+
+// Writes a fresh register: one subject, no delegation.
+#[no_mangle]
+pub extern "C" fn seatreg_open(block: &mut [u8], answers: &mut [u8]) -> u32
+    ensures { λ r. ⌜ EntryOpened (now (block .entry)) (now (answers .entry)) r (now (block .exit)) (now (answers .exit)) ⌝ }
+{
+    if answers.len() != answers::ANSWERS_SIZE {
+        return refusal::WRONG_LENGTH;
+    }
+    let o = register::open(block);
+    answers::hand_out(o, answers)
+}
+
+// Enrols a subject; answers its number.
+#[no_mangle]
+pub extern "C" fn seatreg_enrol(block: &mut [u8], marks: u32, answers: &mut [u8]) -> u32
+    ensures { λ r. ⌜ EntryMade steps (enrol marks) (now (block .entry)) (now (answers .entry)) r (now (block .exit)) (now (answers .exit)) ⌝ }
+{
+    if answers.len() != answers::ANSWERS_SIZE {
+        return refusal::WRONG_LENGTH;
+    }
+    let o = register::enrol(block, marks);
+    answers::hand_out(o, answers)
+}
+
+// Adds a delegation; answers the delegations now standing.
+#[no_mangle]
+pub extern "C" fn seatreg_grant(
+    block: &mut [u8],
+    giver: u32,
+    receiver: u32,
+    weight: u32,
+    need: u32,
+    bar: u32,
+    answers: &mut [u8],
+) -> u32
+    ensures { λ r. ⌜ EntryMade steps (grant giver receiver weight need bar) (now (block .entry)) (now (answers .entry)) r (now (block .exit)) (now (answers .exit)) ⌝ }
+{
+    if answers.len() != answers::ANSWERS_SIZE {
+        return refusal::WRONG_LENGTH;
+    }
+    let o = register::grant(block, giver, receiver, weight, need, bar);
+    answers::hand_out(o, answers)
+}
+
+// Removes a delegation, then lowers or removes what it no longer supports; answers dropped, lowered and rounds.
+#[no_mangle]
+pub extern "C" fn seatreg_revoke(
+    block: &mut [u8],
+    by: u32,
+    giver: u32,
+    receiver: u32,
+    answers: &mut [u8],
+) -> u32
+    ensures { λ r. ⌜ EntryCutMade steps (revoke by giver receiver) (removal giver receiver) (now (block .entry)) (now (answers .entry)) r (now (block .exit)) (now (answers .exit)) ⌝ }
+{
+    if answers.len() != answers::ANSWERS_SIZE {
+        return refusal::WRONG_LENGTH;
+    }
+    let o = register::revoke(block, by, giver, receiver);
+    answers::hand_out(o, answers)
+}
+
+// Sets a delegation to a smaller weight, then as revoke.
+#[no_mangle]
+pub extern "C" fn seatreg_downgrade(
+    block: &mut [u8],
+    by: u32,
+    giver: u32,
+    receiver: u32,
+    weight: u32,
+    answers: &mut [u8],
+) -> u32
+    ensures { λ r. ⌜ EntryCutMade steps (downgrade by giver receiver weight) (lowering giver receiver weight) (now (block .entry)) (now (answers .entry)) r (now (block .exit)) (now (answers .exit)) ⌝ }
+{
+    if answers.len() != answers::ANSWERS_SIZE {
+        return refusal::WRONG_LENGTH;
+    }
+    let o = register::downgrade(block, by, giver, receiver, weight);
+    answers::hand_out(o, answers)
+}
+
+// Reach of a pair: -1 to 255, also for a standing pair.
+#[no_mangle]
+pub extern "C" fn seatreg_reach(block: &[u8], giver: u32, receiver: u32, answers: &mut [u8]) -> u32
+    ensures { λ r. ⌜ EntryMade steps (askReach giver receiver) (now (block .entry)) (now (answers .entry)) r (now (block .entry)) (now (answers .exit)) ⌝ }
+{
+    if answers.len() != answers::ANSWERS_SIZE {
+        return refusal::WRONG_LENGTH;
+    }
+    let o = register::reach(block, giver, receiver);
+    answers::hand_out(o, answers)
+}
+
+// 1 if the receiver is the owner or some delegation to it stands, else 0.
+#[no_mangle]
+pub extern "C" fn seatreg_use(block: &[u8], receiver: u32, answers: &mut [u8]) -> u32
+    ensures { λ r. ⌜ EntryMade steps (askUse receiver) (now (block .entry)) (now (answers .entry)) r (now (block .entry)) (now (answers .exit)) ⌝ }
+{
+    if answers.len() != answers::ANSWERS_SIZE {
+        return refusal::WRONG_LENGTH;
+    }
+    let o = register::use_right(block, receiver);
+    answers::hand_out(o, answers)
+}

@@ -1,0 +1,274 @@
+//! Random lists of calls, most of them plausible, on blocks of several kinds.
+
+use second::block::*;
+use second::call::blank;
+use second::callfile::{from_values, used_columns, values_of};
+use second::random::{random_masks, random_register, Random, Shape};
+use second::refusal::{Call, Passed};
+use second::search;
+
+/// What the calls of a list are made on.
+#[derive(Clone, Copy, Debug, PartialEq, Eq)]
+pub enum Kind {
+    /// Any bytes; the first call is open, and each later one gets the block that was left.
+    Fresh,
+    /// A well-formed block whose delegations need not be supported, then the block that was left.
+    Formed,
+    /// Every call gets a well-formed block with some bytes changed, which may leave it well formed.
+    Spoiled,
+    /// Every call gets bytes of any value.
+    Noise,
+}
+
+pub const KINDS: [Kind; 4] = [Kind::Fresh, Kind::Formed, Kind::Spoiled, Kind::Noise];
+
+const WEIGHTS: [u8; 16] = [0, 1, 1, 2, 2, 3, 3, 4, 5, 9, 100, 200, 254, 255, 255, 255];
+/// Marks and masks are made of these bits.
+const MARKS: u16 = 0x8007;
+const NEAR_LENGTHS: [usize; 12] = [0, 1, 3, 4, 131, 132, 2172, 2178, 2179, 2181, 2188, 4360];
+const EDGES: [u32; 12] = [0, 1, 62, 63, 64, 254, 255, 256, 65_535, 65_536, 0x8000_0000, 0xFFFF_FFFF];
+
+/// A list of calls while it is drawn.
+pub struct List {
+    pub kind: Kind,
+    /// The block that the list begins with; of a spoiled list, the block that is spoiled.
+    first: Vec<u8>,
+    opens: bool,
+    enrolments: u32,
+    left: u32,
+    /// Nearly all calls are grants, until 256 delegations stand.
+    fills: bool,
+    conditions: u32,
+    /// The register of the last well-formed block.
+    register: Register,
+}
+
+impl List {
+    pub fn draw(random: &mut Random) -> List {
+        let conditions = random.pick(&[0, 20, 50, 80]);
+        match random.below(100) {
+            0..=24 => List::fresh(random, conditions, (2, 8), (20, 90)),
+            25..=34 => List::fresh(random, conditions, (9, 30), (80, 250)),
+            35..=36 => List { fills: true, ..List::fresh(random, conditions, (40, 66), (330, 420)) },
+            37..=81 => List { left: random.range(2, 10), ..List::on_register(random, conditions, Kind::Formed) },
+            82..=96 => List { left: random.range(10, 40), ..List::on_register(random, conditions, Kind::Spoiled) },
+            _ => List { kind: Kind::Noise, opens: false, ..List::fresh(random, conditions, (0, 0), (5, 20)) },
+        }
+    }
+
+    fn fresh(random: &mut Random, conditions: u32, enrolments: (u32, u32), calls: (u32, u32)) -> List {
+        List {
+            kind: Kind::Fresh,
+            first: any_bytes(random),
+            opens: true,
+            enrolments: random.range(enrolments.0, enrolments.1),
+            left: random.range(calls.0, calls.1),
+            fills: false,
+            conditions,
+            register: Register::fresh(),
+        }
+    }
+
+    fn on_register(random: &mut Random, conditions: u32, kind: Kind) -> List {
+        let subjects = random.pick(&[2, 3, 5, 8, 8, 13, 24, 64]);
+        let delegations = random.range(1, (subjects * 4).min(256));
+        let shape = Shape { subjects, delegations, weights: &WEIGHTS, marks: MARKS, conditions };
+        let register = random_register(random, &shape);
+        let list = List::fresh(random, conditions, (0, 0), (1, 1));
+        List { kind, first: encode(&register), opens: false, register, ..list }
+    }
+
+    /// The block that the first call gets.
+    pub fn first_block(&self) -> Vec<u8> {
+        self.first.clone()
+    }
+
+    /// The next call, or nothing at the end of the list. It gets `block`, which is as the call
+    /// before left it.
+    pub fn next(&mut self, random: &mut Random, block: &mut Vec<u8>) -> Option<Passed> {
+        if self.opens {
+            self.opens = false;
+            return Some(blank(Call::Open));
+        }
+        if self.left == 0 {
+            return None;
+        }
+        match self.kind {
+            Kind::Fresh | Kind::Formed => self.register = decode(block).unwrap_or(Register::fresh()),
+            Kind::Spoiled => *block = spoiled(random, &self.first),
+            Kind::Noise => *block = any_bytes(random),
+        }
+        let call = self.call(random);
+        let n = plausible(random, call, &self.register, self.conditions);
+        Some(if random.chance(5) { with_odd_number(random, &n) } else { n })
+    }
+
+    fn call(&mut self, random: &mut Random) -> Call {
+        if self.enrolments > 0 {
+            self.enrolments -= 1;
+            return Call::Enrol;
+        }
+        self.left -= 1;
+        let filling = self.fills && self.register.delegations.len() < MOST_DELEGATIONS;
+        if filling && random.chance(98) {
+            return Call::Grant;
+        }
+        match random.below(200) {
+            0..=79 => Call::Grant,
+            80..=109 => Call::Reach,
+            110..=125 => Call::Use,
+            126..=155 => Call::Revoke,
+            156..=185 => Call::Downgrade,
+            186..=198 => Call::Enrol,
+            _ => Call::Open,
+        }
+    }
+}
+
+/// Some bytes for open to overwrite, and for other calls to refuse.
+fn any_bytes(random: &mut Random) -> Vec<u8> {
+    let fill = random.pick(&[0, 0, 255, 1]);
+    if random.chance(50) {
+        return vec![fill; BLOCK_LEN];
+    }
+    (0..BLOCK_LEN).map(|_| random.next() as u8).collect()
+}
+
+/// A block with one byte changed, or a few.
+fn spoiled(random: &mut Random, block: &[u8]) -> Vec<u8> {
+    let mut block = block.to_vec();
+    let changes = random.pick(&[1, 1, 1, 1, 2, 8]);
+    for _ in 0..changes {
+        let place = spoiled_place(random, &block);
+        let byte = block[place];
+        let near = [byte ^ 1, byte ^ 128, byte.wrapping_add(1), byte.wrapping_sub(1)];
+        block[place] = if random.chance(70) { random.pick(&near) } else { random.next() as u8 };
+    }
+    block
+}
+
+/// Most often in the head, the used records or the first unused one.
+fn spoiled_place(random: &mut Random, block: &[u8]) -> usize {
+    let used = RECORDS_AT + RECORD_LEN * (word(block, DELEGATIONS_AT) as usize + 1);
+    let (least, most) = match random.below(10) {
+        0 | 1 => (0, MARKS_AT),
+        2 | 3 => (MARKS_AT, RECORDS_AT),
+        4 => (0, BLOCK_LEN),
+        _ => (RECORDS_AT, used.min(BLOCK_LEN)),
+    };
+    random.range(least as u32, most as u32 - 1) as usize
+}
+
+/// A length for the block: nearly always the right one.
+pub fn block_length(random: &mut Random) -> usize {
+    match random.below(100) {
+        0 => random.below(4400) as usize,
+        1 | 2 => random.pick(&NEAR_LENGTHS),
+        _ => BLOCK_LEN,
+    }
+}
+
+/// A length for the answers: nearly always the right one.
+pub fn answers_length(random: &mut Random) -> usize {
+    if random.chance(4) {
+        return random.range(0, 20) as usize;
+    }
+    second::host::ANSWERS_LEN
+}
+
+/// A call that is likely to be accepted.
+fn plausible(random: &mut Random, call: Call, register: &Register, conditions: u32) -> Passed {
+    let count = register.marks.len() as u32;
+    let (giver, receiver) = match call {
+        Call::Grant => open_pair(random, register),
+        Call::Reach => any_pair(random, count),
+        _ => standing_pair(random, register),
+    };
+    let n = blank(call);
+    let other = random.below(count);
+    let by = random.pick(&[0, 0, giver, giver, giver, other]);
+    match call {
+        Call::Enrol => Passed { need: random.next() as u32 & MARKS as u32, ..n },
+        Call::Grant => {
+            let (need, bar) = if random.chance(conditions) { random_masks(random, MARKS) } else { (0, 0) };
+            let weight = grant_weight(random, register, giver, receiver);
+            Passed { giver, receiver, weight, need: need as u32, bar: bar as u32, ..n }
+        }
+        Call::Revoke => Passed { by, giver, receiver, ..n },
+        Call::Downgrade => Passed { by, giver, receiver, weight: lower_weight(random, register, giver, receiver), ..n },
+        Call::Reach => Passed { giver, receiver, ..n },
+        Call::Use => Passed { receiver: random.pick(&[receiver, other]), ..n },
+        Call::Open | Call::Chain => n,
+    }
+}
+
+/// Any two subjects, the receiver rarely the owner.
+fn any_pair(random: &mut Random, count: u32) -> (u32, u32) {
+    let least = if random.chance(4) { 0 } else { 1 };
+    (random.below(count), random.range(least, count.max(2) - 1))
+}
+
+/// For most calls a pair that stands, if there is one.
+fn standing_pair(random: &mut Random, register: &Register) -> (u32, u32) {
+    if register.delegations.is_empty() || random.chance(10) {
+        return any_pair(random, register.marks.len() as u32);
+    }
+    let standing = random.pick(&register.delegations);
+    (standing.giver as u32, standing.receiver as u32)
+}
+
+/// A pair that doesn't stand and whose giver is the owner or receives something,
+/// if one is found in a few tries.
+fn open_pair(random: &mut Random, register: &Register) -> (u32, u32) {
+    let count = register.marks.len() as u32;
+    for _ in 0..6 {
+        let giver = if random.chance(20) { 0 } else { standing_pair(random, register).1 };
+        let receiver = random.range(1, count.max(2) - 1);
+        if giver != receiver && register.standing(giver, receiver).is_none() {
+            return (giver, receiver);
+        }
+    }
+    any_pair(random, count)
+}
+
+/// Most grants are within the reach, some exactly, some just above it.
+fn grant_weight(random: &mut Random, register: &Register, giver: u32, receiver: u32) -> u32 {
+    let reach = search::reach(register, giver, receiver).max(0) as u32;
+    match random.below(10) {
+        0 => random.below(256),
+        1 => (reach + 1).min(255),
+        2 | 3 => random.below(reach + 1),
+        4 => reach / 2,
+        5 => reach.min(random.below(12)),
+        _ => reach,
+    }
+}
+
+/// Most downgrades are below what stands, some not.
+fn lower_weight(random: &mut Random, register: &Register, giver: u32, receiver: u32) -> u32 {
+    let present = register.standing(giver, receiver).map_or(3, |d| d.weight as u32);
+    match random.below(8) {
+        0 => present,
+        1 => 0,
+        2 => random.below(256),
+        3 => present.max(1) - 1,
+        _ => random.below(present.max(1)),
+    }
+}
+
+/// The call with some other number in one of the places that it uses.
+fn with_odd_number(random: &mut Random, n: &Passed) -> Passed {
+    let places: Vec<usize> = (0..6).filter(|&at| used_columns(n.call)[at]).collect();
+    if places.is_empty() {
+        return *n;
+    }
+    let mut values = values_of(n);
+    let value = &mut values[1 + random.pick(&places)];
+    *value = match random.below(4) {
+        0 => random.next() as u32,
+        1 => random.pick(&EDGES),
+        2 => value.wrapping_add(random.pick(&[256, 65_536, 0x8000_0000, 0xFFFF_FF00])),
+        _ => random.below(70),
+    };
+    from_values(values).unwrap_or(*n)
+}

@@ -1,0 +1,25 @@
+//! What include/seatreg.h has to say, by the second implementation.
+
+use crate::entry::CALLS;
+use crate::report::{name, refusals};
+use second::block::{BLOCK_LEN, MOST_DELEGATIONS, MOST_SUBJECTS};
+use second::callfile::joined;
+use second::chain::{NONE, START};
+use second::host::ANSWERS_LEN;
+
+/// The refusals of each call in their order, then the constants.
+pub fn print() -> bool {
+    for call in CALLS {
+        println!("{}: {}", name(call), joined(&refusals(call)));
+    }
+    println!("BLOCK_SIZE {BLOCK_LEN}");
+    println!("ANSWERS_SIZE {ANSWERS_LEN}");
+    println!("OWNER 0");
+    println!("MOST_SUBJECTS {MOST_SUBJECTS}");
+    println!("MOST_DELEGATIONS {MOST_DELEGATIONS}");
+    println!("USE_ONLY 0");
+    println!("UNLIMITED {START}");
+    println!("MOST_MARKS {}", u16::MAX);
+    println!("NO_REACH ({NONE})");
+    true
+}

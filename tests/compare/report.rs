@@ -1,0 +1,169 @@
+//! What a comparison counts and prints.
+
+use crate::draw::{Kind, KINDS};
+use crate::entry::CALLS;
+use second::block::BLOCK_LEN;
+use second::host::ANSWERS_LEN;
+use second::refusal::{tests, Call, Passed, NOT_WELL_FORMED, WRONG_LENGTH};
+use std::collections::BTreeMap;
+
+/// How many differences are printed.
+const SHOWN: u64 = 5;
+
+/// What is compared after a call.
+#[derive(Clone, Copy, Debug, PartialEq, Eq)]
+pub enum Part {
+    Number,
+    Block,
+    Answers,
+    Guards,
+}
+
+pub const PARTS: [Part; 4] = [Part::Number, Part::Block, Part::Answers, Part::Guards];
+
+/// A call that was made on both sides.
+pub struct Case {
+    pub passed: Passed,
+    pub block_length: usize,
+    /// What the entry point returned, and what the second implementation did.
+    pub number: u32,
+    pub due: u32,
+    /// The answers' bytes as the second implementation left them.
+    pub due_answers: Vec<u8>,
+    pub differs: Vec<Part>,
+}
+
+pub struct Report {
+    pub cases: u64,
+    different: u64,
+    in_part: [u64; PARTS.len()],
+    of_kind: [u64; KINDS.len()],
+    block_lengths: u64,
+    answers_lengths: u64,
+    cuts: Cuts,
+    /// How often a call, by its place in `CALLS`, returned a number.
+    returned: BTreeMap<(usize, u32), u64>,
+    shows: bool,
+}
+
+/// What the accepted cuts did.
+#[derive(Default)]
+struct Cuts {
+    /// How many dropped something, lowered something, had three rounds or more.
+    dropped: u64,
+    lowered: u64,
+    rounds: u64,
+    /// The most rounds of one cut.
+    most: i32,
+}
+
+impl Cuts {
+    fn add(&mut self, answers: &[u8]) {
+        let answer = |at: usize| i32::from_le_bytes([answers[at], answers[at + 1], answers[at + 2], answers[at + 3]]);
+        self.dropped += (answer(0) > 0) as u64;
+        self.lowered += (answer(4) > 0) as u64;
+        self.rounds += (answer(8) >= 3) as u64;
+        self.most = self.most.max(answer(8));
+    }
+}
+
+impl Report {
+    /// An empty one; `shows` prints the first differences as they are added.
+    pub fn new(shows: bool) -> Report {
+        Report {
+            cases: 0,
+            different: 0,
+            in_part: [0; PARTS.len()],
+            of_kind: [0; KINDS.len()],
+            cuts: Cuts::default(),
+            block_lengths: 0,
+            answers_lengths: 0,
+            returned: BTreeMap::new(),
+            shows,
+        }
+    }
+
+    pub fn add(&mut self, kind: Kind, case: &Case) {
+        self.cases += 1;
+        self.of_kind[kind as usize] += 1;
+        self.block_lengths += (case.block_length != BLOCK_LEN) as u64;
+        self.answers_lengths += (case.due_answers.len() != ANSWERS_LEN) as u64;
+        if let Some(place) = CALLS.iter().position(|&call| call == case.passed.call) {
+            *self.returned.entry((place, case.due)).or_insert(0) += 1;
+        }
+        if matches!(case.passed.call, Call::Revoke | Call::Downgrade) && case.due == 0 {
+            self.cuts.add(&case.due_answers);
+        }
+        if case.differs.is_empty() {
+            return;
+        }
+        self.different += 1;
+        case.differs.iter().for_each(|&part| self.in_part[part as usize] += 1);
+        if self.shows && self.different <= SHOWN {
+            self.show(case);
+        }
+    }
+
+    fn show(&self, case: &Case) {
+        println!("case {}: {:?} differ: {:?}", self.cases, case.differs, case.passed);
+        println!("  block of {} bytes, answers of {}", case.block_length, case.due_answers.len());
+        println!("  the entry point returned {}, due {}", case.number, case.due);
+    }
+
+    /// How many cases differ.
+    pub fn differences(&self) -> u64 {
+        self.different
+    }
+
+    /// How many cases differ in a part.
+    pub fn differing(&self, part: Part) -> u64 {
+        self.in_part[part as usize]
+    }
+
+    pub fn print(&self, seed: u64) {
+        println!("call, and how often it returned which number:");
+        for (place, call) in CALLS.iter().enumerate() {
+            let of_call = self.returned.range((place, 0)..(place + 1, 0));
+            let counts: Vec<String> = of_call.map(|((_, number), count)| format!("{number}: {count}")).collect();
+            println!("  {:9}  {}", name(*call), counts.join(", "));
+        }
+        let [fresh, formed, spoiled, noise] = self.of_kind;
+        println!("blocks: {fresh} grown from fresh, {formed} well formed, {spoiled} spoiled, {noise} of any bytes");
+        let Cuts { dropped, lowered, rounds, most } = self.cuts;
+        println!("cuts: {dropped} dropped, {lowered} lowered, {rounds} had 3 rounds or more, {most} the most");
+        println!("wrong lengths: {} of the block, {} of the answers", self.block_lengths, self.answers_lengths);
+        match self.missing()[..] {
+            [] => println!("every refusal that a call can return was returned"),
+            ref missing => println!("not returned in this run: {}", missing.join(", ")),
+        }
+        println!("compare: {} cases, {} differences, seed {seed}", self.cases, self.different);
+    }
+
+    /// The numbers that a call can return and did not.
+    fn missing(&self) -> Vec<String> {
+        let mut missing = Vec::new();
+        for (place, &call) in CALLS.iter().enumerate() {
+            let mut numbers = refusals(call);
+            numbers.push(0);
+            numbers.retain(|&number| !self.returned.contains_key(&(place, number)));
+            missing.extend(numbers.iter().map(|number| format!("{} {number}", name(call))));
+        }
+        missing
+    }
+}
+
+pub fn name(call: Call) -> String {
+    format!("{call:?}").to_lowercase()
+}
+
+/// The refusals of a call, in their order.
+pub fn refusals(call: Call) -> Vec<u32> {
+    let tests = tests(call);
+    let mut numbers = vec![WRONG_LENGTH];
+    numbers.extend(tests.passed.iter().map(|(number, _)| *number));
+    if call != Call::Open {
+        numbers.push(NOT_WELL_FORMED);
+    }
+    numbers.extend(tests.held.iter().map(|(number, _)| *number));
+    numbers
+}

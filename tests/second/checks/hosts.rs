@@ -1,0 +1,67 @@
+//! The calls of a host: what is in the 12 bytes, and when.
+
+use generate::{enrol, grant, open, reach, register, revoke};
+use second::block::{encode, BLOCK_LEN};
+use second::engine::FAST;
+use second::host::{host_call, ANSWERS_LEN};
+use second::refusal::Passed;
+
+/// What the bytes hold before a call.
+const UNWRITTEN: u8 = 0xA5;
+
+/// The number returned and the bytes afterwards, on a block that is left as it is.
+fn called(n: &Passed, block: &[u8], length: usize) -> (u32, Vec<u8>) {
+    let mut answers = vec![UNWRITTEN; length];
+    let number = host_call(&FAST, n, &mut block.to_vec(), &mut answers);
+    (number, answers)
+}
+
+/// Document 01's P2.
+fn example() -> Vec<u8> {
+    let grants = [(0, 1, 5, 0, 0), (0, 2, 3, 0, 0), (1, 3, 4, 0, 0), (2, 3, 2, 0, 0), (3, 4, 3, 0, 0)];
+    encode(&register(&[0, 0, 0, 0, 0], &grants))
+}
+
+#[test]
+fn answers_are_signed_low_byte_first() {
+    let block = example();
+    assert_eq!(called(&revoke(0, 0, 1), &block, 12), (0, vec![1, 0, 0, 0, 1, 0, 0, 0, 2, 0, 0, 0]));
+    assert_eq!(called(&reach(4, 1), &block, 12), (0, vec![2, 0, 0, 0, 0, 0, 0, 0, 0, 0, 0, 0]));
+    assert_eq!(called(&reach(0, 1), &block, 12), (0, vec![255, 0, 0, 0, 0, 0, 0, 0, 0, 0, 0, 0]));
+    let pair = encode(&register(&[0, 0, 0], &[]));
+    assert_eq!(called(&reach(1, 2), &pair, 12), (0, vec![255, 255, 255, 255, 0, 0, 0, 0, 0, 0, 0, 0]));
+}
+
+/// 256 delegations need a second byte.
+#[test]
+fn answers_above_255_use_the_second_byte() {
+    let mut full = generate::full::all_enrolled();
+    let last = full.delegations.pop().map(|d| (d.giver, d.receiver, d.weight, d.need, d.bar));
+    let again = last.map(|d| generate::grant_of(&d));
+    let answered = again.map(|n| called(&n, &encode(&full), 12));
+    assert_eq!(answered, Some((0, vec![0, 1, 0, 0, 0, 0, 0, 0, 0, 0, 0, 0])));
+}
+
+#[test]
+fn refused_calls_write_nothing() {
+    let block = example();
+    let refused = [enrol(65_536), grant(0, 1, 0, 0, 0), grant(4, 1, 3, 0, 0), revoke(3, 0, 1)];
+    for (n, number) in refused.iter().zip([4, 11, 16, 14]) {
+        assert_eq!(called(n, &block, 12), (number, vec![UNWRITTEN; 12]));
+    }
+    assert_eq!(called(&open(), &block[1..], 12), (1, vec![UNWRITTEN; 12]));
+}
+
+/// Another length than 12 gets 1, whatever else would apply, and no byte changes.
+#[test]
+fn other_lengths_are_refused() {
+    for length in (0..=20).filter(|&length| length != ANSWERS_LEN) {
+        for n in [open(), enrol(65_536), reach(0, 1), revoke(0, 0, 1)] {
+            let mut block = example();
+            let mut answers = vec![UNWRITTEN; length];
+            assert_eq!(host_call(&FAST, &n, &mut block, &mut answers), 1);
+            assert_eq!((block, answers), (example(), vec![UNWRITTEN; length]));
+        }
+    }
+    assert_eq!(example().len(), BLOCK_LEN);
+}
