@@ -2,6 +2,7 @@
 #   make host                         builds and runs the example, and compares what it prints
 #   make compare [SEED=n] [CASES=n]   random calls through the archive and the second implementation
 #   make self-test                    the same with faults put in on purpose: each must be found
+#   make bench                        both measured side by side: nanoseconds a call, and the ratio
 #   make install [PREFIX=dir] [DESTDIR=dir]
 #   make test                         the gate
 #   make clean                        removes what is built here; what is proved stays
@@ -22,11 +23,13 @@ INSTALL ?= install
 archive := target/staticlib/libseatreg.a
 proved := $(shell find $(addprefix crates/,rules block search rounds register seatreg) -name '*.rt' -o -name '*.antt')
 second := target/second/libsecond.rlib
+generate := target/second/libgenerate.rlib
 compare := target/compare/compare
+bench := target/bench/bench
 host := target/host/host
 rust := $(RUSTC) --edition 2021 -D warnings -O -C overflow-checks=on
 
-.PHONY: lib host compare self-test install test clean
+.PHONY: lib host compare self-test bench install test clean
 
 lib: $(archive)
 
@@ -51,6 +54,16 @@ $(compare): $(wildcard tests/compare/*.rs) $(second) $(archive)
 	@mkdir -p $(@D)
 	$(rust) --extern second=$(second) --crate-name compare tests/compare/main.rs -L native=$(dir $(archive)) -l static=seatreg -o $@
 
+bench: $(bench)
+	$(bench)
+
+$(bench): $(wildcard bench/*.rs) tests/compare/entry.rs tests/compare/lent.rs $(second) $(generate) $(archive)
+	@mkdir -p $(@D)
+	$(rust) -A dead_code --extern second=$(second) --extern generate=$(generate) -L dependency=$(dir $(second)) --crate-name bench bench/main.rs -L native=$(dir $(archive)) -l static=seatreg -o $@
+
+$(generate): $(wildcard tests/second/generate/*.rs) $(second)
+	$(rust) --extern second=$(second) --crate-type rlib --crate-name generate tests/second/generate/lib.rs --out-dir $(@D)
+
 $(second): $(wildcard tests/second/*.rs)
 	@mkdir -p $(@D)
 	$(rust) --crate-type rlib --crate-name second tests/second/lib.rs --out-dir $(@D)
@@ -71,4 +84,4 @@ test:
 	bash .ci/run
 
 clean:
-	rm -rf target/host target/compare $(archive)
+	rm -rf target/host target/compare target/bench $(archive)
