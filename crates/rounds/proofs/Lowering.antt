@@ -1,21 +1,24 @@
--- The delegations decoded into arrays, and their weights lowered, place by place. Assumes nothing.
+-- The delegations decoded, lowered and read out, place by place. Assumes nothing.
 use mathlib.Core.Path.{_≡_, refl, sym, ap, subst, _∙_}
 use mathlib.Core.Logic.{_≢_, _⊎_, inl, inr}
 use mathlib.Core.Bool.{Bool, true, false, cond}
-use mathlib.Core.List.{List}
-use Prim.Native.Nat.{ℕ, _+_, _≤_, _<_}
+use mathlib.Core.List.{List, [], _∷_, map, _++_}
+use Prim.Native.Nat.{ℕ, zero, suc, _+_, _≤_, _<_}
+use native.Mathlib.Nat.{not-suc-le-zero, le-of-suc-le-suc}
 use native.Mathlib.Omega.{arith}
 use lib.IntN.{ℤ, pos}
 use lib.Signed.{ltZ, mag}
 use mir.Syntax.{w16}
 use mir.Facts.{toZ-ofZ}
-use lib.ListN.{length, getD, set}
-use lib.Seq.{getD-set-same, getD-set-other, set-getD}
+use lib.ListN.{length, getD, set, take, drop, length-set, List·getD-eq-default}
+use lib.Seq.{getD-set-same, getD-set-other}
 use Rattle.rules.specs.Register.{Delegation}
 use Rattle.rules.proofs.Lists.{eqOr}
+use Rattle.rules.proofs.Signed.{getD-within}
 use Rattle.search.proofs.Signed.{kept}
-use Rattle.rounds.specs.Rounded.{Decoded, lesser, Lowered}
+use Rattle.rounds.specs.Rounded.{noEntry, lesser, WeightsRead}
 
+-- ── lists ──
 -- one more place filled
 pub filled : {A : Type 0} (l : List A) (k : ℕ) (z v : A) (p : ℕ → A) → k < length l → ((j : ℕ) → j < k → getD l j z ≡ p j) → v ≡ p k → (j : ℕ) → j < k + 1 → getD (set l k v) j z ≡ p j
 filled l k z v p h f e j q = go (eqOr j k)
@@ -24,70 +27,87 @@ filled l k z v p h f e j q = go (eqOr j k)
     go (inl s) = subst (λ (i : ℕ). getD (set l k v) i z ≡ p i) (sym s) (getD-set-same l k v z h ∙ e)
     go (inr s) = getD-set-other l k j v z s ∙ f j (omega arith)
 
-module _ (f : ℕ → Delegation) where
-  pub decoded-none : (g r : List ℕ) (w : List ℤ) → Decoded f 0 g r w
-  decoded-none g r w = record { giver = λ k h. absurd (omega arith); receiver = λ k h. absurd (omega arith); weight = λ k h. absurd (omega arith) }
+module _ {A : Type 0} (f : A → A) (d : A) where
+  -- a list with f at its first n elements, as a loop makes it
+  abbrev pub eachTo : ℕ → List A → List A
+  eachTo zero xs = xs
+  eachTo (suc n) xs = set (eachTo n xs) n (f (getD (eachTo n xs) n d))
 
-  pub decoded-on : (k : ℕ) (g r : List ℕ) (w : List ℤ) → k < length g → k < length r → k < length w → Decoded f k g r w → (a b : ℕ) (z : ℤ) → a ≡ f k .giver → b ≡ f k .receiver → z ≡ pos (f k .weight)
-      → Decoded f (k + 1) (set g k a) (set r k b) (set w k z)
-  decoded-on k g r w lg lr lw d a b z ea eb ez = record {
-    giver = filled g k 0 a (λ j. f j .giver) lg (d .giver) ea;
-    receiver = filled r k 0 b (λ j. f j .receiver) lr (d .receiver) eb;
-    weight = filled w k (pos 0) z (λ j. pos (f j .weight)) lw (d .weight) ez;
-  }
+  -- it stays as long as it was
+  pub as-long : (n : ℕ) (xs : List A) → length (eachTo n xs) ≡ length xs
+  as-long zero xs = refl
+  as-long (suc n) xs = length-set (eachTo n xs) n _ ∙ as-long n xs
 
-module _ (p : ℕ → ℤ) (before : List ℤ) where
-  pub lowered-none : Lowered p 0 before false before
-  lowered-none = record {
+  shifts : (n : ℕ) (x : A) (xs : List A) → eachTo (suc n) (x ∷ xs) ≡ f x ∷ eachTo n xs
+  shifts zero x xs = refl
+  shifts (suc n) x xs = ap (λ (ys : List A). set ys (suc n) (f (getD ys (suc n) d))) (shifts n x xs)
+
+  -- made at all elements it is `map`
+  pub each-all : (xs : List A) → eachTo (length xs) xs ≡ map f xs
+  each-all [] = refl
+  each-all (x ∷ xs) = shifts (length xs) x xs ∙ ap (λ (ys : List A). f x ∷ ys) (each-all xs)
+
+  -- f made at the first n elements: a place among them
+  pub each-at : (xs : List A) (n k : ℕ) → n ≤ length xs → k < n → getD (map f (take n xs) ++ drop n xs) k d ≡ f (getD xs k d)
+  each-at xs zero k h l = absurd (not-suc-le-zero l)
+  each-at [] (suc n) k h l = absurd (not-suc-le-zero h)
+  each-at (x ∷ xs) (suc n) zero h l = refl
+  each-at (x ∷ xs) (suc n) (suc k) h l = each-at xs n k (le-of-suc-le-suc h) (le-of-suc-le-suc l)
+
+-- ── one weight, as the machine compares and answers it ──
+module _ (reaches : List ℤ) (at : ℕ) (w : ℤ) (fw : mag w < 32768) where
+  weight-kept : kept w ≡ w
+  weight-kept = toZ-ofZ {w = w16} {z = w} record { sfits = fw }
+
+  module _ (h : at < length reaches) (fl : mag (getD reaches at (pos 0)) < 32768) where
+    reach-kept : kept (getD reaches at (pos 0)) ≡ getD reaches at w
+    reach-kept = toZ-ofZ {w = w16} {z = getD reaches at (pos 0)} record { sfits = fl } ∙ getD-within reaches at (pos 0) w h
+
+    test : (x : Bool) → ltZ (kept (getD reaches at (pos 0))) (kept w) ≡ x → lesser (getD reaches at w) w ≡ cond x (getD reaches at w) w
+    test x e = ap (λ (y : Bool). cond y (getD reaches at w) w) ((λ i. ltZ (sym reach-kept i) (sym weight-kept i)) ∙ e)
+
+    pub weight-lowered : ltZ (kept (getD reaches at (pos 0))) (kept w) ≡ true → kept (getD reaches at (pos 0)) ≡ lesser (getD reaches at w) w
+    weight-lowered e = reach-kept ∙ sym (test true e)
+
+    pub weight-stays : ltZ (kept (getD reaches at (pos 0))) (kept w) ≡ false → kept w ≡ lesser (getD reaches at w) w
+    weight-stays e = weight-kept ∙ sym (test false e)
+
+  pub weight-past : length reaches ≤ at → kept w ≡ lesser (getD reaches at w) w
+  weight-past h = weight-kept ∙ sym (ap (λ (l : ℤ). lesser l w) (List·getD-eq-default reaches w h) ∙ both (ltZ w w))
+    where
+      both : (x : Bool) → cond x w w ≡ w
+      both true = refl
+      both false = refl
+
+-- ── the weights read out ──
+module _ (f : ℕ → Delegation) (ds : List Entry) where
+  pub read-none : (ws : List ℤ) → WeightsRead f ds 0 false ws
+  read-none ws = record {
     each = λ k h. absurd (omega arith);
-    rest = λ k h. refl;
     same = λ e k h. absurd (omega arith);
     less = λ e. let z : _≡_ {A = ℕ} 0 1 = cc in absurd (omega arith);
   }
 
-  module _ (k : ℕ) (c : Bool) (now : List ℤ) (s : Lowered p k before c now) (room : k < length now) (x : Bool) (e : x ≡ ltZ (p k) (getD now k (pos 0))) where
-    at : x ≡ ltZ (p k) (getD before k (pos 0))
-    at = e ∙ ap (ltZ (p k)) (s .rest k (omega arith))
+  module _ (k : ℕ) (c : Bool) (ws : List ℤ) (s : WeightsRead f ds k c ws) (room : k < length ws) (v : ℤ) (e : v ≡ getD ds k noEntry .weight) where
+    each-on : (j : ℕ) → j < k + 1 → getD (set ws k v) j (pos 0) ≡ getD ds j noEntry .weight
+    each-on = filled ws k (pos 0) v (λ j. getD ds j noEntry .weight) room (s .each) e
 
-    each-on : (j : ℕ) → j < k + 1 → getD (set now k (lesser (p k) (getD now k (pos 0)))) j (pos 0) ≡ lesser (p j) (getD before j (pos 0))
-    each-on = filled now k (pos 0) (lesser (p k) (getD now k (pos 0))) (λ j. lesser (p j) (getD before j (pos 0))) room (s .each) (ap (lesser (p k)) (s .rest k (omega arith)))
-
-    rest-on : (j : ℕ) → k + 1 ≤ j → getD (set now k (lesser (p k) (getD now k (pos 0)))) j (pos 0) ≡ getD before j (pos 0)
-    rest-on j h = let n : j ≢ k = λ q. omega arith in getD-set-other now k j (lesser (p k) (getD now k (pos 0))) (pos 0) n ∙ s .rest j (omega arith)
-
-    -- the weight at place k is lowered
-    pub lowered-less : x ≡ true → Lowered p (k + 1) before true (set now k (lesser (p k) (getD now k (pos 0))))
-    lowered-less q = record {
+    -- the weight at place k is below the one before
+    pub read-less : ltZ v (pos (f k .weight)) ≡ true → WeightsRead f ds (k + 1) true (set ws k v)
+    read-less q = record {
       each = each-on;
-      rest = rest-on;
       same = λ z. let o : _≡_ {A = ℕ} 0 1 = cc in absurd (omega arith);
-      less = λ z. (k, omega arith, sym at ∙ q);
+      less = λ z. (k, omega arith, ap (λ (x : ℤ). ltZ x (pos (f k .weight))) (sym e) ∙ q);
     }
 
-    -- or stays
-    pub lowered-same : x ≡ false → Lowered p (k + 1) before c (set now k (lesser (p k) (getD now k (pos 0))))
-    lowered-same q = record {
+    -- or is not
+    pub read-same : ltZ v (pos (f k .weight)) ≡ false → WeightsRead f ds (k + 1) c (set ws k v)
+    read-same q = record {
       each = each-on;
-      rest = rest-on;
       same = λ z j h. stays z j h (eqOr j k);
       less = λ z. let (j, l, r) = s .less z in (j, omega arith, r);
     }
       where
-        stays : c ≡ false → (j : ℕ) → j < k + 1 → (j ≡ k) ⊎ (j ≢ k) → ltZ (p j) (getD before j (pos 0)) ≡ false
-        stays z j h (inl r) = subst (λ (i : ℕ). ltZ (p i) (getD before i (pos 0)) ≡ false) (sym r) (sym at ∙ q)
+        stays : c ≡ false → (j : ℕ) → j < k + 1 → (j ≡ k) ⊎ (j ≢ k) → ltZ (getD ds j noEntry .weight) (pos (f j .weight)) ≡ false
+        stays z j h (inl r) = subst (λ (i : ℕ). ltZ (getD ds i noEntry .weight) (pos (f i .weight)) ≡ false) (sym r) (ap (λ (x : ℤ). ltZ x (pos (f k .weight))) (sym e) ∙ q)
         stays z j h (inr r) = s .same z j (omega arith)
-
--- one weight, as the machine compares and stores it
-module _ (l : ℤ) (ws : List ℤ) (k : ℕ) (fl : mag l < 32768) (fw : mag (getD ws k (pos 0)) < 32768) where
-  test : ltZ (kept l) (kept (getD ws k (pos 0))) ≡ ltZ l (getD ws k (pos 0))
-  test = λ i. ltZ (toZ-ofZ {w = w16} {z = l} record { sfits = fl } i) (toZ-ofZ {w = w16} {z = getD ws k (pos 0)} record { sfits = fw } i)
-
-  pub at-lowered : ltZ (kept l) (kept (getD ws k (pos 0))) ≡ true → (true ≡ ltZ l (getD ws k (pos 0))) × (set ws k (kept l) ≡ set ws k (lesser l (getD ws k (pos 0))))
-  at-lowered e =
-      let q = sym test ∙ e in
-      (sym q, ap (set ws k) (toZ-ofZ {w = w16} {z = l} record { sfits = fl } ∙ ap (λ (x : Bool). cond x l (getD ws k (pos 0))) (sym q)))
-
-  pub at-kept : ltZ (kept l) (kept (getD ws k (pos 0))) ≡ false → (false ≡ ltZ l (getD ws k (pos 0))) × (ws ≡ set ws k (lesser l (getD ws k (pos 0))))
-  at-kept e =
-      let q = sym test ∙ e in
-      (sym q, sym (set-getD ws k (pos 0)) ∙ ap (λ (x : Bool). set ws k (cond x l (getD ws k (pos 0)))) (sym q))

@@ -2,29 +2,31 @@
 use mathlib.Core.Path.{_≡_, refl, sym, ap, subst, _∙_}
 use mathlib.Core.Logic.{_≢_}
 use mathlib.Core.Bool.{Bool, true, false, cond}
-use mathlib.Core.List.{List, [], _∷_, _++_, append-assoc, append-nil}
-use Prim.Native.Nat.{ℕ, zero, suc, _+_, _*_, _≤_, _<_, min}
+use mathlib.Core.List.{List, [], _∷_, map, _++_, append-assoc, append-nil}
+use Prim.Native.Nat.{ℕ, zero, suc, _+_, _≤_, _<_, min}
 use native.Mathlib.Nat.{add-zero, add-suc, suc-add, zero-add}
 use native.Mathlib.Omega.{arith}
-use borrow.Author.Tests.{ltb-true, ltb-false}
+use borrow.Author.Tests.{ltb-true, ltb-false, le-ltb}
 use lib.Dec.{ltb}
 use lib.IntN.{ℤ, pos, negsuc}
 use lib.Signed.{ltZ}
-use lib.ListN.{getD}
+use lib.ListN.{length, getD, take, drop}
 use Rattle.rules.specs.List.{_∈_, tabulate, concatMap}
 use Rattle.rules.specs.Limit.{code, _≼_}
 use Rattle.rules.specs.Register.{Delegation, reweigh, withDelegations}
 use Rattle.rules.specs.Support.{allowed}
 use Rattle.rules.specs.Round.{placed, capped, round}
 use Rattle.rules.proofs.Rounds.{round-stays, round-changes}
+use Rattle.rules.proofs.Signed.{getD-within}
 use Rattle.block.specs.Bytes.{IsBytes}
 use Rattle.block.specs.Block.{countIn, decode}
 use Rattle.block.specs.WellFormed.{wellFormed}
 use Rattle.block.proofs.Bytes.{tabulate-mem, mem-tabulate}
 use Rattle.block.proofs.Fields.{recordAt}
-use Rattle.block.proofs.Held.{held-formed, delegations-held}
+use Rattle.block.proofs.Held.{count-most, held-formed, delegations-held}
 use Rattle.search.proofs.Signed.{below-weight}
-use Rattle.rounds.specs.Rounded.{Tabled, Decoded, lesser, reachOf, Lowered, leftTo, Reckoned}
+use Rattle.rounds.specs.Rounded.{reachAt, Tabled, noEntry, Decoded, lesser, lowerOne, WeightsRead, leftTo, Reckoned}
+use Rattle.rounds.proofs.Lowering.{each-at}
 
 -- ── lists ──
 tabulate-last : {A : Type 0} (f : ℕ → A) (i n : ℕ) → tabulate f i (suc n) ≡ tabulate f i n ++ (f (i + n) ∷ [])
@@ -43,9 +45,6 @@ left-all f g w (suc n) h =
     ∙ sym (ap (concatMap g) (tabulate-last f 0 n) ∙ concatMap-last g (tabulate f 0 n) (f (0 + n)) ∙ ap (λ (m : ℕ). concatMap g (tabulate f 0 n) ++ g (f m)) (zero-add n))
 
 -- ── one delegation ──
-lesser-below : (l : ℤ) (w : ℕ) (c : Bool) → ltZ l (pos w) ≡ c → lesser l (pos w) ≡ cond c l (pos w)
-lesser-below l w c e = ap (λ (x : Bool). cond x l (pos w)) e
-
 -- the weight lowered to a reach is the weight capped by it
 placed-lesser : (d : Delegation) (l : ℤ) → placed d (lesser l (pos (d .weight))) ≡ capped d l
 placed-lesser d (pos r) = go (ltZ (pos r) (pos (d .weight))) refl
@@ -68,25 +67,39 @@ code-lesser l w = go (ltZ l (pos w)) refl
     go true e = let h = ltb-true (code l) (suc w) (sym (below-weight l w) ∙ e) in omega arith
     go false e = omega arith
 
+-- a weight is lowered where its reach is below it
+lesser-less : (l : ℤ) (w : ℕ) → ltZ (lesser l (pos w)) (pos w) ≡ ltZ l (pos w)
+lesser-less l w = go (ltZ l (pos w)) refl
+  where
+    go : (c : Bool) → ltZ l (pos w) ≡ c → ltZ (cond c l (pos w)) (pos w) ≡ c
+    go true e = e
+    go false e = below-weight (pos w) w ∙ le-ltb (suc w) (suc w) (omega arith)
+
 -- ── the round ──
-module _ (t : List ℤ) (b : List ℕ) (bytes : IsBytes b) (formed : wellFormed b ≡ true) (reaches : List ℤ) (tabled : Tabled t (decode b) reaches)
-    (gs rs : List ℕ) (ws : List ℤ) (dec : Decoded (recordAt b) (countIn b) gs rs ws) where
+module _ (t : List ℤ) (b : List ℕ) (bytes : IsBytes b) (formed : wellFormed b ≡ true) (reaches : List ℤ) (size : length reaches ≡ 4096) (tabled : Tabled t (decode b) reaches)
+    (ds : List Entry) (all : length ds ≡ 256) (dec : Decoded (recordAt b) (countIn b) ds) where
   member : (k : ℕ) → k < countIn b → recordAt b k ∈ decode b .delegations
   member k h = subst (λ (ds : List Delegation). recordAt b k ∈ ds) (sym (delegations-held b bytes formed)) (subst (λ (m : ℕ). recordAt b m ∈ tabulate (recordAt b) 0 (countIn b)) (zero-add k) (mem-tabulate (recordAt b) 0 (countIn b) k h))
 
   -- the table has what counts for the delegation at place k
-  counts-for : (k : ℕ) → k < countIn b → reachOf gs rs reaches k ≡ allowed t (decode b) (recordAt b k)
-  counts-for k h = (λ j. getD reaches (64 * dec .receiver k h j + dec .giver k h j) (pos 0)) ∙ tabled (recordAt b k) (member k h)
-
-  pub subjects-decoded : (k : ℕ) → k < countIn b → (getD gs k 0 < 64) × (getD rs k 0 < 64)
-  subjects-decoded k h =
+  counts-for : (k : ℕ) → k < countIn b → (z : ℤ) → getD reaches (reachAt (recordAt b k .giver) (recordAt b k .receiver)) z ≡ allowed t (decode b) (recordAt b k)
+  counts-for k h z =
       let f = held-formed b bytes formed in
       let d = f .each (recordAt b k) (member k h) in
-      (omega (arith, dec .giver k h, d .giver, f .most), omega (arith, dec .receiver k h, d .receiver, f .most))
+      getD-within reaches (reachAt (recordAt b k .giver) (recordAt b k .receiver)) z (pos 0) (omega (arith, size, d .giver, d .receiver, f .most)) ∙ tabled (recordAt b k) (member k h)
 
-  module _ (c : Bool) (after : List ℤ) (low : Lowered (reachOf gs rs reaches) (countIn b) ws c after) where
+  -- the run that the round leaves
+  abbrev run-left : List Entry
+  run-left = map (lowerOne reaches) (take (countIn b) ds) ++ drop (countIn b) ds
+
+  entry-left : (k : ℕ) → k < countIn b → getD run-left k noEntry .weight ≡ lesser (allowed t (decode b) (recordAt b k)) (pos (recordAt b k .weight))
+  entry-left k h =
+      ap (λ (d : Entry). d .weight) (each-at (lowerOne reaches) noEntry ds (countIn b) k (omega (arith, all, count-most b bytes formed)) h ∙ ap (lowerOne reaches) (dec k h))
+      ∙ ap (λ (l : ℤ). lesser l (pos (recordAt b k .weight))) (counts-for k h (pos (recordAt b k .weight)))
+
+  module _ (c : Bool) (after : List ℤ) (left : WeightsRead (recordAt b) run-left (countIn b) c after) where
     weight-left : (k : ℕ) (h : k < countIn b) → getD after k (pos 0) ≡ lesser (allowed t (decode b) (recordAt b k)) (pos (recordAt b k .weight))
-    weight-left k h = low .each k h ∙ (λ j. lesser (counts-for k h j) (dec .weight k h j))
+    weight-left k h = left .each k h ∙ entry-left k h
 
     weights-most : (k : ℕ) → k < countIn b → code (getD after k (pos 0)) ≤ 256
     weights-most k h =
@@ -100,8 +113,8 @@ module _ (t : List ℤ) (b : List ℕ) (bytes : IsBytes b) (formed : wellFormed 
         ap (withDelegations (decode b))
         (left-all (recordAt b) g after (countIn b) (λ k h. ap (placed (recordAt b k)) (weight-left k h) ∙ placed-lesser (recordAt b k) (allowed t (decode b) (recordAt b k))) ∙ ap (concatMap g) (sym (delegations-held b bytes formed)))
 
-    test : (k : ℕ) (h : k < countIn b) → ltZ (reachOf gs rs reaches k) (getD ws k (pos 0)) ≡ ltb (code (allowed t (decode b) (recordAt b k))) (suc (recordAt b k .weight))
-    test k h = (λ j. ltZ (counts-for k h j) (dec .weight k h j)) ∙ below-weight (allowed t (decode b) (recordAt b k)) (recordAt b k .weight)
+    test : (k : ℕ) (h : k < countIn b) → ltZ (getD run-left k noEntry .weight) (pos (recordAt b k .weight)) ≡ ltb (code (allowed t (decode b) (recordAt b k))) (suc (recordAt b k .weight))
+    test k h = ap (λ (z : ℤ). ltZ z (pos (recordAt b k .weight))) (entry-left k h) ∙ lesser-less (allowed t (decode b) (recordAt b k)) (recordAt b k .weight) ∙ below-weight (allowed t (decode b) (recordAt b k)) (recordAt b k .weight)
 
     round-same : c ≡ false → round t (decode b) ≡ decode b
     round-same e = round-stays t (decode b) each
@@ -110,11 +123,11 @@ module _ (t : List ℤ) (b : List ℕ) (bytes : IsBytes b) (formed : wellFormed 
         each d m =
             let (k, h, q) = tabulate-mem (recordAt b) 0 (countIn b) (subst (λ (ds : List Delegation). d ∈ ds) (delegations-held b bytes formed) m) in
             let p = q ∙ ap (recordAt b) (zero-add k) in
-            subst (λ (x : Delegation). pos (x .weight) ≼ allowed t (decode b) x) (sym p) (ltb-false (code (allowed t (decode b) (recordAt b k))) (suc (recordAt b k .weight)) (sym (test k h) ∙ low .same e k h))
+            subst (λ (x : Delegation). pos (x .weight) ≼ allowed t (decode b) x) (sym p) (ltb-false (code (allowed t (decode b) (recordAt b k))) (suc (recordAt b k .weight)) (sym (test k h) ∙ left .same e k h))
 
     round-change : c ≡ true → round t (decode b) ≢ decode b
     round-change e =
-        let (k, h, q) = low .less e in
+        let (k, h, q) = left .less e in
         let l = ltb-true (code (allowed t (decode b) (recordAt b k))) (suc (recordAt b k .weight)) (sym (test k h) ∙ q) in
         round-changes t (decode b) (recordAt b k) (member k h) (omega arith)
 

@@ -3,7 +3,7 @@ use mathlib.Core.Path.{_≡_}
 use mathlib.Core.Logic.{_≢_}
 use mathlib.Core.Bool.{Bool, true, false, cond}
 use mathlib.Core.List.{List, [], _++_}
-use Prim.Native.Nat.{ℕ, zero, suc, _+_, _*_, _≤_, _<_}
+use Prim.Native.Nat.{ℕ, zero, suc, _+_, _*_, _<_}
 use lib.ListN.{getD, drop}
 use lib.IntN.{ℤ, pos}
 use lib.Signed.{ltZ}
@@ -27,26 +27,35 @@ Row t R r l = (u : ℕ) → u < 64 → getD l (reachAt u r) (pos 0) ≡ reach t 
 abbrev pub Tabled : List ℤ → Register → List ℤ → Type 0
 Tabled t R l = (d : Delegation) → d ∈ R .delegations → getD l (reachAt (d .giver) (d .receiver)) (pos 0) ≡ allowed t R d
 
--- the first n of the delegations f, decoded: giver, receiver and weight, one array each
-pub record Decoded (f : ℕ → Delegation) (n : ℕ) (givers receivers : List ℕ) (weights : List ℤ) : Type 0 where
-  pub giver : (k : ℕ) → k < n → getD givers k 0 ≡ f k .giver
-  pub receiver : (k : ℕ) → k < n → getD receivers k 0 ≡ f k .receiver
-  pub weight : (k : ℕ) → k < n → getD weights k (pos 0) ≡ pos (f k .weight)
+-- a delegation, decoded
+abbrev pub decodedAs : Delegation → Entry
+decodedAs d = record { giver = d .giver; receiver = d .receiver; weight = pos (d .weight); need = d .need; bar = d .bar }
+
+-- what is read past the end of decoded delegations
+abbrev pub noEntry : Entry
+noEntry = record { giver = 0; receiver = 0; weight = pos 0; need = 0; bar = 0 }
+
+-- the first n of the delegations f, decoded
+abbrev pub Decoded : (ℕ → Delegation) → ℕ → List Entry → Type 0
+Decoded f n ds = (k : ℕ) → k < n → getD ds k noEntry ≡ decodedAs (f k)
 
 -- a weight lowered to a reach below it
 abbrev pub lesser : ℤ → ℤ → ℤ
 lesser l w = cond (ltZ l w) l w
 
--- the reach that the table has for the delegation at place k
-abbrev pub reachOf : List ℕ → List ℕ → List ℤ → ℕ → ℤ
-reachOf givers receivers reaches k = getD reaches (reachAt (getD givers k 0) (getD receivers k 0)) (pos 0)
+-- the weight of a giver's delegation to a receiver, lowered to the reach that the table has for them, if it has one
+abbrev pub loweredTo : List ℤ → ℕ → ℕ → ℤ → ℤ
+loweredTo reaches g r w = lesser (getD reaches (reachAt g r) w) w
 
--- the first n weights are lowered to their reaches, all others stay; the answer says whether one changed
-pub record Lowered (reaches : ℕ → ℤ) (n : ℕ) (before : List ℤ) (changed : Bool) (after : List ℤ) : Type 0 where
-  pub each : (k : ℕ) → k < n → getD after k (pos 0) ≡ lesser (reaches k) (getD before k (pos 0))
-  pub rest : (k : ℕ) → n ≤ k → getD after k (pos 0) ≡ getD before k (pos 0)
-  pub same : changed ≡ false → (k : ℕ) → k < n → ltZ (reaches k) (getD before k (pos 0)) ≡ false
-  pub less : changed ≡ true → (k : ℕ) × (k < n) × (ltZ (reaches k) (getD before k (pos 0)) ≡ true)
+-- a decoded delegation lowered to its reach
+abbrev pub lowerOne : List ℤ → Entry → Entry
+lowerOne reaches d = record { giver = d .giver; receiver = d .receiver; weight = loweredTo reaches (d .giver) (d .receiver) (d .weight); need = d .need; bar = d .bar }
+
+-- the weights of the first n of ds; the answer says whether one is below the weight that f has
+pub record WeightsRead (f : ℕ → Delegation) (ds : List Entry) (n : ℕ) (changed : Bool) (weights : List ℤ) : Type 0 where
+  pub each : (k : ℕ) → k < n → getD weights k (pos 0) ≡ getD ds k noEntry .weight
+  pub same : changed ≡ false → (k : ℕ) → k < n → ltZ (getD ds k noEntry .weight) (pos (f k .weight)) ≡ false
+  pub less : changed ≡ true → (k : ℕ) × (k < n) × (ltZ (getD ds k noEntry .weight) (pos (f k .weight)) ≡ true)
 
 -- what is left of the first k delegations, each at its new weight; -1 removes it
 abbrev pub leftTo : (ℕ → Delegation) → List ℤ → ℕ → List Delegation

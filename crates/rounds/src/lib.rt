@@ -14,6 +14,15 @@ ghost use Rattle.rounds.specs.Rounded.{Reckoned, RoundMade};
 ghost use Rattle.rounds.specs.Settled.{SettledMade};
 use block::layout;
 
+// A decoded delegation; a round lowers the weight of one that it removes to -1.
+pub struct Delegation {
+    pub giver: u8,
+    pub receiver: u8,
+    pub weight: i16,
+    pub need: u16,
+    pub bar: u16,
+}
+
 // How many delegations were dropped, and how many were lowered but kept.
 pub struct Changes {
     pub dropped: u32,
@@ -32,13 +41,12 @@ fn reckon(block: &[u8], table: &[i16], weights: &mut [i16]) -> bool
     requires { ⌜ (wellFormed (now block) ≡ true) × TableRule (now table) × (length (now weights) ≡ 256) ⌝ }
     ensures { λ r. ⌜ Reckoned (now (table .entry)) (now (block .entry)) r (now (weights .exit)) ⌝ }
 {
-    let n = block::count(block);
-    let mut givers = [0u8; 256];
-    let mut receivers = [0u8; 256];
-    lower::decode_records(block, n, &mut givers, &mut receivers, weights);
     let mut reaches = [-1i16; 4096];
     reaches::fill_reaches(block, table, &mut reaches);
-    lower::lower(&givers, &receivers, &reaches, n, weights)
+    let n = block::count(block);
+    let ds = lower::decoded(block, n);
+    let left = lower::lowered(ds, n, &reaches);
+    lower::read_weights(block, left, n, weights)
 }
 
 // One round; whether it changed something.

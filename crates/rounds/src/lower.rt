@@ -1,60 +1,98 @@
-// The reckoning of a round, on the decoded delegations in flat arrays.
+// The reckoning of a round, on the decoded delegations: a lent run of records.
 ghost use mathlib.Core.Path.{_≡_};
-ghost use Prim.Native.Nat.{ℕ, _+_, _*_, _≤_, _<_};
-ghost use lib.ListN.{length, getD, set, drop};
-ghost use lib.IntN.{pos};
-ghost use lib.Signed.{ltZ};
+ghost use mathlib.Core.List.{map, _++_};
+ghost use Prim.Native.Nat.{_+_, _*_, _≤_};
+ghost use lib.ListN.{length, take, drop};
 ghost use Rattle.block.specs.Block.{delegationIn};
-ghost use Rattle.rounds.specs.Rounded.{Decoded, Lowered, lesser, reachOf};
+ghost use Rattle.rounds.specs.Rounded.{decodedAs, Decoded, loweredTo, lowerOne, WeightsRead};
+use crate::Delegation;
 
-// The delegations of the first `n` records, decoded: giver, receiver and weight, one array each.
-pub fn decode_records(
-    block: &[u8],
-    n: usize,
-    givers: &mut [u8],
-    receivers: &mut [u8],
-    weights: &mut [i16],
-)
-    requires { ⌜ (132 + 8 * n ≤ length (now block)) × (n ≤ 256) × (length (now givers) ≡ 256) × (length (now receivers) ≡ 256) × (length (now weights) ≡ 256) ⌝ }
-    ensures { λ _. ⌜ Decoded (λ k. delegationIn (drop (8 * k) (drop 132 (now (block .entry))))) n (now (givers .exit)) (now (receivers .exit)) (now (weights .exit)) ⌝ }
+// The delegation of record k, decoded.
+fn decoded_at(block: &[u8], k: usize) -> Delegation
+    requires { ⌜ 132 + 8 * k + 8 ≤ length (now block) ⌝ }
+    ensures { λ r. ⌜ r ≡ decodedAs (delegationIn (drop (8 * k) (drop 132 (now (block .entry))))) ⌝ }
 {
+    let weight = block::weight(block, k);
+    Delegation {
+        giver: block::giver(block, k),
+        receiver: block::receiver(block, k),
+        weight: weight as i16,
+        need: block::need(block, k),
+        bar: block::bar(block, k),
+    }
+}
+
+// The delegations of the first `n` records, decoded.
+pub fn decoded(block: &[u8], n: usize) -> [Delegation; 256]
+    requires { ⌜ (132 + 8 * n ≤ length (now block)) × (n ≤ 256) ⌝ }
+    ensures { λ r. ⌜ Decoded (λ k. delegationIn (drop (8 * k) (drop 132 (now (block .entry))))) n r ⌝ }
+{
+    let none = Delegation {
+        giver: 0,
+        receiver: 0,
+        weight: 0,
+        need: 0,
+        bar: 0,
+    };
+    let mut ds = [none; 256];
     let mut k: usize = 0;
     while k < n {
-        givers[k] = block::giver(block, k);
-        receivers[k] = block::receiver(block, k);
-        weights[k] = block::weight(block, k) as i16;
+        let d = decoded_at(block, k);
+        ds[k] = d;
         k += 1;
     }
+    ds
 }
 
-// The weight at place k lowered to its reach; whether it changed.
-fn lower_at(givers: &[u8], receivers: &[u8], reaches: &[i16], k: usize, weights: &mut [i16]) -> bool
-    requires { ⌜ (k < 256) × (length (now givers) ≡ 256) × (length (now receivers) ≡ 256) × (length (now reaches) ≡ 4096) × (length (now weights) ≡ 256) × (getD (now givers) k 0 < 64) × (getD (now receivers) k 0 < 64) ⌝ }
-    ensures { λ r. ⌜ (r ≡ ltZ (reachOf (now (givers .entry)) (now (receivers .entry)) (now (reaches .entry)) k) (getD (now (weights .entry)) k (pos 0))) × (now (weights .exit) ≡ set (now (weights .entry)) k (lesser (reachOf (now (givers .entry)) (now (receivers .entry)) (now (reaches .entry)) k) (getD (now (weights .entry)) k (pos 0)))) ⌝ }
+// A weight lowered to the reach of its giver and receiver; it stays where the table has no place for them.
+fn lowered_weight(reaches: &[i16], giver: u8, receiver: u8, weight: i16) -> i16
+    ensures { λ r. ⌜ r ≡ loweredTo (now (reaches .entry)) giver receiver weight ⌝ }
 {
-    let reach = reaches[64 * (receivers[k] as usize) + (givers[k] as usize)];
-    if reach < weights[k] {
-        weights[k] = reach;
-        return true;
+    let at = 64 * (receiver as usize) + (giver as usize);
+    if at < reaches.len() {
+        let reach = reaches[at];
+        if reach < weight {
+            return reach;
+        }
     }
-    false
+    weight
 }
 
-// The first `n` weights lowered to their reaches, all together; whether one changed.
-pub fn lower(
-    givers: &[u8],
-    receivers: &[u8],
-    reaches: &[i16],
-    n: usize,
-    weights: &mut [i16],
-) -> bool
-    requires { ⌜ (n ≤ 256) × (length (now givers) ≡ 256) × (length (now receivers) ≡ 256) × (length (now reaches) ≡ 4096) × (length (now weights) ≡ 256) × ((k : ℕ) → k < n → (getD (now givers) k 0 < 64) × (getD (now receivers) k 0 < 64)) ⌝ }
-    ensures { λ r. ⌜ Lowered (reachOf (now (givers .entry)) (now (receivers .entry)) (now (reaches .entry))) n (now (weights .entry)) r (now (weights .exit)) ⌝ }
+// Every delegation of a lent run lowered to its reach, all together.
+fn lower(ds: &mut [Delegation], reaches: &[i16])
+    ensures { λ _. ⌜ now (ds .exit) ≡ map (lowerOne (now (reaches .entry))) (now (ds .entry)) ⌝ }
+{
+    let mut i = 0;
+    while i < ds.len() {
+        let d = ds[i];
+        let w = lowered_weight(reaches, d.giver, d.receiver, d.weight);
+        ds[i].weight = w;
+        i += 1;
+    }
+}
+
+// The first `n` delegations of a table, lent as a run and lowered.
+pub fn lowered(ds: [Delegation; 256], n: usize, reaches: &[i16]) -> [Delegation; 256]
+    requires { ⌜ n ≤ 256 ⌝ }
+    ensures { λ r. ⌜ r ≡ map (lowerOne (now (reaches .entry))) (take n ds) ++ drop n ds ⌝ }
+{
+    let mut run = ds;
+    lower(&mut run[..n], reaches);
+    run
+}
+
+// The weights of the first `n` delegations; whether one is below the weight that its record has.
+pub fn read_weights(block: &[u8], ds: [Delegation; 256], n: usize, weights: &mut [i16]) -> bool
+    requires { ⌜ (132 + 8 * n ≤ length (now block)) × (n ≤ 256) × (length (now weights) ≡ 256) ⌝ }
+    ensures { λ r. ⌜ WeightsRead (λ k. delegationIn (drop (8 * k) (drop 132 (now (block .entry))))) ds n r (now (weights .exit)) ⌝ }
 {
     let mut changed = false;
     let mut k: usize = 0;
     while k < n {
-        if lower_at(givers, receivers, reaches, k, weights) {
+        let d = ds[k];
+        let weight = d.weight;
+        weights[k] = weight;
+        if weight < block::weight(block, k) as i16 {
             changed = true;
         }
         k += 1;

@@ -9,7 +9,6 @@ ghost use Rattle.rules.specs.Table.{TableRule};
 ghost use Rattle.block.specs.Block.{subjectsIn, decode};
 ghost use Rattle.block.specs.WellFormed.{wellFormed};
 ghost use Rattle.rounds.specs.Rounded.{Row, Tabled};
-use block::layout;
 
 // The row of one receiver.
 fn fill_row(block: &[u8], table: &[i16], receiver: usize, reaches: &mut [i16])

@@ -1,34 +1,25 @@
 -- `rounds::reckon` leaves the weights of a round. Assumes nothing.
-use borrow.Author.Needs.{needs}
-use mathlib.Core.Path.{_≡_, refl, _∙_}
+use mathlib.Core.Path.{_≡_}
+use mathlib.Core.Bool.{true}
+use mathlib.Core.List.{List, map, _++_}
+use Prim.Native.Nat.{ℕ, _+_, _*_, _≤_}
 use native.Mathlib.Omega.{arith}
+use borrow.Author.Needs.{needs}
+use lib.ListN.{length, take, drop}
+use Rattle.block.specs.Bytes.{IsBytes}
 use Rattle.block.specs.Block.{countIn}
+use Rattle.block.specs.WellFormed.{wellFormed}
 use Rattle.block.proofs.Bytes.{fits-bytes}
 use Rattle.block.proofs.Fields.{recordAt}
 use Rattle.block.proofs.Held.{size-held, count-most}
-use Rattle.rounds.specs.Rounded.{Decoded, reachOf, Lowered}
-use Rattle.rounds.proofs.Rounding.{subjects-decoded, reckoned}
+use Rattle.rounds.specs.Rounded.{Decoded, lowerOne, WeightsRead}
+use Rattle.rounds.proofs.Rounding.{reckoned}
 use Rattle.rounds.proofs.reckon.Statement.{statement}
 use Rattle.rounds.proofs.reckon.Tie as tie
 
-count-requires : tie.Need-count-requires
-count-requires c κs =
-    let s = c .before in
-    omega (arith, size-held (s .args .block .now) (fits-bytes (s .args .block .now) (c .shared-slice-known .given)) (s .pre .0))
-
-slice-aggregate-decode-records : tie.Need-slice-aggregate-decode-records
-slice-aggregate-decode-records c = search needs
-
-slice-aggregate-decode-records-2 : tie.Need-slice-aggregate-decode-records-2
-slice-aggregate-decode-records-2 c = search needs
-
-decode-records-requires : tie.Need-decode-records-requires
-decode-records-requires c κs =
-    let s = c .before .before .before .before .before in
-    let g = fits-bytes (s .args .block .now) (c .before .before .before .before .shared-slice-known .given) in
-    let n = c .before .before .before .count .ensures in
-    let few = count-most (s .args .block .now) g (s .pre .0) in
-    (omega (arith, n, few, size-held (s .args .block .now) g (s .pre .0)), omega (arith, n, few), refl, refl, s .pre .2)
+-- the records that stand lie in the block
+room : (b : List ℕ) → IsBytes b → wellFormed b ≡ true → (n : ℕ) → n ≡ countIn b → (132 + 8 * n ≤ length b) × (n ≤ 256)
+room b g w n e = (omega (arith, e, count-most b g w, size-held b g w), omega (arith, e, count-most b g w))
 
 slice-aggregate-fill-reaches : tie.Need-slice-aggregate-fill-reaches
 slice-aggregate-fill-reaches c = search needs
@@ -36,61 +27,59 @@ slice-aggregate-fill-reaches c = search needs
 fill-reaches-requires : tie.Need-fill-reaches-requires
 fill-reaches-requires c κs = search needs
 
-slice-aggregate-lower : tie.Need-slice-aggregate-lower
-slice-aggregate-lower c = search needs
+count-requires : tie.Need-count-requires
+count-requires c κs =
+    let k = c .before .before .before in
+    omega (arith, size-held (k .before .args .block .now) (fits-bytes (k .before .args .block .now) (k .shared-slice-known .given)) (k .before .pre .0))
 
-slice-aggregate-lower-2 : tie.Need-slice-aggregate-lower-2
-slice-aggregate-lower-2 c = search needs
+decoded-requires : tie.Need-decoded-requires
+decoded-requires c κs =
+    let k = c .before .before .before .before in
+    room (k .before .args .block .now) (fits-bytes (k .before .args .block .now) (k .shared-slice-known .given)) (k .before .pre .0) (c .count .result) (c .count .ensures)
 
-slice-aggregate-lower-3 : tie.Need-slice-aggregate-lower-3
-slice-aggregate-lower-3 c = search needs
+slice-aggregate-lowered : tie.Need-slice-aggregate-lowered
+slice-aggregate-lowered c = search needs
 
-lower-requires : tie.Need-lower-requires
-lower-requires c κs =
-    let s = c .before .before .before .before .before .before .before .before .before .before .before .before .before .before .before .before in
-    let b = s .args .block .now in
-    let g = fits-bytes b (c .before .before .before .before .before .before .before .before .before .before .before .before .before .before .before .shared-slice-known .given) in
-    let d = c .before .before .before .before .before .before .before .before .before .before .decode-records in
-    let f = c .before .before .before .before .before .fill-reaches in
-    let n : c .before .before .before .before .before .before .before .before .before .before .before .before .before .before .count .result ≡ countIn b = c .before .before .before .before .before .before .before .before .before .before .before .before .before .before .count .ensures in
-    let dec : Decoded (recordAt b) (countIn b) (d .last .1 .1 .0) (d .last .1 .1 .1 .0) (d .last .1 .1 .1 .1 .0) = rw (← n) (d .ensures) in (
-      omega (arith, n, count-most b g (s .pre .0)),
-      d .kept .1 .1 .0,
-      d .kept .1 .1 .1 .0,
-      f .kept .1 .1 .0,
-      d .kept .1 .1 .1 .1 .0 ∙ s .pre .2,
-      λ k h. subjects-decoded (s .args .table .now) b g (s .pre .0) (f .last .1 .1 .0) (f .ensures) (d .last .1 .1 .0) (d .last .1 .1 .1 .0) (d .last .1 .1 .1 .1 .0) dec k (omega (arith, n)),
-    )
+lowered-requires : tie.Need-lowered-requires
+lowered-requires c κs =
+    let n = c .before .before in
+    let k = n .before .before .before .before in
+    room (k .before .args .block .now) (fits-bytes (k .before .args .block .now) (k .shared-slice-known .given)) (k .before .pre .0) (n .count .result) (n .count .ensures) .1
+
+read-weights-requires : tie.Need-read-weights-requires
+read-weights-requires c κs =
+    let n = c .before .before .before .before in
+    let k = n .before .before .before .before in
+    let (l, m) = room (k .before .args .block .now) (fits-bytes (k .before .args .block .now) (k .shared-slice-known .given)) (k .before .pre .0) (n .count .result) (n .count .ensures) in
+    (l, m, k .before .pre .2)
 
 same-length : tie.Need-same-length
 same-length c = search needs
 
 returns : tie.Need-returns
 returns c =
-    let s = c .before .before .before .before .before .before .before .before .before .before .before .before .before .before .before .before .before .before in
-    let b = s .args .block .now in
-    let g = fits-bytes b (c .before .before .before .before .before .before .before .before .before .before .before .before .before .before .before .before .before .shared-slice-known .given) in
-    let d = c .before .before .before .before .before .before .before .before .before .before .before .before .decode-records in
-    let f = c .before .before .before .before .before .before .before .fill-reaches in
-    let l = c .before .lower in
-    let n : c .before .before .before .before .before .before .before .before .before .before .before .before .before .before .before .before .count .result ≡ countIn b = c .before .before .before .before .before .before .before .before .before .before .before .before .before .before .before .before .count .ensures in
-    let dec : Decoded (recordAt b) (countIn b) (d .last .1 .1 .0) (d .last .1 .1 .1 .0) (d .last .1 .1 .1 .1 .0) = rw (← n) (d .ensures) in
-    let low : Lowered (reachOf (d .last .1 .1 .0) (d .last .1 .1 .1 .0) (f .last .1 .1 .0)) (countIn b) (d .last .1 .1 .1 .1 .0) (l .result) (l .last .1 .1 .1 .1 .0) = rw (← n) (l .ensures) in
-    reckoned (s .args .table .now) b g (s .pre .0) (f .last .1 .1 .0) (f .ensures) (d .last .1 .1 .0) (d .last .1 .1 .1 .0) (d .last .1 .1 .1 .1 .0) dec (l .result) (l .last .1 .1 .1 .1 .0) low
+    let r = c .before .read-weights in
+    let o = c .before .before .before .lowered in
+    let d = c .before .before .before .before .before .decoded in
+    let n = c .before .before .before .before .before .before in
+    let f = n .before .before .fill-reaches in
+    let k = n .before .before .before .before in
+    let b = k .before .args .block .now in
+    let e : n .count .result ≡ countIn b = n .count .ensures in
+    let dec : Decoded (recordAt b) (countIn b) (d .result) = rw (← e) (d .ensures) in
+    let read : WeightsRead (recordAt b) (map (lowerOne (f .last .1 .1 .0)) (take (countIn b) (d .result)) ++ drop (countIn b) (d .result)) (countIn b) (r .result) (r .last .1 .1 .1 .0) = rw (← e, ← o .ensures) (r .ensures) in
+    reckoned (k .before .args .table .now) b (fits-bytes b (k .shared-slice-known .given)) (k .before .pre .0) (f .last .1 .1 .0) (f .kept .1 .1 .0) (f .ensures) (d .result) (d .ok .1 .0 .1) dec (r .result) (r .last .1 .1 .1 .0) read
 
 pub reckon-spec : {M : Type 1} → statement M
 reckon-spec =
     tie.close
     (tie.spec
-    count-requires
-    slice-aggregate-decode-records
-    slice-aggregate-decode-records-2
-    decode-records-requires
     slice-aggregate-fill-reaches
     fill-reaches-requires
-    slice-aggregate-lower
-    slice-aggregate-lower-2
-    slice-aggregate-lower-3
-    lower-requires
+    count-requires
+    decoded-requires
+    slice-aggregate-lowered
+    lowered-requires
+    read-weights-requires
     same-length
     returns)
