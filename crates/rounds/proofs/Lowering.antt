@@ -17,6 +17,7 @@ use Rattle.rules.proofs.Lists.{eqOr}
 use Rattle.rules.proofs.Signed.{getD-within}
 use Rattle.search.proofs.Signed.{kept}
 use Rattle.rounds.specs.Rounded.{noEntry, lesser, WeightsRead}
+use Rattle.rounds.specs.declared.Delegation.{Delegation as Entry}
 
 -- ── lists ──
 -- one more place filled

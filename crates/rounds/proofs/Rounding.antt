@@ -26,6 +26,7 @@ use Rattle.block.proofs.Fields.{recordAt}
 use Rattle.block.proofs.Held.{count-most, held-formed, delegations-held}
 use Rattle.search.proofs.Signed.{below-weight}
 use Rattle.rounds.specs.Rounded.{reachAt, Tabled, noEntry, Decoded, lesser, lowerOne, WeightsRead, leftTo, Reckoned}
+use Rattle.rounds.specs.declared.Delegation.{Delegation as Entry}
 use Rattle.rounds.proofs.Lowering.{each-at}
 
 -- ── lists ──

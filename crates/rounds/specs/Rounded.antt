@@ -14,6 +14,7 @@ use Rattle.rules.specs.Reach.{reach}
 use Rattle.rules.specs.Support.{allowed}
 use Rattle.rules.specs.Round.{placed, round}
 use Rattle.block.specs.Block.{delegationIn, countIn, decode, encode}
+use Rattle.rounds.specs.declared.Delegation.{Delegation as Entry}
 
 -- where the reach of a giver and a receiver is kept in the table of reaches
 abbrev pub reachAt : ℕ → ℕ → ℕ

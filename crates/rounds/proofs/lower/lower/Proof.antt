@@ -58,7 +58,9 @@ use Rattle.rounds.proofs.Lowering.{eachTo, as-long, each-all}
 use Rattle.rounds.proofs.Parts.{after, head, inside}
 use Rattle.rounds.proofs.lower.lowered_weight as weigh
 use Rattle.rounds.proofs.lower.lowered_weight.Symbol as weigh-def
+use Rattle.rounds.proofs.lower.lowered_weight.Symbol.{name as #rounds·lower·lowered-weight}
 use Rattle.rounds.proofs.lower.lowered_weight.Met as weigh-thm
+use Rattle.rounds.proofs.lower.lower.Key.{name as #rounds·lower·lower}
 use Rattle.rounds.proofs.lower.lower as f
 use Rattle.rounds.proofs.lower.lower.Statement as stated
 use Rattle.rounds.proofs.lower.lower.Code as code
