@@ -2,7 +2,6 @@
 ghost use mathlib.Core.Path.{_≡_};
 ghost use mathlib.Core.Bool.{not};
 ghost use Prim.Native.Nat.{_+_, _-_, _*_, _≤_};
-ghost use lib.Dec.{ltb};
 ghost use lib.ListN.{length, getD, drop};
 ghost use Rattle.rules.specs.Pair.{isPair, receives};
 ghost use Rattle.rules.specs.Call.{granted};
@@ -167,7 +166,7 @@ pub fn records_formed(b: &[u8], count: usize, subjects: u8) -> bool
 }
 
 // Record `k` is of this pair.
-fn is_pair(b: &[u8], k: usize, giver: u8, receiver: u8) -> bool
+pub fn is_pair(b: &[u8], k: usize, giver: u8, receiver: u8) -> bool
     requires { ⌜ 132 + 8 * k + 8 ≤ length (now b) ⌝ }
     ensures { λ r. ⌜ r ≡ isPair giver receiver (delegationIn (drop (8 * k) (drop 132 (now (b .entry))))) ⌝ }
 {
@@ -273,21 +272,6 @@ pub fn place(b: &[u8], count: usize, giver: u8, receiver: u8) -> usize
     let mut k: usize = 0;
     while k < count {
         if is_before(b, k, giver, receiver) {
-            return k;
-        }
-        k += 1;
-    }
-    k
-}
-
-// How many records at the front have a smaller giver: where a giver's run starts.
-pub fn run_start(b: &[u8], count: usize, giver: u8) -> usize
-    requires { ⌜ 132 + 8 * count ≤ length (now b) ⌝ }
-    ensures { λ r. ⌜ r ≡ leading (λ d. ltb (d .giver) giver) (readAll delegationIn 8 (drop 132 (now (b .entry))) count) ⌝ }
-{
-    let mut k: usize = 0;
-    while k < count {
-        if self::giver(b, k) >= giver {
             return k;
         }
         k += 1;

@@ -16,7 +16,9 @@ pub fn limits_for(block: &[u8], receiver: usize, limits: &mut [i16], parents: &m
     ensures { λ _. ⌜ Searched steps (recordsIn (now (block .entry))) (marksOf (decode (now (block .entry))) receiver) (now (limits .exit)) (now (parents .exit)) ⌝ }
 {
     let table = rules::steps();
-    search::limits_for(block, &table, receiver, limits, parents);
+    let mut starts = [0u16; 65];
+    search::starts_of(block, &mut starts);
+    search::limits_for(block, &starts, &table, receiver, limits, parents);
 }
 
 // The reach of one pair.

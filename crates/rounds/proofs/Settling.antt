@@ -9,9 +9,11 @@ use native.Mathlib.Omega.{arith}
 use lib.IntN.{ℤ}
 use lib.ListN.{drop}
 use Rattle.rules.specs.Register.{Register, withDelegations}
+use Rattle.rules.specs.Table.{TableRule}
 use Rattle.rules.specs.Round.{round, SettlesIn, settle, total}
+use Rattle.rules.specs.Remainder.{Within}
 use Rattle.rules.specs.WellFormed.{WellFormed}
-use Rattle.rules.proofs.Rounds.{round-falls, settle-right, settles-unique}
+use Rattle.rules.proofs.Rounds.{round-falls, settle-right, settles-unique, settle-best}
 use Rattle.rules.proofs.WellFormed.{round-formed}
 use Rattle.rules.proofs.Ranges.{total-most}
 use Rattle.rules.proofs.Lists.{T-true}
@@ -113,3 +115,7 @@ module _ (t : List ℤ) (C : Register) (n : ℕ) (b : List ℕ) (s : GoingOn t C
           a ∙ ap encode F,
           ap wellFormed a ∙ T-true (wellFormed (encode (s .0))) (encode-formed (s .0) (s .2 .formed)),
         )
+
+    -- which is within the register that it began with
+    pub on-within : TableRule t → x ≡ false → Within (decode after) C
+    on-within rule e = subst (λ (F : Register). Within F C) (sym (on-end e .1)) (settle-best t rule C .remainder .within)

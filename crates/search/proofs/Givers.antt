@@ -1,13 +1,19 @@
 -- One giver's records: they stand together, and are handed over as a part. Assumes nothing.
-use mathlib.Core.Path.{_≡_, ap, subst}
+use mathlib.Core.Path.{_≡_, sym, ap, subst}
+use mathlib.Core.Logic.{_≢_, _⊎_, inl, inr}
+use mathlib.Core.Bool.{not}
 use mathlib.Core.List.{List}
 use Prim.Native.Nat.{ℕ, _+_, _*_, _-_, _/_, _≤_, _<_}
+use native.Mathlib.Nat.{le-refl}
 use native.Mathlib.Omega.{arith}
-use lib.ListN.{length, getD, drop, length-drop}
-use lib.Seq.{length-take-le}
+use borrow.Author.Count.{below-more}
+use lib.Dec.{T, ltb, ltb→lt, nltb→le}
+use lib.ListN.{length, getD, set, drop, length-drop}
+use lib.Seq.{length-take-le, getD-set-same, getD-set-other}
 use lib.IntN.{ℤ}
 use Rattle.rules.specs.Limit.{none}
 use Rattle.rules.specs.Register.{Delegation}
+use Rattle.rules.proofs.Lists.{either}
 use Rattle.search.specs.Search.{Lent}
 use Rattle.search.specs.Steps.{recordAt, Ran, Sought, part, Gave}
 use Rattle.search.proofs.Records.{record-part, delegation-mem}
@@ -23,15 +29,31 @@ module _ (s : List ℕ) (a e : ℕ) (h : a ≤ e) (l : e ≤ length s / 8) where
       let c : a + k < length s / 8 = omega (arith, part-count) in
       omega (arith, ap (λ (d : Delegation). d .receiver) (record-part s a (8 * e - 8 * a) k (omega (arith, part-count))), lent .receivers (recordAt s (8 * (a + k))) (delegation-mem s (length s / 8) (a + k) c))
 
-pub gave : (t : List ℤ) (s : List ℕ) (marks giver : ℕ) (l : List ℤ) (p : List ℕ) (l′ : List ℤ) (p′ : List ℕ) (a e : ℕ) (limit : ℤ) → Sought s 0 giver a → Sought s a (giver + 1) e
+-- the starts of one giver more
+pub starts-more : (s starts : List ℕ) (giver k : ℕ) → giver < length starts → ((g : ℕ) → g < giver → Sought s g (getD starts g 0)) → Sought s giver k
+    → (g : ℕ) → g < giver + 1 → Sought s g (getD (set starts giver k) g 0)
+starts-more s starts giver k h all new =
+    below-more (λ g. Sought s g (getD (set starts giver k) g 0)) giver
+    (λ g b. let n : g ≢ giver = λ e. omega arith in subst (Sought s g) (sym (getD-set-other starts giver g k 0 n)) (all g b))
+    (subst (Sought s giver) (sym (getD-set-same starts giver k 0 h)) new)
+
+-- a run does not end before it starts
+pub run-order : (s : List ℕ) (giver a e : ℕ) → Sought s giver a → Sought s (giver + 1) e → a ≤ e
+run-order s giver a e low high = go (either (ltb e a))
+  where
+    go : T (ltb e a) ⊎ T (not (ltb e a)) → a ≤ e
+    go (inl q) = absurd (omega (arith, ltb→lt e a q, low .within, low .below e (ltb→lt e a q), high .above e (le-refl e) (omega (arith, ltb→lt e a q, low .within))))
+    go (inr q) = nltb→le e a q
+
+pub gave : (t : List ℤ) (s : List ℕ) (marks giver : ℕ) (l : List ℤ) (p : List ℕ) (l′ : List ℤ) (p′ : List ℕ) (a e : ℕ) (limit : ℤ) → Sought s giver a → Sought s (giver + 1) e → a ≤ e
     → limit ≡ getD l giver none → Ran t limit marks (part s a e) a l p (length (part s a e) / 8) l′ p′ → Gave t s marks giver l p l′ p′
-gave t s marks giver l p l′ p′ a e limit low high q r = record {
+gave t s marks giver l p l′ p′ a e limit low high order q r = record {
   first = a;
   past = e;
-  order = high .from;
+  order = order;
   within = high .within;
   before = low .below;
   here = λ k h b. omega (arith, low .above k h (omega (arith, high .within)), high .below k b);
   after = λ k h b. omega (arith, high .above k h b);
-  ran = subst (λ (n : ℕ). Ran t (getD l giver none) marks (part s a e) a l p n l′ p′) (part-count s a e (high .from) (high .within)) (subst (λ (z : ℤ). Ran t z marks (part s a e) a l p (length (part s a e) / 8) l′ p′) q r);
+  ran = subst (λ (n : ℕ). Ran t (getD l giver none) marks (part s a e) a l p n l′ p′) (part-count s a e order (high .within)) (subst (λ (z : ℤ). Ran t z marks (part s a e) a l p (length (part s a e) / 8) l′ p′) q r);
 }

@@ -40,12 +40,16 @@ pub data Ran (t : List ℤ) (limit : ℤ) (marks : ℕ) (run : List ℕ) (first 
   ran-more : {k : ℕ} {l′ : List ℤ} {p′ : List ℕ} {l″ : List ℤ} {p″ : List ℕ} → Ran t limit marks run first l p k l′ p′ → Stepped t limit marks (recordAt run (8 * k)) (first + k) l′ p′ l″ p″
       → Ran t limit marks run first l p (suc k) l″ p″
 
--- r is the place of the first record from `low` on whose giver is not below `bound`
-pub record Sought (s : List ℕ) (low bound r : ℕ) : Type 0 where
-  pub from : low ≤ r
+-- r is the place of the first record whose giver is not below `bound`, or the number of records
+pub record Sought (s : List ℕ) (bound r : ℕ) : Type 0 where
   pub within : r ≤ length s / 8
   pub below : (k : ℕ) → k < r → getD s (8 * k) 0 < bound
   pub above : (k : ℕ) → r ≤ k → k < length s / 8 → bound ≤ getD s (8 * k) 0
+
+-- entry g is the place where the run of the giver g starts, entry 64 where the last run ends
+pub record Starts (s starts : List ℕ) : Type 0 where
+  pub size : length starts ≡ 65
+  pub each : (g : ℕ) → g < 65 → Sought s g (getD starts g 0)
 
 -- the records from place a to place e
 abbrev pub part : List ℕ → ℕ → ℕ → List ℕ

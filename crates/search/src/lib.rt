@@ -3,7 +3,7 @@ ghost use mathlib.Core.Path.{_≡_};
 ghost use Prim.Native.Nat.{_/_};
 ghost use lib.ListN.{length};
 ghost use Rattle.search.specs.Search.{Lent};
-ghost use Rattle.search.specs.Steps.{Started};
+ghost use Rattle.search.specs.Steps.{Started, Starts};
 ghost use Rattle.search.specs.Found.{Searched};
 
 mod heavy;
@@ -14,6 +14,7 @@ mod run;
 pub use links::write_links;
 pub use on_block::limits_for;
 pub use on_block::reach_of;
+pub use on_block::starts_of;
 
 // 255 at the owner, none elsewhere, no parents.
 fn start(limits: &mut [i16], parents: &mut [u16])
@@ -31,8 +32,15 @@ fn start(limits: &mut [i16], parents: &mut [u16])
 
 // The reach of every subject, and for each subject that has one the place of the record by which it is reached.
 // Subjects are settled from the largest limit down.
-pub fn search(records: &[u8], table: &[i16], marks: u16, limits: &mut [i16], parents: &mut [u16])
-    requires { ⌜ Lent (now table) (now records) (length (now records) / 8) × (length (now limits) ≡ 64) × (length (now parents) ≡ 64) ⌝ }
+pub fn search(
+    records: &[u8],
+    starts: &[u16],
+    table: &[i16],
+    marks: u16,
+    limits: &mut [i16],
+    parents: &mut [u16],
+)
+    requires { ⌜ Lent (now table) (now records) (length (now records) / 8) × Starts (now records) (now starts) × (length (now limits) ≡ 64) × (length (now parents) ≡ 64) ⌝ }
     ensures { λ _. ⌜ Searched (now (table .entry)) (now (records .entry)) marks (now (limits .exit)) (now (parents .exit)) ⌝ }
 {
     start(limits, parents);
@@ -40,7 +48,7 @@ pub fn search(records: &[u8], table: &[i16], marks: u16, limits: &mut [i16], par
     let mut u = heavy::heaviest(limits, &settled);
     while u < 64 {
         settled[u] = 1;
-        run::relax_giver(records, u, marks, table, limits, parents);
+        run::relax_giver(records, starts, u, marks, table, limits, parents);
         u = heavy::heaviest(limits, &settled);
     }
 }

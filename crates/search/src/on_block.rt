@@ -9,18 +9,31 @@ ghost use Rattle.rules.specs.Reach.{reach};
 ghost use Rattle.block.specs.Block.{subjectsIn, recordsIn, decode};
 ghost use Rattle.block.specs.WellFormed.{wellFormed};
 ghost use Rattle.search.specs.Found.{Searched};
+ghost use Rattle.search.specs.Steps.{Starts};
+use crate::run;
 use crate::search;
 use block::layout;
+
+// Where the run of each giver starts.
+pub fn starts_of(block: &[u8], starts: &mut [u16])
+    requires { ⌜ (wellFormed (now block) ≡ true) × (length (now starts) ≡ 65) ⌝ }
+    ensures { λ _. ⌜ Starts (recordsIn (now (block .entry))) (now (starts .exit)) ⌝ }
+{
+    let n = block::count(block);
+    let end = layout::RECORDS_AT + layout::RECORD_SIZE * n;
+    run::fill_starts(&block[layout::RECORDS_AT..end], starts);
+}
 
 // The reach of every subject for a receiver, and the parents by which each is reached.
 pub fn limits_for(
     block: &[u8],
+    starts: &[u16],
     table: &[i16],
     receiver: usize,
     limits: &mut [i16],
     parents: &mut [u16],
 )
-    requires { ⌜ (wellFormed (now block) ≡ true) × TableRule (now table) × (receiver < subjectsIn (now block)) × (length (now limits) ≡ 64) × (length (now parents) ≡ 64) ⌝ }
+    requires { ⌜ (wellFormed (now block) ≡ true) × Starts (recordsIn (now block)) (now starts) × TableRule (now table) × (receiver < subjectsIn (now block)) × (length (now limits) ≡ 64) × (length (now parents) ≡ 64) ⌝ }
     ensures { λ _. ⌜ Searched (now (table .entry)) (recordsIn (now (block .entry))) (marksOf (decode (now (block .entry))) receiver) (now (limits .exit)) (now (parents .exit)) ⌝ }
 {
     let n = block::count(block);
@@ -28,6 +41,7 @@ pub fn limits_for(
     let end = layout::RECORDS_AT + layout::RECORD_SIZE * n;
     search(
         &block[layout::RECORDS_AT..end],
+        starts,
         table,
         marks,
         limits,
@@ -40,8 +54,10 @@ pub fn reach_of(block: &[u8], table: &[i16], giver: usize, receiver: usize) -> i
     requires { ⌜ (wellFormed (now block) ≡ true) × TableRule (now table) × (giver < subjectsIn (now block)) × (receiver < subjectsIn (now block)) ⌝ }
     ensures { λ r. ⌜ r ≡ reach (now (table .entry)) (decode (now (block .entry))) giver receiver ⌝ }
 {
+    let mut starts = [0u16; 65];
+    starts_of(block, &mut starts);
     let mut limits = [-1i16; 64];
     let mut parents = [0u16; 64];
-    limits_for(block, table, receiver, &mut limits, &mut parents);
+    limits_for(block, &starts, table, receiver, &mut limits, &mut parents);
     limits[giver]
 }

@@ -4,7 +4,7 @@ ghost use Prim.Native.Nat.{ℕ, _+_, _*_, _/_, _≤_, _<_};
 ghost use lib.ListN.{length, getD};
 ghost use Rattle.rules.specs.WellFormed.{Rising};
 ghost use Rattle.search.specs.Search.{Lent};
-ghost use Rattle.search.specs.Steps.{recordAt, Stepped, Ran, Sought, Gave};
+ghost use Rattle.search.specs.Steps.{recordAt, Stepped, Ran, Sought, Starts, Gave};
 ghost use Rattle.search.specs.Found.{delegationsIn};
 use block::layout;
 
@@ -64,10 +64,10 @@ fn relax_run(
     }
 }
 
-// The place of the first record from `low` on whose giver is not below `bound`.
+// The place of the first record whose giver is not below `bound`, sought from `low` on.
 fn seek(records: &[u8], low: usize, bound: usize) -> usize
     requires { ⌜ (low ≤ length (now records) / 8) × ((k : ℕ) → k < low → getD (now records) (8 * k) 0 < bound) × Rising (delegationsIn (now records)) ⌝ }
-    ensures { λ r. ⌜ Sought (now (records .entry)) low bound r ⌝ }
+    ensures { λ r. ⌜ Sought (now (records .entry)) bound r ⌝ }
 {
     let n = records.len() / layout::RECORD_SIZE;
     let mut k = low;
@@ -81,20 +81,35 @@ fn seek(records: &[u8], low: usize, bound: usize) -> usize
     k
 }
 
+// Where the run of each giver starts, in one pass: each is sought from the one before it.
+pub fn fill_starts(records: &[u8], starts: &mut [u16])
+    requires { ⌜ (length (now records) / 8 ≤ 256) × Rising (delegationsIn (now records)) × (length (now starts) ≡ 65) ⌝ }
+    ensures { λ _. ⌜ Starts (now (records .entry)) (now (starts .exit)) ⌝ }
+{
+    let mut k: usize = 0;
+    let mut giver: usize = 0;
+    while giver < 65 {
+        k = seek(records, k, giver);
+        starts[giver] = k as u16;
+        giver += 1;
+    }
+}
+
 // All records of one giver: they stand together, since records rise.
 pub fn relax_giver(
     records: &[u8],
+    starts: &[u16],
     giver: usize,
     marks: u16,
     table: &[i16],
     limits: &mut [i16],
     parents: &mut [u16],
 )
-    requires { ⌜ Lent (now table) (now records) (length (now records) / 8) × (giver < 64) × (length (now limits) ≡ 64) × (length (now parents) ≡ 64) ⌝ }
+    requires { ⌜ Lent (now table) (now records) (length (now records) / 8) × Starts (now records) (now starts) × (giver < 64) × (length (now limits) ≡ 64) × (length (now parents) ≡ 64) ⌝ }
     ensures { λ _. ⌜ Gave (now (table .entry)) (now (records .entry)) marks giver (now (limits .entry)) (now (parents .entry)) (now (limits .exit)) (now (parents .exit)) ⌝ }
 {
-    let a = seek(records, 0, giver);
-    let e = seek(records, a, giver + 1);
+    let a = starts[giver] as usize;
+    let e = starts[giver + 1] as usize;
     let limit = limits[giver];
     relax_run(
         &records[layout::RECORD_SIZE * a..layout::RECORD_SIZE * e],

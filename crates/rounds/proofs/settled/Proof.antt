@@ -1,17 +1,19 @@
 -- `rounds::settled` makes rounds until one changes nothing. Assumes nothing.
 use borrow.Author.Needs.{needs}
-use mathlib.Core.Path.{_≡_, refl, ap, _∙_}
-use Prim.Native.Nat.{suc}
+use mathlib.Core.Path.{_≡_, refl, sym, ap, subst, _∙_}
+use mathlib.Core.List.{List}
+use Prim.Native.Nat.{ℕ, suc}
 use native.Mathlib.Numerals.{add-one}
 use native.Mathlib.Omega.{arith}
 use lib.ListN.{length}
 use Rattle.rules.specs.Round.{total}
+use Rattle.rules.specs.Remainder.{Within}
 use Rattle.rules.specs.Cut.{dropped, lowered}
 use Rattle.block.specs.Block.{decode}
 use Rattle.block.specs.WellFormed.{wellFormed}
 use Rattle.block.proofs.Bytes.{fits-bytes}
 use Rattle.block.proofs.Held.{size-held, held-formed}
-use Rattle.rounds.proofs.Settling.{GoingOn, on-first, on-formed, on-few, on-more, on-falls, on-end}
+use Rattle.rounds.proofs.Settling.{GoingOn, on-first, on-formed, on-few, on-more, on-falls, on-end, on-within}
 use Rattle.rounds.proofs.settled.Statement.{statement}
 use Rattle.rounds.proofs.settled.Tie as tie
 
@@ -69,7 +71,9 @@ counts-requires c κs =
     let l = c .before .before .before .before .before .before .before .loop in
     let o = c .before .before .before .before .before .round in
     let e = on-end (s .args .table .now) (decode (s .args .block .now)) (l .changed) (l .block) (l .inv .1) (o .result) (o .last .0) (o .ensures) (c .before .before .if1 .left) in
-    (ap wellFormed (c .before .before .before .before .before .before .before .before .before .copy .ensures) ∙ s .pre .0, e .3)
+    let w = on-within (s .args .table .now) (decode (s .args .block .now)) (l .changed) (l .block) (l .inv .1) (o .result) (o .last .0) (o .ensures) (s .pre .1) (c .before .before .if1 .left) in
+    let b = c .before .before .before .before .before .before .before .before .before .copy .ensures in
+    (ap wellFormed b ∙ s .pre .0, e .3, subst (λ (x : List ℕ). Within (decode (o .last .0)) (decode x)) (sym b) w)
 
 add-t18 : tie.Need-add-t18 Inv-loop μ-loop
 add-t18 c =

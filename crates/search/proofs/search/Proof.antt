@@ -10,28 +10,28 @@ use Rattle.search.proofs.search.Statement.{statement}
 use Rattle.search.proofs.search.Tie as tie
 
 abbrev Inv-loop : tie.InvT-loop
-Inv-loop records table marks limits₀ parents₀ settled₀ u₀ limits parents settled u =
+Inv-loop records starts table marks limits₀ parents₀ settled₀ u₀ limits parents settled u =
     (length settled ≡ 64) × State table records marks (isSettled settled) limits parents [] × Heaviest limits settled 64 u
 
 abbrev μ-loop : tie.MeasureT-loop
-μ-loop records table marks limits₀ parents₀ settled₀ u₀ limits parents settled u = unsettled settled
+μ-loop records starts table marks limits₀ parents₀ settled₀ u₀ limits parents settled u = unsettled settled
 
 start-requires : tie.Need-start-requires Inv-loop μ-loop
-start-requires c κs = (c .before .before .before .before .pre .1, c .before .before .before .before .pre .2)
+start-requires c κs = (c .before .before .before .before .before .pre .2, c .before .before .before .before .before .pre .3)
 
 slice-aggregate-heaviest : tie.Need-slice-aggregate-heaviest Inv-loop μ-loop
 slice-aggregate-heaviest c = refl
 
 heaviest-requires : tie.Need-heaviest-requires Inv-loop μ-loop
 heaviest-requires c κs =
-    (c .before .before .before .before .before .start .kept .0 ∙ c .before .before .before .before .before .before .before .before .before .before .pre .1, refl)
+    (c .before .before .before .before .before .start .kept .0 ∙ c .before .before .before .before .before .before .before .before .before .before .before .pre .2, refl)
 
 loop-holds : tie.Need-loop-holds Inv-loop μ-loop
 loop-holds c =
-    let s = c .before .before .before .before .before .before .before .before .before .before .before in
+    let s = c .before .before .before .before .before .before .before .before .before .before .before .before in
     let f = c .before .before .before .before .before .before .start in (
       refl,
-      state-start (s .args .table .now) (s .args .records .now) (s .pre .0) (s .args .marks) _ _ (f .kept .0 ∙ s .pre .1) (f .kept .1 .0 ∙ s .pre .2) (f .ensures),
+      state-start (s .args .table .now) (s .args .records .now) (s .pre .0) (s .args .marks) _ _ (f .kept .0 ∙ s .pre .2) (f .kept .1 .0 ∙ s .pre .3) (f .ensures),
       c .heaviest .ensures,
     )
 
@@ -41,7 +41,8 @@ array-write-settled c = omega arith
 relax-giver-requires : tie.Need-relax-giver-requires Inv-loop μ-loop
 relax-giver-requires c κs =
     let v = c .before .before .before .loop .inv in
-    (c .before .before .before .before .before .before .before .before .before .before .before .before .before .before .before .pre .0, c .before .before .loop-test .taken, v .1 .limits, v .1 .parents)
+    let q = c .before .before .before .before .before .before .before .before .before .before .before .before .before .before .before .before .pre in
+    (q .0, q .1, c .before .before .loop-test .taken, v .1 .limits, v .1 .parents)
 
 slice-aggregate-heaviest-2 : tie.Need-slice-aggregate-heaviest-2 Inv-loop μ-loop
 slice-aggregate-heaviest-2 c = simp length-set (sym (c .before .before .before .before .before .before .before .before .before .loop .inv .0))
@@ -49,7 +50,7 @@ slice-aggregate-heaviest-2 c = simp length-set (sym (c .before .before .before .
 heaviest-requires-2 : tie.Need-heaviest-requires-2 Inv-loop μ-loop
 heaviest-requires-2 c κs =
     let v = c .before .before .before .before .before .before .before .before .before .loop .inv in
-    (c .before .before .before .before .before .relax-giver .kept .1 .1 .1 .1 .0 ∙ v .1 .limits, simp length-set (v .0))
+    (c .before .before .before .before .before .relax-giver .kept .1 .1 .1 .1 .1 .0 ∙ v .1 .limits, simp length-set (v .0))
 
 loop-less : tie.Need-loop-less Inv-loop μ-loop
 loop-less c =
@@ -58,7 +59,7 @@ loop-less c =
 
 loop-again : tie.Need-loop-again Inv-loop μ-loop
 loop-again c =
-    let s = c .before .before .before .before .before .before .before .before .before .before .before .before .before .before .before .before .before .before .before .before .before .before in
+    let s = c .before .before .before .before .before .before .before .before .before .before .before .before .before .before .before .before .before .before .before .before .before .before .before in
     let v = c .before .before .before .before .before .before .before .before .before .before .loop in (
       simp length-set (v .inv .0),
       state-settle (s .args .table .now) (s .args .records .now) (s .pre .0) (s .args .marks) (v .settled) (v .limits) (v .parents) (v .inv .1) (v .u) (v .inv .2)
@@ -67,14 +68,14 @@ loop-again c =
     )
 
 same-length : tie.Need-same-length Inv-loop μ-loop
-same-length c = c .before .loop .inv .1 .limits ∙ sym (c .before .before .before .before .before .before .before .before .before .before .before .before .before .pre .1)
+same-length c = c .before .loop .inv .1 .limits ∙ sym (c .before .before .before .before .before .before .before .before .before .before .before .before .before .before .pre .2)
 
 same-length-2 : tie.Need-same-length-2 Inv-loop μ-loop
-same-length-2 c = c .before .loop .inv .1 .parents ∙ sym (c .before .before .before .before .before .before .before .before .before .before .before .before .before .pre .2)
+same-length-2 c = c .before .loop .inv .1 .parents ∙ sym (c .before .before .before .before .before .before .before .before .before .before .before .before .before .before .pre .3)
 
 returns : tie.Need-returns Inv-loop μ-loop
 returns c =
-    let s = c .before .before .before .before .before .before .before .before .before .before .before .before .before in
+    let s = c .before .before .before .before .before .before .before .before .before .before .before .before .before .before in
     let v = c .before .loop in
     state-end (s .args .table .now) (s .args .records .now) (s .pre .0) (s .args .marks)
     (v .settled) (v .limits) (v .parents) (v .inv .1) (v .u) (v .inv .2) (c .loop-test .left)

@@ -14,10 +14,10 @@ use Rattle.rounds.proofs.reaches.fill_reaches.Statement.{statement}
 use Rattle.rounds.proofs.reaches.fill_reaches.Tie as tie
 
 abbrev Inv-loop : tie.InvT-loop
-Inv-loop block table reaches₀ n records receiver₀ reaches receiver = (length reaches ≡ 4096) × (receiver ≤ n) × Filled table (decode block) receiver reaches
+Inv-loop block table reaches₀ n records starts receiver₀ reaches receiver = (length reaches ≡ 4096) × (receiver ≤ n) × Filled table (decode block) receiver reaches
 
 abbrev μ-loop : tie.MeasureT-loop
-μ-loop block table reaches₀ n records receiver₀ reaches receiver = n - receiver
+μ-loop block table reaches₀ n records starts receiver₀ reaches receiver = n - receiver
 
 subjects-requires : tie.Need-subjects-requires Inv-loop μ-loop
 subjects-requires c κs =
@@ -29,25 +29,34 @@ count-requires c κs =
     let s = c .before .before in
     omega (arith, size-held (s .args .block .now) (fits-bytes (s .args .block .now) (c .before .shared-slice-known .given)) (s .pre .0))
 
+slice-aggregate-starts-of : tie.Need-slice-aggregate-starts-of Inv-loop μ-loop
+slice-aggregate-starts-of c = search needs
+
+starts-of-requires : tie.Need-starts-of-requires Inv-loop μ-loop
+starts-of-requires c κs = search needs
+
 loop-holds : tie.Need-loop-holds Inv-loop μ-loop
 loop-holds c =
-    let s = c .before .before .before in
+    let s = c .before .before .before .before .before .before in
     (s .pre .2, omega arith, filled-none (s .args .table .now) (decode (s .args .block .now)) (s .args .reaches .now))
 
 receives-requires : tie.Need-receives-requires Inv-loop μ-loop
 receives-requires c κs =
-    let s = c .before .before .before .before .before in
-    let g = fits-bytes (s .args .block .now) (c .before .before .before .before .shared-slice-known .given) in
-    omega (arith, size-held (s .args .block .now) g (s .pre .0), count-most (s .args .block .now) g (s .pre .0), c .before .before .count .ensures)
+    let s = c .before .before .before .before .before .before .before .before in
+    let g = fits-bytes (s .args .block .now) (c .before .before .before .before .before .before .before .shared-slice-known .given) in
+    omega (arith, size-held (s .args .block .now) g (s .pre .0), count-most (s .args .block .now) g (s .pre .0), c .before .before .before .before .before .count .ensures)
+
+slice-aggregate-fill-row : tie.Need-slice-aggregate-fill-row Inv-loop μ-loop
+slice-aggregate-fill-row c = search needs
 
 cast-fill-row : tie.Need-cast-fill-row Inv-loop μ-loop
 cast-fill-row c = search needs
 
 fill-row-requires : tie.Need-fill-row-requires Inv-loop μ-loop
 fill-row-requires c κs =
-    let s = c .before .before .before .before .before .before .before .before in
-    let l = c .before .before .before .before in
-    (s .pre .0, s .pre .1, omega (arith, l .before .before .subjects .ensures, c .before .before .before .loop-test .taken), l .loop .inv .0)
+    let s = c .before .before .before .before .before .before .before .before .before .before .before .before in
+    let l = c .before .before .before .before .before in
+    (s .pre .0, l .before .before .starts-of .ensures, s .pre .1, omega (arith, l .before .before .before .before .before .subjects .ensures, c .before .before .before .before .loop-test .taken), l .loop .inv .0)
 
 add-receiver : tie.Need-add-receiver Inv-loop μ-loop
 add-receiver c = search needs
@@ -57,25 +66,25 @@ loop-less c = omega arith
 
 loop-again : tie.Need-loop-again Inv-loop μ-loop
 loop-again c =
-    let s = c .before .before .before .before .before .before .before in
-    let g = fits-bytes (s .args .block .now) (c .before .before .before .before .before .before .shared-slice-known .given) in
+    let s = c .before .before .before .before .before .before .before .before .before .before in
+    let g = fits-bytes (s .args .block .now) (c .before .before .before .before .before .before .before .before .before .shared-slice-known .given) in
     let l = c .before .before .before .loop in
     let R = decode (s .args .block .now) in
-    let e : c .before .receives .result ≡ receives (l .receiver) (decode (s .args .block .now) .delegations) = rw (delegations-held (s .args .block .now) g (s .pre .0), ← c .before .before .before .before .count .ensures) (c .before .receives .ensures) in
+    let e : c .before .receives .result ≡ receives (l .receiver) (decode (s .args .block .now) .delegations) = rw (delegations-held (s .args .block .now) g (s .pre .0), ← c .before .before .before .before .before .before .before .count .ensures) (c .before .receives .ensures) in
     ⊎-elim
-    (λ w. (rw (w .4) (w .2 .kept .1 .1 .1 .0 ∙ l .inv .0), omega arith, rw (w .4) (filled-on (s .args .table .now) R (l .receiver) (l .reaches) (w .2 .last .1 .1 .1 .0) (l .inv .2) (w .2 .ensures .0) (w .2 .ensures .1))))
+    (λ w. (rw (w .5) (w .3 .kept .1 .1 .1 .1 .0 ∙ l .inv .0), omega arith, rw (w .5) (filled-on (s .args .table .now) R (l .receiver) (l .reaches) (w .3 .last .1 .1 .1 .1 .0) (l .inv .2) (w .3 .ensures .0) (w .3 .ensures .1))))
     (λ w. (rw (w .1) (l .inv .0), omega arith, rw (w .1) (filled-skip (s .args .table .now) R (l .receiver) (l .reaches) (l .inv .2) (sym e ∙ w .0 .left))))
     (c .if1 .came)
 
 same-length : tie.Need-same-length Inv-loop μ-loop
-same-length c = c .before .loop .inv .0 ∙ sym (c .before .before .before .before .before .pre .2)
+same-length c = c .before .loop .inv .0 ∙ sym (c .before .before .before .before .before .before .before .before .pre .2)
 
 returns : tie.Need-returns Inv-loop μ-loop
 returns c =
-    let s = c .before .before .before .before .before in
-    let g = fits-bytes (s .args .block .now) (c .before .before .before .before .shared-slice-known .given) in
+    let s = c .before .before .before .before .before .before .before .before in
+    let g = fits-bytes (s .args .block .now) (c .before .before .before .before .before .before .before .shared-slice-known .given) in
     let l = c .before .loop in
-    let e : l .receiver ≡ decode (s .args .block .now) .subjects = omega (arith, l .inv .1, c .before .before .before .subjects .ensures, subjects-held (s .args .block .now) g (s .pre .0)) in
+    let e : l .receiver ≡ decode (s .args .block .now) .subjects = omega (arith, l .inv .1, c .before .before .before .before .before .before .subjects .ensures, subjects-held (s .args .block .now) g (s .pre .0)) in
     filled-tabled (s .args .table .now) (decode (s .args .block .now)) (held-formed (s .args .block .now) g (s .pre .0)) (l .receiver) e (l .reaches) (l .inv .2)
 
 pub fill-reaches-spec : {M : Type 1} → statement M
@@ -86,8 +95,11 @@ fill-reaches-spec =
     μ-loop
     subjects-requires
     count-requires
+    slice-aggregate-starts-of
+    starts-of-requires
     loop-holds
     receives-requires
+    slice-aggregate-fill-row
     cast-fill-row
     fill-row-requires
     add-receiver

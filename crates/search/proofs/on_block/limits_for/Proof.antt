@@ -11,21 +11,21 @@ use Rattle.search.proofs.on_block.limits_for.Statement.{statement}
 use Rattle.search.proofs.on_block.limits_for.Tie as tie
 
 count-requires : tie.Need-count-requires
-count-requires c κs = omega (arith, size-held (c .before .before .args .block .now) (fits-bytes (c .before .before .args .block .now) (c .before .shared-slice-known .given)) (c .before .before .pre .0))
+count-requires c κs = omega (arith, size-held (c .before .before .before .args .block .now) (fits-bytes (c .before .before .before .args .block .now) (c .before .before .shared-slice-known .given)) (c .before .before .before .pre .0))
 
 marks-requires : tie.Need-marks-requires
 marks-requires c κs =
-    let s = c .before .before .before in
+    let s = c .before .before .before .before in
     let a = s .args in
     let b = a .block .now in
-    let bytes = fits-bytes b (c .before .before .shared-slice-known .given) in
-    omega (arith, size-held b bytes (s .pre .0), rules-of b bytes (s .pre .0) .most, s .pre .2)
+    let bytes = fits-bytes b (c .before .before .before .shared-slice-known .given) in
+    omega (arith, size-held b bytes (s .pre .0), rules-of b bytes (s .pre .0) .most, s .pre .3)
 
 mul-end : tie.Need-mul-end
-mul-end c = omega (arith, count-most (c .before .before .before .before .args .block .now) (fits-bytes (c .before .before .before .before .args .block .now) (c .before .before .before .shared-slice-known .given)) (c .before .before .before .before .pre .0), c .before .count .ensures)
+mul-end c = omega (arith, count-most (c .before .before .before .before .before .args .block .now) (fits-bytes (c .before .before .before .before .before .args .block .now) (c .before .before .before .before .shared-slice-known .given)) (c .before .before .before .before .before .pre .0), c .before .count .ensures)
 
 add-end : tie.Need-add-end
-add-end c = omega (arith, count-most (c .before .before .before .before .args .block .now) (fits-bytes (c .before .before .before .before .args .block .now) (c .before .before .before .shared-slice-known .given)) (c .before .before .before .before .pre .0), c .before .count .ensures)
+add-end c = omega (arith, count-most (c .before .before .before .before .before .args .block .now) (fits-bytes (c .before .before .before .before .before .args .block .now) (c .before .before .before .before .shared-slice-known .given)) (c .before .before .before .before .before .pre .0), c .before .count .ensures)
 
 sub-search : tie.Need-sub-search
 sub-search c = search needs
@@ -35,16 +35,19 @@ part-search-start c = search needs
 
 part-search-end : tie.Need-part-search-end
 part-search-end c =
-    let s = c .before .before .before .before in
+    let s = c .before .before .before .before .before in
     let a = s .args in
     let b = a .block .now in
-    let bytes = fits-bytes b (c .before .before .before .shared-slice-known .given) in
+    let bytes = fits-bytes b (c .before .before .before .before .shared-slice-known .given) in
     omega (arith, size-held b bytes (s .pre .0), count-most b bytes (s .pre .0), c .before .count .ensures)
 
 search-requires : tie.Need-search-requires
 search-requires c κs =
-    let e : 132 + 8 * c .before .before .before .before .count .result - 132 ≡ 8 * countIn (c .before .before .before .before .before .before .before .args .block .now) = omega (arith, c .before .before .before .before .count .ensures) in
-    rw e (lent-held (c .before .before .before .before .before .before .before .args .block .now) (fits-bytes (c .before .before .before .before .before .before .before .args .block .now) (c .before .before .before .before .before .before .shared-slice-known .given)) (c .before .before .before .before .before .before .before .pre .0) (c .before .before .before .before .before .before .before .args .table .now) (c .before .before .before .before .before .before .before .pre .1), c .before .before .before .before .before .before .before .pre .3, c .before .before .before .before .before .before .before .pre .4)
+    let s = c .before .before .before .before .before .before .before .before in
+    let b = s .args .block .now in
+    let bytes = fits-bytes b (c .before .before .before .before .before .before .before .shared-slice-known .given) in
+    let e : 132 + 8 * c .before .before .before .before .count .result - 132 ≡ 8 * countIn b = omega (arith, c .before .before .before .before .count .ensures) in
+    rw e (lent-held b bytes (s .pre .0) (s .args .table .now) (s .pre .2), s .pre .1, s .pre .4, s .pre .5)
 
 same-length : tie.Need-same-length
 same-length c = search needs
@@ -54,8 +57,11 @@ same-length-2 c = search needs
 
 returns : tie.Need-returns
 returns c =
-    let e : 132 + 8 * c .before .before .before .before .before .before .before .before .count .result - 132 ≡ 8 * countIn (c .before .before .before .before .before .before .before .before .before .before .before .args .block .now) = omega (arith, c .before .before .before .before .before .before .before .before .count .ensures) in
-    rw (e, c .before .before .before .before .before .before .before .marks .ensures, marks-held (c .before .before .before .before .before .before .before .before .before .before .before .args .block .now) (fits-bytes (c .before .before .before .before .before .before .before .before .before .before .before .args .block .now) (c .before .before .before .before .before .before .before .before .before .before .shared-slice-known .given)) (c .before .before .before .before .before .before .before .before .before .before .before .pre .0) (c .before .before .before .before .before .before .before .before .before .before .before .args .receiver) (c .before .before .before .before .before .before .before .before .before .before .before .pre .2)) at (c .before .before .before .search .ensures)
+    let s = c .before .before .before .before .before .before .before .before .before .before .before .before in
+    let b = s .args .block .now in
+    let bytes = fits-bytes b (c .before .before .before .before .before .before .before .before .before .before .before .shared-slice-known .given) in
+    let e : 132 + 8 * c .before .before .before .before .before .before .before .before .count .result - 132 ≡ 8 * countIn b = omega (arith, c .before .before .before .before .before .before .before .before .count .ensures) in
+    rw (e, c .before .before .before .before .before .before .before .marks .ensures, marks-held b bytes (s .pre .0) (s .args .receiver) (s .pre .3)) at (c .before .before .before .search .ensures)
 
 pub limits-for-spec : {M : Type 1} → statement M
 limits-for-spec =

@@ -1,21 +1,33 @@
 -- `search::run::relax_giver` takes the step of each of a giver's records, all of them and no others. Assumes nothing.
+use Prim.Native.Nat.{_+_}
 use native.Mathlib.Omega.{arith}
 use borrow.Author.Needs.{needs}
+use lib.ListN.{getD}
 use Rattle.search.proofs.Signed.{read-limit}
-use Rattle.search.proofs.Givers.{part-count, part-receivers, gave}
+use Rattle.search.proofs.Givers.{part-count, part-receivers, run-order, gave}
 use Rattle.search.proofs.run.relax_giver.Statement.{statement}
 use Rattle.search.proofs.run.relax_giver.Tie as tie
 
-seek-requires : tie.Need-seek-requires
-seek-requires c κs = search needs
+mul-a : tie.Need-mul-a
+mul-a c = search needs
 
-add-seek : tie.Need-add-seek
-add-seek c = search needs
+shared-slice-read-a : tie.Need-shared-slice-read-a
+shared-slice-read-a c = search needs
 
-seek-requires-2 : tie.Need-seek-requires-2
-seek-requires-2 c κs =
-    let f = c .seek .ensures in
-    (f .within, (λ k h. omega (arith, f .below k h)), c .before .before .before .pre .0 .rising)
+cast-a : tie.Need-cast-a
+cast-a c = omega (arith, c .shared-slice-known3 .given (c .before .before .before .before .args .giver))
+
+add-e : tie.Need-add-e
+add-e c = search needs
+
+mul-e : tie.Need-mul-e
+mul-e c = search needs
+
+shared-slice-read-e : tie.Need-shared-slice-read-e
+shared-slice-read-e c = search needs
+
+cast-e : tie.Need-cast-e
+cast-e c = omega (arith, c .shared-slice-known4 .given (c .before .before .before .before .before .args .giver + 1))
 
 mul-limit : tie.Need-mul-limit
 mul-limit c = search needs
@@ -24,32 +36,66 @@ slice-copy-out-limit : tie.Need-slice-copy-out-limit
 slice-copy-out-limit c = search needs
 
 mul-relax-run : tie.Need-mul-relax-run
-mul-relax-run c = search needs
+mul-relax-run c =
+    let s = c .before .before .before .before .before .before in
+    let a = s .args in
+    let g = a .giver in
+    let low = s .pre .1 .each g (omega (arith, s .pre .2)) in
+    let high = s .pre .1 .each (g + 1) (omega (arith, s .pre .2)) in
+    omega (arith, low .within, high .within, run-order (a .records .now) g (getD (a .starts .now) g 0) (getD (a .starts .now) (g + 1) 0) low high, s .pre .0 .size, s .pre .0 .few)
 
 mul-relax-run-2 : tie.Need-mul-relax-run-2
-mul-relax-run-2 c = search needs
+mul-relax-run-2 c =
+    let s = c .before .before .before .before .before .before in
+    let a = s .args in
+    let g = a .giver in
+    let low = s .pre .1 .each g (omega (arith, s .pre .2)) in
+    let high = s .pre .1 .each (g + 1) (omega (arith, s .pre .2)) in
+    omega (arith, low .within, high .within, run-order (a .records .now) g (getD (a .starts .now) g 0) (getD (a .starts .now) (g + 1) 0) low high, s .pre .0 .size, s .pre .0 .few)
 
 sub-relax-run : tie.Need-sub-relax-run
-sub-relax-run c = search needs
+sub-relax-run c =
+    let s = c .before .before .before .before .before .before in
+    let a = s .args in
+    let g = a .giver in
+    let low = s .pre .1 .each g (omega (arith, s .pre .2)) in
+    let high = s .pre .1 .each (g + 1) (omega (arith, s .pre .2)) in
+    omega (arith, low .within, high .within, run-order (a .records .now) g (getD (a .starts .now) g 0) (getD (a .starts .now) (g + 1) 0) low high, s .pre .0 .size, s .pre .0 .few)
 
 part-relax-run-start : tie.Need-part-relax-run-start
-part-relax-run-start c = search needs
+part-relax-run-start c =
+    let s = c .before .before .before .before .before .before in
+    let a = s .args in
+    let g = a .giver in
+    let low = s .pre .1 .each g (omega (arith, s .pre .2)) in
+    let high = s .pre .1 .each (g + 1) (omega (arith, s .pre .2)) in
+    omega (arith, low .within, high .within, run-order (a .records .now) g (getD (a .starts .now) g 0) (getD (a .starts .now) (g + 1) 0) low high, s .pre .0 .size, s .pre .0 .few)
 
 part-relax-run-end : tie.Need-part-relax-run-end
-part-relax-run-end c = search needs
+part-relax-run-end c =
+    let s = c .before .before .before .before .before .before in
+    let a = s .args in
+    let g = a .giver in
+    let low = s .pre .1 .each g (omega (arith, s .pre .2)) in
+    let high = s .pre .1 .each (g + 1) (omega (arith, s .pre .2)) in
+    omega (arith, low .within, high .within, run-order (a .records .now) g (getD (a .starts .now) g 0) (getD (a .starts .now) (g + 1) 0) low high, s .pre .0 .size, s .pre .0 .few)
 
 relax-run-requires : tie.Need-relax-run-requires
 relax-run-requires c κs =
-    let s = c .before .before .before .before .before .before .before .before in
-    let lent = s .pre .0 in
-    let e = c .before .before .before .before .seek2 .ensures in
-    let a = c .before .before .before .before .before .seek .result in
-    let z = c .before .before .before .before .seek2 .result in (
-      omega (arith, part-count (s .args .records .now) a z (e .from) (e .within), e .from, e .within, lent .few),
+    let s = c .before .before .before .before .before .before .before .before .before in
+    let a = s .args in
+    let g = a .giver in
+    let low = s .pre .1 .each g (omega (arith, s .pre .2)) in
+    let high = s .pre .1 .each (g + 1) (omega (arith, s .pre .2)) in
+    let from = getD (a .starts .now) g 0 in
+    let past = getD (a .starts .now) (g + 1) 0 in
+    let order = run-order (a .records .now) g from past low high in
+    let lent = s .pre .0 in (
+      omega (arith, part-count (a .records .now) from past order (high .within), order, high .within, lent .few),
       lent .rule .size,
-      s .pre .2,
       s .pre .3,
-      part-receivers (s .args .records .now) a z (e .from) (e .within) (s .args .table .now) lent,
+      s .pre .4,
+      part-receivers (a .records .now) from past order (high .within) (a .table .now) lent,
     )
 
 same-length : tie.Need-same-length
@@ -60,17 +106,25 @@ same-length-2 c = search needs
 
 returns : tie.Need-returns
 returns c =
-    let a = c .before .before .before .before .before .before .before .before .before .before .before .before .args in
-    gave (a .table .now) (a .records .now) (a .marks) (a .giver) (a .limits .now) (a .parents .now) _ _ _ _ _ (c .before .before .before .before .before .before .before .before .before .seek .ensures) (c .before .before .before .before .before .before .before .before .seek2 .ensures)
-    (read-limit (a .limits .now) (a .giver) (omega arith) (c .before .before .before .before .before .before .before .limit .given)) (c .before .before .before .relax-run .ensures)
+    let s = c .before .before .before .before .before .before .before .before .before .before .before .before .before in
+    let a = s .args in
+    let g = a .giver in
+    let low = s .pre .1 .each g (omega (arith, s .pre .2)) in
+    let high = s .pre .1 .each (g + 1) (omega (arith, s .pre .2)) in
+    gave (a .table .now) (a .records .now) (a .marks) g (a .limits .now) (a .parents .now) _ _ _ _ _ low high (run-order (a .records .now) g (getD (a .starts .now) g 0) (getD (a .starts .now) (g + 1) 0) low high)
+    (read-limit (a .limits .now) g (omega arith) (c .before .before .before .before .before .before .before .limit .given)) (c .before .before .before .relax-run .ensures)
 
 pub relax-giver-spec : {M : Type 1} → statement M
 relax-giver-spec =
     tie.close
     (tie.spec
-    seek-requires
-    add-seek
-    seek-requires-2
+    mul-a
+    shared-slice-read-a
+    cast-a
+    add-e
+    mul-e
+    shared-slice-read-e
+    cast-e
     mul-limit
     slice-copy-out-limit
     mul-relax-run

@@ -1,7 +1,7 @@
 -- `search::run::seek` finds the first record whose giver is not below a bound: the givers rise, so none before it is left out. Assumes nothing.
 use mathlib.Core.Path.{_≡_, refl}
 use Prim.Native.Nat.{ℕ, _*_, _-_, _/_, _≤_, _<_}
-use native.Mathlib.Nat.{le-refl, le-trans}
+use native.Mathlib.Nat.{le-trans}
 use native.Mathlib.Omega.{arith}
 use borrow.Author.Count.{below-more}
 use lib.ListN.{length, getD}
@@ -10,13 +10,13 @@ use Rattle.search.proofs.run.seek.Statement.{statement}
 use Rattle.search.proofs.run.seek.Tie as tie
 
 abbrev Inv-loop : tie.InvT-loop
-Inv-loop records low bound n k₀ k = (n ≡ length records / 8) × (low ≤ k) × (k ≤ n) × ((j : ℕ) → j < k → getD records (8 * j) 0 < bound)
+Inv-loop records low bound n k₀ k = (n ≡ length records / 8) × (k ≤ n) × ((j : ℕ) → j < k → getD records (8 * j) 0 < bound)
 
 abbrev μ-loop : tie.MeasureT-loop
 μ-loop records low bound n k₀ k = n - k
 
 loop-holds : tie.Need-loop-holds Inv-loop μ-loop
-loop-holds c = (refl, le-refl _, c .pre .0, c .pre .1)
+loop-holds c = (refl, c .pre .0, c .pre .1)
 
 mul-giver : tie.Need-mul-giver Inv-loop μ-loop
 mul-giver c = omega arith
@@ -33,9 +33,8 @@ returns c =
     let s = c .before .before .before .before in
     let inv = c .before .before .before .loop .inv in
     record {
-      from = inv .1;
       within = omega arith;
-      below = inv .3;
+      below = inv .2;
       above = λ j h l. le-trans (c .if1 .taken) (records-rise (s .args .records .now) _ (s .pre .2) k j h l);
     }
 
@@ -46,12 +45,12 @@ loop-less : tie.Need-loop-less Inv-loop μ-loop
 loop-less c = omega arith
 
 loop-again : tie.Need-loop-again Inv-loop μ-loop
-loop-again c = (refl, omega arith, omega arith, below-more _ _ (c .before .before .before .loop .inv .3) (c .if1 .left))
+loop-again c = (refl, omega arith, below-more _ _ (c .before .before .before .loop .inv .2) (c .if1 .left))
 
 returns-2 : tie.Need-returns-2 Inv-loop μ-loop
 returns-2 c =
     let inv = c .before .loop .inv in
-    record { from = inv .1; within = omega arith; below = inv .3; above = λ j h l. absurd (omega arith) }
+    record { within = omega arith; below = inv .2; above = λ j h l. absurd (omega arith) }
 
 pub seek-spec : {M : Type 1} → statement M
 seek-spec =
