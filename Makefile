@@ -1,4 +1,5 @@
-# The seat register for hosts in C.
+# The seat register.
+#   make run                          builds the program and runs it on examples/listing.calls
 #   make host                         builds and runs the example, and compares what it prints
 #   make compare [SEED=n] [CASES=n]   random calls through the archive and the second implementation
 #   make self-test                    the same with faults put in on purpose: each must be found
@@ -21,7 +22,8 @@ RT ?= rt
 INSTALL ?= install
 
 archive := target/staticlib/libseatreg.a
-proved := $(shell find $(addprefix crates/,rules block search rounds register seatreg) -name '*.rt' -o -name '*.antt')
+program := target/bin/seatcalls
+sources = $(shell find $(addprefix crates/,$(1)) -name '*.rt' -o -name '*.antt')
 second := target/second/libsecond.rlib
 generate := target/second/libgenerate.rlib
 compare := target/compare/compare
@@ -29,11 +31,17 @@ bench := target/bench/bench
 host := target/host/host
 rust := $(RUSTC) --edition 2021 -D warnings -O -C overflow-checks=on
 
-.PHONY: lib host compare self-test bench install test clean
+.PHONY: run lib host compare self-test bench install test clean
+
+run: $(program)
+	@$(program) < examples/listing.calls
+
+$(program): crates.txt $(call sources,text rules block search rounds register replay callfile seatcalls)
+	$(RT) check seatcalls
 
 lib: $(archive)
 
-$(archive): crates.txt $(proved)
+$(archive): crates.txt $(call sources,rules block search rounds register seatreg)
 	$(RT) staticlib seatreg
 
 host: $(host)

@@ -43,18 +43,22 @@ generate() {
     rm -rf "$out/cases" && "$out/second" generate "$out/cases"
 }
 
-# The kinds of cases that the program crates/cases runs: their cases are its
-# data, what is expected of them its standard output, in this order.
-run="base reach chain cut"
+# The kinds of cases, in the order in which the program crates/cases runs them.
+kinds="base reach chain cut"
 
-# Splits what was generated as it is committed.
+# Splits what was generated as it is committed: the cases and the call files are
+# the program's data, what is expected of them its standard output, in this
+# order; the counts are in tests/cases.
 committed_form() {
     rm -rf "$out/data" "$out/stdout" "$out/rest" && mkdir "$out/data" && cp -r "$out/cases" "$out/rest" || return 1
-    for kind in $run; do
+    for kind in $kinds; do
         mv "$out/rest/$kind"-*.cases "$out/data/" &&
             cat "$out/rest/$kind"-*.expected >>"$out/stdout" &&
             rm "$out/rest/$kind"-*.expected || return 1
     done
+    mv "$out/rest/"*.calls "$out/data/" &&
+        cat "$out/rest/"*.out >>"$out/stdout" &&
+        rm "$out/rest/"*.out
 }
 
 same() {

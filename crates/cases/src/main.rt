@@ -1,5 +1,6 @@
-// Runs the recorded cases of data/ through the register's public calls and prints what comes out.
+// Runs the recorded cases of data/ through the register's public calls, its call files through the call file's function, and prints what comes out.
 mod blocks;
+mod callfiles;
 mod calls;
 mod chains;
 mod out;
@@ -15,6 +16,7 @@ fn main() {
     run_kind(b"reach", 3);
     run_kind(b"chain", 2);
     run_kind(b"cut", 7);
+    callfiles::run_all(115);
 }
 
 fn run_kind(kind: &[u8], files: u64) {

@@ -1,0 +1,128 @@
+-- The run over a text, line by line: the calls made so far, and what is left of the text. Assumes nothing.
+use mathlib.Core.Path.{_≡_, refl, sym, ap, subst, _∙_}
+use mathlib.Core.Bool.{true, false}
+use mathlib.Core.List.{List, [], _∷_, _++_, append-assoc, append-nil}
+use Prim.Native.Nat.{ℕ, _+_, _*_, _≤_, _<_}
+use native.Mathlib.Omega.{arith}
+use lib.IntN.{pos}
+use lib.ListN.{length, drop, length-append, length-drop, drop-of-length-le}
+use lib.Seq.{drop-cons}
+use Rattle.rules.specs.Table.{steps}
+use Rattle.rules.specs.Call.{Call}
+use Rattle.register.specs.CallOn.{callOn}
+use Rattle.text.specs.Text.{line, AllAllowed}
+use Rattle.text.specs.Write.{Room, Written}
+use Rattle.text.proofs.Sizes.{line-short, line-long}
+use Rattle.text.proofs.Writing.{put-nil, then-written}
+use Rattle.callfile.specs.CallFile.{values, InRange, AllInRange, callLine, callLines, answerLine, answerLines, malformed, ending, NoCall, mostText, outSize}
+use Rattle.callfile.specs.Row.{callOfRow, CallRead, Answered, Finished}
+use Rattle.callfile.specs.declared.Row.{Row}
+use Rattle.callfile.proofs.Lines.{seven-values}
+
+-- the block that calls leave
+abbrev pub leftBy : List ℕ → List Call → List ℕ
+leftBy b [] = b
+leftBy b (c ∷ cs) = leftBy (callOn steps b c .bytes) cs
+
+-- ── one call more ──
+lines-join : (cs : List Call) (c : Call) → callLines (cs ++ (c ∷ [])) ≡ callLines cs ++ callLine c
+lines-join [] c = append-nil (callLine c)
+lines-join (d ∷ cs) c = ap (λ (s : List ℕ). callLine d ++ s) (lines-join cs c) ∙ sym (append-assoc (callLine d) (callLines cs) (callLine c))
+
+left-join : (b : List ℕ) (cs : List Call) (c : Call) → leftBy b (cs ++ (c ∷ [])) ≡ callOn steps (leftBy b cs) c .bytes
+left-join b [] c = refl
+left-join b (d ∷ cs) c = left-join (callOn steps b d .bytes) cs c
+
+answers-join : (b : List ℕ) (cs : List Call) (c : Call) → answerLines b (cs ++ (c ∷ [])) ≡ answerLines b cs ++ answerLine (callOn steps (leftBy b cs) c)
+answers-join b [] c = append-nil (answerLine (callOn steps b c))
+answers-join b (d ∷ cs) c =
+    ap (λ (s : List ℕ). answerLine (callOn steps b d) ++ s) (answers-join (callOn steps b d .bytes) cs c)
+    ∙ sym (append-assoc (answerLine (callOn steps b d)) (answerLines (callOn steps b d .bytes) cs) (answerLine (callOn steps (leftBy (callOn steps b d .bytes) cs) c)))
+
+ranges-join : (cs : List Call) (c : Call) → AllInRange cs → InRange c → AllInRange (cs ++ (c ∷ []))
+ranges-join [] c a h = (h, tt)
+ranges-join (d ∷ cs) c a h = (a .0, ranges-join cs c (a .1) h)
+
+-- a call's line has at least 14 bytes
+pub line-min : (c : Call) → 14 ≤ length (callLine c)
+line-min c = omega (arith, line-long (values c), seven-values c)
+
+pub no-call-end : NoCall []
+no-call-end c rest a e = absurd (omega (arith, line-min c, ap length e, length-append (callLine c) rest))
+
+-- ── the loop ──
+pub record Going (text : List ℕ) (at : ℕ) (b out : List ℕ) (to next end number : ℕ) (b′ out′ : List ℕ) : Type 0 where
+  pub calls : List Call
+  pub ranges : AllInRange calls
+  pub lines : drop at text ≡ callLines calls ++ drop next text
+  pub count : number ≡ 2 + length calls
+  pub block : b′ ≡ leftBy b calls
+  pub answers : Written to (answerLines b calls) out end out′
+  pub within : next ≤ length text
+  pub room : end + 24 ≤ 4 * next
+  pub few : number ≤ next
+  pub blockSize : length b′ ≡ length b
+  pub size : length out′ ≡ length out
+
+module _ (text : List ℕ) (at : ℕ) (b out : List ℕ) (to : ℕ) (h : (2 ≤ at) × (at ≤ length text) × (length text ≤ mostText) × (to + 24 ≤ 4 * at) × (outSize ≤ length out)) where
+  pub going-start : Going text at b out to at to 2 b out
+  going-start = record { calls = []; ranges = tt; lines = refl; count = refl; block = refl; answers = record { next = omega arith; bytes = sym (put-nil to out) }; within = h .1; room = h .3; few = h .0; blockSize = refl; size = refl }
+
+  module _ (next end number : ℕ) (b′ out′ : List ℕ) (g : Going text at b out to next end number b′ out′) where
+    pub going-stop : next < length text → (r : Row) → CallRead text next r → r .found ≡ false → (k : ℕ) (last : List ℕ) → Written end (malformed number) out′ k last → Finished text at b out to k last
+    going-stop l r c f k last w =
+        let a : AllAllowed true (pos 7 ∷ pos number ∷ []) = (omega arith, (omega (arith, g .few, h .2), tt)) in
+        let q : ending (2 + length (g .calls)) (drop next text) ≡ malformed number = ap (λ (s : List ℕ). ending (2 + length (g .calls)) s) (drop-cons text next 0 l) ∙ ap malformed (sym (g .count)) in
+        let m : Room to (answerLines b (g .calls) ++ malformed number) out =
+        omega (arith, length-append (answerLines b (g .calls)) (malformed number), line-short (pos 7 ∷ pos number ∷ []) a, g .answers .next, g .room, h .2, h .4) in
+        record {
+          calls = g .calls;
+          rest = drop next text;
+          ranges = g .ranges;
+          lines = g .lines;
+          none = c .none f;
+          line = rw q (then-written to (answerLines b (g .calls)) (malformed number) out end out′ k last m (g .answers) w);
+          fits = omega (arith, m, then-written to (answerLines b (g .calls)) (malformed number) out end out′ k last m (g .answers) w .next);
+        }
+
+    pub going-end : length text ≤ next → Finished text at b out to end out′
+    going-end l =
+        let e : drop next text ≡ [] = drop-of-length-le text l in
+        record {
+          calls = g .calls;
+          rest = [];
+          ranges = g .ranges;
+          lines = g .lines ∙ ap (λ (s : List ℕ). callLines (g .calls) ++ s) e;
+          none = no-call-end;
+          line = subst (λ (s : List ℕ). Written to s out end out′) (sym (append-nil (answerLines b (g .calls)))) (g .answers);
+          fits = omega (arith, g .room, g .within, h .2, h .4);
+        }
+
+    module _ (r : Row) (c : CallRead text next r) (f : r .found ≡ true) where
+      -- the line lies within the text
+      pub line-inside : (next + 14 ≤ r .next) × (r .next ≤ length text)
+      line-inside =
+          let q = c .read f in
+          let w : length (drop next text) ≡ length (callLine (callOfRow r)) + length (drop (r .next) text) = ap length (q .2) ∙ length-append (callLine (callOfRow r)) (drop (r .next) text) in
+          (omega (arith, q .1, line-min (callOfRow r)), omega (arith, q .1, w, length-drop next text, length-drop (r .next) text, g .within, line-min (callOfRow r)))
+
+      pub going-more : (n : ℕ) (b″ out″ : List ℕ) → Answered (callOfRow r) b′ out′ end n b″ out″ → length b″ ≡ length b′ → length out″ ≡ length out′ → Going text at b out to (r .next) n (number + 1) b″ out″
+      going-more n b″ out″ w x y =
+          let d = callOfRow r in
+          let q = c .read f in
+          let v : Written end (answerLine (callOn steps (leftBy b (g .calls)) d)) out′ n out″ = subst (λ (s : List ℕ). Written end (answerLine (callOn steps s d)) out′ n out″) (g .block) (w .line) in
+          let m : Room to (answerLines b (g .calls) ++ answerLine (callOn steps (leftBy b (g .calls)) d)) out =
+          omega (arith, length-append (answerLines b (g .calls)) (answerLine (callOn steps (leftBy b (g .calls)) d)), g .answers .next, v .next, w .short, g .room, h .2, h .4, line-inside .0, line-inside .1) in
+          record {
+            calls = g .calls ++ (d ∷ []);
+            ranges = ranges-join (g .calls) d (g .ranges) (q .0);
+            lines = g .lines ∙ ap (λ (s : List ℕ). callLines (g .calls) ++ s) (q .2) ∙ sym (append-assoc (callLines (g .calls)) (callLine d) (drop (r .next) text)) ∙ ap (λ (s : List ℕ). s ++ drop (r .next) text) (sym (lines-join (g .calls) d));
+            count = omega (arith, g .count, length-append (g .calls) (d ∷ []));
+            block = w .block ∙ ap (λ (s : List ℕ). callOn steps s d .bytes) (g .block) ∙ sym (left-join b (g .calls) d);
+            answers = subst (λ (s : List ℕ). Written to s out n out″) (sym (answers-join b (g .calls) d)) (then-written to (answerLines b (g .calls)) (answerLine (callOn steps (leftBy b (g .calls)) d)) out end out′ n out″ m (g .answers) v);
+            within = line-inside .1;
+            room = omega (arith, w .short, g .room, line-inside .0);
+            few = omega (arith, g .few, line-inside .0);
+            blockSize = x ∙ g .blockSize;
+            size = y ∙ g .size;
+          }

@@ -1,0 +1,61 @@
+-- `callfile::write_answer` makes a call and writes its answers. Assumes nothing.
+use native.Mathlib.Omega.{arith}
+use Rattle.callfile.specs.Row.{callOfRow}
+use Rattle.callfile.proofs.Answers.{wide, answer-room, answered}
+use borrow.Author.Needs.{needs}
+use Rattle.callfile.proofs.write_answer.Statement.{statement}
+use Rattle.callfile.proofs.write_answer.Tie as tie
+
+call-requires : tie.Need-call-requires
+call-requires c κs = search needs
+
+cast-t9 : tie.Need-cast-t9
+cast-t9 c = search needs
+
+cast-t10 : tie.Need-cast-t10
+cast-t10 c = wide (c .before .before .before .before .before .call .result .first) record { sfits = omega (arith, c .struct-told .given) }
+
+cast-t11 : tie.Need-cast-t11
+cast-t11 c = wide (c .before .before .before .before .before .before .before .call .result .second) record { sfits = omega (arith, c .struct-told2 .given) }
+
+cast-t12 : tie.Need-cast-t12
+cast-t12 c = wide (c .before .before .before .before .before .before .before .before .before .call .result .third) record { sfits = omega (arith, c .struct-told3 .given) }
+
+slice-aggregate-write-line : tie.Need-slice-aggregate-write-line
+slice-aggregate-write-line c = search needs
+
+write-line-requires : tie.Need-write-line-requires
+write-line-requires c κs =
+    let s = c .before .before .before .before .before .before .before .before .before .before .before .before .before .before .before in
+    let o = c .before .before .before .before .before .before .before .before .before .before .before .call .result in
+    let t = c .before .before .struct-told3 .given in
+    answer-room o (omega (arith, t)) record { sfits = omega (arith, t) } record { sfits = omega (arith, t) } record { sfits = omega (arith, t) } (s .args .at) (s .args .out .now) (s .pre .1)
+
+same-length : tie.Need-same-length
+same-length c = search needs
+
+same-length-2 : tie.Need-same-length-2
+same-length-2 c = search needs
+
+returns : tie.Need-returns
+returns c =
+    let s = c .before .before .before .before .before .before .before .before .before .before .before .before .before .before .before .before .before .before in
+    let o = c .before .before .before .before .before .before .before .before .before .before .before .before .before .before .call in
+    let w = c .before .before .write-line in
+    let t = c .before .before .before .before .before .struct-told3 .given in
+    answered (o .result) (omega (arith, t)) record { sfits = omega (arith, t) } record { sfits = omega (arith, t) } record { sfits = omega (arith, t) } (callOfRow (s .args .r)) (s .args .block .now) (s .args .out .now) (s .args .at) (w .result) (o .last .0) (w .last .0) (o .ensures .made (s .pre .0)) (w .ensures)
+
+pub write-answer-spec : {M : Type 1} → statement M
+write-answer-spec =
+    tie.close
+    (tie.spec
+    call-requires
+    cast-t9
+    cast-t10
+    cast-t11
+    cast-t12
+    slice-aggregate-write-line
+    write-line-requires
+    same-length
+    same-length-2
+    returns)

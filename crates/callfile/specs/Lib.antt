@@ -1,0 +1,3 @@
+pub mod CallFile
+pub mod Row
+pub mod Examples

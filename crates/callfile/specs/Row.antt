@@ -1,0 +1,63 @@
+-- What the functions below `run` promise: one line of a call file, read and answered. Assumes nothing.
+use mathlib.Core.Path.{_≡_}
+use mathlib.Core.Bool.{Bool, true, false, cond, _&&_}
+use mathlib.Core.List.{List, _++_}
+use Prim.Native.Nat.{ℕ, _+_, _≤_}
+use lib.Dec.{T, eqb}
+use lib.IntN.{ℤ}
+use lib.ListN.{length, drop}
+use Rattle.rules.specs.Call.{Call}
+use Rattle.rules.specs.Table.{steps}
+use Rattle.register.specs.CallOn.{callOn}
+use Rattle.text.specs.Text.{line, AllAllowed}
+use Rattle.text.specs.Write.{Written}
+use Rattle.replay.specs.Replay.{isCall, callOf}
+use Rattle.callfile.specs.CallFile.{row, InRange, AllInRange, callLine, callLines, answerLine, answerLines, ending, NoCall}
+use Rattle.callfile.specs.declared.Row.{Row}
+
+abbrev pub zeros : (a b c d e : ℕ) → Bool
+zeros a b c d e = eqb a 0 && (eqb b 0 && (eqb c 0 && (eqb d 0 && eqb e 0)))
+
+-- the number is a call's, and the columns that it does not use are 0
+unfoldable pub isRow : (number by giver receiver weight need bar : ℕ) → Bool
+isRow number by giver receiver weight need bar =
+    cond (eqb number 0) (zeros by giver receiver weight bar)
+    (cond (eqb number 1) (zeros by 0 0 0 0)
+    (cond (eqb number 2) (zeros weight need bar 0 0)
+    (cond (eqb number 3) (zeros need bar 0 0 0)
+    (cond (eqb number 4) (zeros by weight need bar 0)
+    (cond (eqb number 5) (zeros by giver weight need bar) false)))))
+
+abbrev pub rowOf : Row → List ℤ
+rowOf r = row (r .call) (r .by) (r .giver) (r .receiver) (r .weight) (r .need) (r .bar)
+
+-- the call of a row
+abbrev pub callOfRow : Row → Call
+callOfRow r = callOf (r .call) (r .by) (r .giver) (r .receiver) (r .weight) (r .need) (r .bar)
+
+-- a row is read from `at` exactly where the text goes on with its line
+pub record RowRead (text : List ℕ) (at : ℕ) (r : Row) : Type 0 where
+  pub read : r .found ≡ true → AllAllowed false (rowOf r) × (r .next ≡ at + length (line (rowOf r))) × (drop at text ≡ line (rowOf r) ++ drop (r .next) text)
+  pub each : (zs : List ℤ) (rest : List ℕ) → length zs ≡ 7 → AllAllowed false zs → drop at text ≡ line zs ++ rest → (r .found ≡ true) × (rowOf r ≡ zs)
+
+-- a call is read from `at` exactly where the text goes on with its line
+pub record CallRead (text : List ℕ) (at : ℕ) (r : Row) : Type 0 where
+  pub known : r .found ≡ true → T (isCall (r .call))
+  pub read : r .found ≡ true → InRange (callOfRow r) × (r .next ≡ at + length (callLine (callOfRow r))) × (drop at text ≡ callLine (callOfRow r) ++ drop (r .next) text)
+  pub none : r .found ≡ false → NoCall (drop at text)
+
+-- a call was made on the block b, and its line of answers was written at `at`; n is the place after it
+pub record Answered (c : Call) (b out : List ℕ) (at n : ℕ) (b′ out′ : List ℕ) : Type 0 where
+  pub block : b′ ≡ callOn steps b c .bytes
+  pub line : Written at (answerLine (callOn steps b c)) out n out′
+  pub short : n ≤ at + 48
+
+-- the text from `at` on was run on the block b, and what it prints was written at `to`; n is the place after it
+pub record Finished (text : List ℕ) (at : ℕ) (b out : List ℕ) (to n : ℕ) (out′ : List ℕ) : Type 0 where
+  pub calls : List Call
+  pub rest : List ℕ
+  pub ranges : AllInRange calls
+  pub lines : drop at text ≡ callLines calls ++ rest
+  pub none : NoCall rest
+  pub line : Written to (answerLines b calls ++ ending (2 + length calls) rest) out n out′
+  pub fits : n ≤ length out

@@ -1,0 +1,10 @@
+pub mod Digits
+pub mod Reading
+pub mod Signed
+pub mod Values
+pub mod Lines
+pub mod Writing
+pub mod Bytes
+pub mod Injective
+pub mod Sizes
+pub mod Examples
