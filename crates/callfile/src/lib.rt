@@ -145,6 +145,40 @@ fn read_call(text: &[u8], at: usize) -> Row
     r
 }
 
+// Goes over the lent text line by line: the present line begins at `at`.
+struct CallReader<'a> {
+    text: &'a [u8],
+    at: usize,
+}
+
+fn reader<'a>(text: &'a [u8]) -> CallReader<'a>
+    ensures { λ r. ⌜ (r .text ≡ text .entry) × (r .at ≡ 0) ⌝ }
+{
+    CallReader { text, at: 0 }
+}
+
+fn moved<'a>(r: CallReader<'a>, at: usize) -> CallReader<'a>
+    ensures { λ q. ⌜ (q .text ≡ r .entry .text) × (q .at ≡ at) ⌝ }
+{
+    CallReader { text: r.text, at }
+}
+
+// The call of the present line.
+fn present<'a>(r: CallReader<'a>) -> Row
+    requires { ⌜ r .at ≤ length (now (r .text)) ⌝ }
+    ensures { λ q. ⌜ CallRead (now (r .entry .text)) (r .entry .at) q ⌝ }
+{
+    read_call(r.text, r.at)
+}
+
+// The call of the line from `at` on, through a reader.
+fn row_from(text: &[u8], at: usize) -> Row
+    requires { ⌜ at ≤ length (now text) ⌝ }
+    ensures { λ r. ⌜ CallRead (now (text .entry)) at r ⌝ }
+{
+    present(moved(reader(text), at))
+}
+
 // Makes the call of a row and writes its line of answers; the place after it.
 fn write_answer(block: &mut [u8], r: Row, out: &mut [u8], at: usize) -> usize
     requires { ⌜ T (isCall (r .call)) × (at + 48 ≤ length (now out)) ⌝ }
@@ -187,7 +221,7 @@ fn run_calls(text: &[u8], at: usize, block: &mut [u8], out: &mut [u8], to: usize
     let mut end = to;
     let mut number: usize = 2;
     while next < text.len() {
-        let r = read_call(text, next);
+        let r = row_from(text, next);
         if !r.found {
             return write_malformed(out, end, number);
         }

@@ -19,8 +19,8 @@ loop-holds c =
     let s = c .before .before .before in
     going-start (s .args .text .now) (s .args .at) (s .args .block .now) (s .args .out .now) (s .args .to) (s .pre)
 
-read-call-requires : tie.Need-read-call-requires Inv-loop μ-loop
-read-call-requires c κs = search needs
+row-from-requires : tie.Need-row-from-requires Inv-loop μ-loop
+row-from-requires c κs = search needs
 
 write-malformed-requires : tie.Need-write-malformed-requires Inv-loop μ-loop
 write-malformed-requires c κs = search needs
@@ -35,7 +35,7 @@ returns : tie.Need-returns Inv-loop μ-loop
 returns c =
     let s = c .before .before .before .before .before .before .before .before .before .before .before .before in
     let l = c .before .before .before .before .before .before .before .before .loop in
-    let r = c .before .before .before .before .before .before .read-call in
+    let r = c .before .before .before .before .before .before .row-from in
     let w = c .before .before .write-malformed in
     going-stop (s .args .text .now) (s .args .at) (s .args .block .now) (s .args .out .now) (s .args .to) (s .pre) (l .next) (l .end) (l .number) (l .block) (l .out) (l .inv) (c .before .before .before .before .before .before .before .loop-test .taken) (r .result) (r .ensures) (not-true _ (c .before .before .before .before .if1 .taken)) (w .result) (w .last .0) (w .ensures)
 
@@ -43,7 +43,7 @@ write-answer-requires : tie.Need-write-answer-requires Inv-loop μ-loop
 write-answer-requires c κs =
     let s = c .before .before .before .before .before .before .before .before .before .before in
     let l = c .before .before .before .before .before .before .loop in
-    let r = c .before .before .before .before .read-call in
+    let r = c .before .before .before .before .row-from in
     let f = not-false _ (c .before .before .if1 .left) in
     let i = line-inside (s .args .text .now) (s .args .at) (s .args .block .now) (s .args .out .now) (s .args .to) (s .pre) (l .next) (l .end) (l .number) (l .block) (l .out) (l .inv) (r .result) (r .ensures) f in
     (r .ensures .known f, omega (arith, l .inv .room, l .inv .size, s .pre .2, s .pre .4, i .0, i .1))
@@ -55,7 +55,7 @@ loop-less : tie.Need-loop-less Inv-loop μ-loop
 loop-less c =
     let s = c .before .before .before .before .before .before .before .before .before .before .before .before .before .before .before in
     let l = c .before .before .before .before .before .before .before .before .before .before .before .loop in
-    let r = c .before .before .before .before .before .before .before .before .before .read-call in
+    let r = c .before .before .before .before .before .before .before .before .before .row-from in
     let i = line-inside (s .args .text .now) (s .args .at) (s .args .block .now) (s .args .out .now) (s .args .to) (s .pre) (l .next) (l .end) (l .number) (l .block) (l .out) (l .inv) (r .result) (r .ensures) (not-false _ (c .before .before .before .before .before .before .before .if1 .left)) in
     omega (arith, i .0, i .1)
 
@@ -63,7 +63,7 @@ loop-again : tie.Need-loop-again Inv-loop μ-loop
 loop-again c =
     let s = c .before .before .before .before .before .before .before .before .before .before .before .before .before .before .before in
     let l = c .before .before .before .before .before .before .before .before .before .before .before .loop in
-    let r = c .before .before .before .before .before .before .before .before .before .read-call in
+    let r = c .before .before .before .before .before .before .before .before .before .row-from in
     let w = c .before .before .before .before .write-answer in
     going-more (s .args .text .now) (s .args .at) (s .args .block .now) (s .args .out .now) (s .args .to) (s .pre) (l .next) (l .end) (l .number) (l .block) (l .out) (l .inv) (r .result) (r .ensures) (not-false _ (c .before .before .before .before .before .before .before .if1 .left)) (w .result) (w .last .0) (w .last .1 .1 .0) (w .ensures) (w .kept .0) (w .kept .1 .1 .0)
 
@@ -86,7 +86,7 @@ run-calls-spec =
     Inv-loop
     μ-loop
     loop-holds
-    read-call-requires
+    row-from-requires
     write-malformed-requires
     same-length
     same-length-2
