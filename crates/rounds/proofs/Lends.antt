@@ -1,4 +1,4 @@
--- An array in a local is lent as a `&mut [T]`, whole or its front, and comes back. Assumes nothing.
+-- An array in a local is lent as a `&mut [T]`, whole or its front, and comes back. Assumes `Given`, the laws of the logic, as a parameter, and nothing else.
 use mathlib.Core.Path.{_≡_, refl, sym, _∙_}
 use Prim.Native.Nat.{ℕ}
 use mathlib.Core.List.{List, [], _∷_, _++_}

@@ -45,9 +45,9 @@ run-order s giver a e low high = go (either (ltb e a))
     go (inl q) = absurd (omega (arith, ltb→lt e a q, low .within, low .below e (ltb→lt e a q), high .above e (le-refl e) (omega (arith, ltb→lt e a q, low .within))))
     go (inr q) = nltb→le e a q
 
-pub gave : (t : List ℤ) (s : List ℕ) (marks giver : ℕ) (l : List ℤ) (p : List ℕ) (l′ : List ℤ) (p′ : List ℕ) (a e : ℕ) (limit : ℤ) → Sought s giver a → Sought s (giver + 1) e → a ≤ e
-    → limit ≡ getD l giver none → Ran t limit marks (part s a e) a l p (length (part s a e) / 8) l′ p′ → Gave t s marks giver l p l′ p′
-gave t s marks giver l p l′ p′ a e limit low high order q r = record {
+pub gave : (t : List ℤ) (s : List ℕ) (marks giver : ℕ) (l : List ℤ) (p r : List ℕ) (l′ : List ℤ) (p′ r′ : List ℕ) (a e : ℕ) (limit : ℤ) → Sought s giver a → Sought s (giver + 1) e → a ≤ e
+    → limit ≡ getD l giver none → Ran t limit marks (part s a e) a l p r (length (part s a e) / 8) l′ p′ r′ → Gave t s marks giver l p r l′ p′ r′
+gave t s marks giver l p r l′ p′ r′ a e limit low high order q ran = record {
   first = a;
   past = e;
   order = order;
@@ -55,5 +55,5 @@ gave t s marks giver l p l′ p′ a e limit low high order q r = record {
   before = low .below;
   here = λ k h b. omega (arith, low .above k h (omega (arith, high .within)), high .below k b);
   after = λ k h b. omega (arith, high .above k h b);
-  ran = subst (λ (n : ℕ). Ran t (getD l giver none) marks (part s a e) a l p n l′ p′) (part-count s a e order (high .within)) (subst (λ (z : ℤ). Ran t z marks (part s a e) a l p (length (part s a e) / 8) l′ p′) q r);
+  ran = subst (λ (n : ℕ). Ran t (getD l giver none) marks (part s a e) a l p r n l′ p′ r′) (part-count s a e order (high .within)) (subst (λ (z : ℤ). Ran t z marks (part s a e) a l p r (length (part s a e) / 8) l′ p′ r′) q ran);
 }

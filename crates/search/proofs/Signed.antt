@@ -14,11 +14,12 @@ use mir.Syntax.{w16}
 use mir.Val.{SFits, ofZ, toZ}
 use mir.Facts.{toZ-ofZ}
 use Rattle.rules.specs.Limit.{none, code, _≼_}
-use Rattle.rules.specs.Table.{next}
+use Rattle.rules.specs.Table.{next, TableRule}
 use Rattle.rules.specs.Condition.{meets}
 use Rattle.rules.proofs.Signed.{getD-within}
+use Rattle.rules.proofs.Limits.{next-top}
 use Rattle.block.specs.Bytes.{two}
-use Rattle.search.specs.Steps.{recordAt, Stepped}
+use Rattle.search.specs.Steps.{recordAt, rankOf, Stepped}
 
 pub yes : {b : Bool} → b ≡ true → T b
 yes e = subst T (sym e) tt
@@ -59,7 +60,7 @@ not-more (negsuc k) (pos m) h = absurd (h tt)
 not-more (negsuc k) (negsuc m) h = omega arith
 
 -- ── the ways of a record ──
-module _ (t : List ℤ) (run : List ℕ) (at place : ℕ) (limit : ℤ) (marks : ℕ) (l : List ℤ) (p : List ℕ) (need bar : ℕ) (m : Bool)
+module _ (t : List ℤ) (run : List ℕ) (at place : ℕ) (limit : ℤ) (marks : ℕ) (l : List ℤ) (p r : List ℕ) (need bar : ℕ) (m : Bool)
     (en : need ≡ two run (at + 4)) (eb : bar ≡ two run (at + 6)) (em : m ≡ meets marks need bar) where
   abbrev who : ℕ
   who = getD run (at + 1) 0
@@ -67,8 +68,8 @@ module _ (t : List ℤ) (run : List ℕ) (at place : ℕ) (limit : ℤ) (marks :
   met : m ≡ meets marks (two run (at + 4)) (two run (at + 6))
   met = em ∙ (λ i. meets marks (en i) (eb i))
 
-  pub step-unmet : m ≡ false → Stepped t limit marks (recordAt run at) place l p l p
-  step-unmet f = inl ((λ q. no f (subst T (sym met) (q .0))), refl, refl)
+  pub step-unmet : m ≡ false → Stepped t limit marks (recordAt run at) place l p r l p r
+  step-unmet f = inl ((λ q. no f (subst T (sym met) (q .0))), refl, refl, refl)
 
   module _ (given : ℤ) (f : SFits w16 limit) (h : who < length l) (b : mag (getD l who (pos 0)) < 32768) (g : SFits w16 given)
       (eg : given ≡ next t (kept limit) (getD run (at + 2) 0)) where
@@ -78,8 +79,12 @@ module _ (t : List ℤ) (run : List ℕ) (at place : ℕ) (limit : ℤ) (marks :
     test : ltZ (kept (getD l who (pos 0))) (kept given) ≡ ltZ (getD l who none) (next t limit (getD run (at + 2) 0))
     test = λ i. ltZ (read-limit l who h b i) (gives i)
 
-    pub step-raised : m ≡ true → ltZ (kept (getD l who (pos 0))) (kept given) ≡ true → Stepped t limit marks (recordAt run at) place l p (set l who (kept given)) (set p who place)
-    step-raised y q = inr ((subst T met (yes y), subst T test (yes q)), ap (set l who) gives, refl)
+    pub step-raised : m ≡ true → ltZ (kept (getD l who (pos 0))) (kept given) ≡ true → Stepped t limit marks (recordAt run at) place l p r (set l who (kept given)) (set p who place) (set r who (rankOf (kept given) who))
+    step-raised y q = inr ((subst T met (yes y), subst T test (yes q)), ap (set l who) gives, refl, ap (λ (z : ℤ). set r who (rankOf z who)) gives)
 
-    pub step-not-raised : ltZ (kept (getD l who (pos 0))) (kept given) ≡ false → Stepped t limit marks (recordAt run at) place l p l p
-    step-not-raised q = inl ((λ r. no q (subst T (sym test) (r .1))), refl, refl)
+    -- what is given is a limit that has a rank
+    pub given-top : TableRule t → limit ≼ pos 255 → kept given ≼ pos 255
+    given-top rule small = subst (λ (z : ℤ). z ≼ pos 255) (sym gives) (next-top t rule limit (getD run (at + 2) 0) small)
+
+    pub step-not-raised : ltZ (kept (getD l who (pos 0))) (kept given) ≡ false → Stepped t limit marks (recordAt run at) place l p r l p r
+    step-not-raised q = inl ((λ k. no q (subst T (sym test) (k .1))), refl, refl, refl)

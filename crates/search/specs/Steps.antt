@@ -1,10 +1,9 @@
--- What each part of a search does to the limits `l` and to the places `p` of the parents' records. Assumes nothing.
+-- What each part of a search does to the limits `l`, to the places `p` of the parents' records and to the ranks `r`. Assumes nothing.
 use mathlib.Core.Path.{_≡_}
 use mathlib.Core.Logic.{_≢_, _⊎_}
-use mathlib.Core.Bool.{Bool, _&&_}
 use mathlib.Core.List.{List}
 use Prim.Native.Nat.{ℕ, zero, suc, _+_, _*_, _-_, _/_, _≤_, _<_}
-use lib.Dec.{T, eqb, ltb}
+use lib.Dec.{T}
 use lib.ListN.{length, getD, set, take, drop}
 use lib.IntN.{ℤ, pos}
 use lib.Signed.{ltZ}
@@ -18,27 +17,32 @@ use Rattle.block.specs.Bytes.{two}
 abbrev pub recordAt : List ℕ → ℕ → Delegation
 recordAt s i = record { giver = getD s i 0; receiver = getD s (i + 1) 0; weight = getD s (i + 2) 0; need = two s (i + 4); bar = two s (i + 6) }
 
--- 255 at the owner, none elsewhere, no parents
-pub record Started (l : List ℤ) (p : List ℕ) : Type 0 where
+-- the rank of a subject of this limit: the larger the limit the lower, then by number; 16384 and the number where there is none
+abbrev pub rankOf : ℤ → ℕ → ℕ
+rankOf limit u = 64 * (256 - code limit) + u
+
+-- 255 at the owner, none elsewhere, no parents, the ranks by the limits
+pub record Started (l : List ℤ) (p r : List ℕ) : Type 0 where
   pub owner : getD l 0 none ≡ pos 255
   pub others : (y : ℕ) → 0 ≢ y → getD l y none ≡ none
   pub places : (y : ℕ) → getD p y 0 ≡ 0
+  pub ranks : (y : ℕ) → y < 64 → getD r y 0 ≡ rankOf (getD l y none) y
 
 -- the marks meet the condition of d, and from a giver of this limit d gives its receiver more than it has
 abbrev pub Raises : List ℤ → ℤ → ℕ → List ℤ → Delegation → Type 0
 Raises t limit marks l d = T (meets marks (d .need) (d .bar)) × T (ltZ (getD l (d .receiver) none) (next t limit (d .weight)))
 
 -- d, whose record is at this place, raises its receiver, and is then its parent; or nothing changes
-abbrev pub Stepped : List ℤ → ℤ → ℕ → Delegation → ℕ → List ℤ → List ℕ → List ℤ → List ℕ → Type 0
-Stepped t limit marks d place l p l′ p′ =
-    ((Raises t limit marks l d → ⊥) × (l′ ≡ l) × (p′ ≡ p))
-    ⊎ (Raises t limit marks l d × (l′ ≡ set l (d .receiver) (next t limit (d .weight))) × (p′ ≡ set p (d .receiver) place))
+abbrev pub Stepped : List ℤ → ℤ → ℕ → Delegation → ℕ → List ℤ → List ℕ → List ℕ → List ℤ → List ℕ → List ℕ → Type 0
+Stepped t limit marks d place l p r l′ p′ r′ =
+    ((Raises t limit marks l d → ⊥) × (l′ ≡ l) × (p′ ≡ p) × (r′ ≡ r))
+    ⊎ (Raises t limit marks l d × (l′ ≡ set l (d .receiver) (next t limit (d .weight))) × (p′ ≡ set p (d .receiver) place) × (r′ ≡ set r (d .receiver) (rankOf (next t limit (d .weight)) (d .receiver))))
 
 -- the first records of a run, one after another; the first of them is at the place `first`
-pub data Ran (t : List ℤ) (limit : ℤ) (marks : ℕ) (run : List ℕ) (first : ℕ) (l : List ℤ) (p : List ℕ) : ℕ → List ℤ → List ℕ → Type 0 where
-  ran-none : Ran t limit marks run first l p zero l p
-  ran-more : {k : ℕ} {l′ : List ℤ} {p′ : List ℕ} {l″ : List ℤ} {p″ : List ℕ} → Ran t limit marks run first l p k l′ p′ → Stepped t limit marks (recordAt run (8 * k)) (first + k) l′ p′ l″ p″
-      → Ran t limit marks run first l p (suc k) l″ p″
+pub data Ran (t : List ℤ) (limit : ℤ) (marks : ℕ) (run : List ℕ) (first : ℕ) (l : List ℤ) (p r : List ℕ) : ℕ → List ℤ → List ℕ → List ℕ → Type 0 where
+  ran-none : Ran t limit marks run first l p r zero l p r
+  ran-more : {k : ℕ} {l′ : List ℤ} {p′ r′ : List ℕ} {l″ : List ℤ} {p″ r″ : List ℕ} → Ran t limit marks run first l p r k l′ p′ r′
+      → Stepped t limit marks (recordAt run (8 * k)) (first + k) l′ p′ r′ l″ p″ r″ → Ran t limit marks run first l p r (suc k) l″ p″ r″
 
 -- r is the place of the first record whose giver is not below `bound`, or the number of records
 pub record Sought (s : List ℕ) (bound r : ℕ) : Type 0 where
@@ -56,7 +60,7 @@ abbrev pub part : List ℕ → ℕ → ℕ → List ℕ
 part s a e = take (8 * e - 8 * a) (drop (8 * a) s)
 
 -- the records of one giver, all of them and no others, one after another
-pub record Gave (t : List ℤ) (s : List ℕ) (marks giver : ℕ) (l : List ℤ) (p : List ℕ) (l′ : List ℤ) (p′ : List ℕ) : Type 0 where
+pub record Gave (t : List ℤ) (s : List ℕ) (marks giver : ℕ) (l : List ℤ) (p r : List ℕ) (l′ : List ℤ) (p′ r′ : List ℕ) : Type 0 where
   pub first : ℕ
   pub past : ℕ
   pub order : first ≤ past
@@ -64,16 +68,21 @@ pub record Gave (t : List ℤ) (s : List ℕ) (marks giver : ℕ) (l : List ℤ)
   pub before : (k : ℕ) → k < first → getD s (8 * k) 0 < giver
   pub here : (k : ℕ) → first ≤ k → k < past → getD s (8 * k) 0 ≡ giver
   pub after : (k : ℕ) → past ≤ k → k < length s / 8 → giver < getD s (8 * k) 0
-  pub ran : Ran t (getD l giver none) marks (part s first past) first l p (past - first) l′ p′
+  pub ran : Ran t (getD l giver none) marks (part s first past) first l p r (past - first) l′ p′ r′
 
--- subject i is not settled, and its limit is above that of r; 64 is no subject, and has none
-unfoldable pub isHeavier : List ℤ → List ℕ → ℕ → ℕ → Bool
-isHeavier l settled r i = eqb (getD settled i 0) 0 && ltb (code (getD l r none)) (code (getD l i none))
+-- a subject is not settled where its rank is below 32768
+abbrev pub Pending : List ℕ → ℕ → Type 0
+Pending r u = getD r u 0 < 32768
 
--- r is, of the subjects below i that are not settled, the one of the largest limit, the lower number where limits tie; 64, past the end of the limits, where none has one
-pub record Heaviest (l : List ℤ) (settled : List ℕ) (i r : ℕ) : Type 0 where
-  pub place : (r < i) ⊎ (r ≡ 64)
-  pub most : (y : ℕ) → y < i → getD settled y 0 ≡ 0 → getD l y none ≼ getD l r none
-  pub fresh : r < 64 → getD settled r 0 ≡ 0
-  pub live : r < 64 → pos 0 ≼ getD l r none
-  pub tie : r < 64 → (y : ℕ) → y < r → getD settled y 0 ≡ 0 → code (getD l y none) < code (getD l r none)
+-- the limits are at most 255, and the ranks of the subjects that are not settled go by them
+pub record Ranked (l : List ℤ) (r : List ℕ) : Type 0 where
+  pub top : (y : ℕ) → getD l y none ≼ pos 255
+  pub each : (y : ℕ) → y < 64 → Pending r y → getD r y 0 ≡ rankOf (getD l y none) y
+
+-- u is, of the subjects that are not settled, the one of the largest limit, the lower number where limits tie; 64, past the end of the limits, where none has one
+pub record Heaviest (l : List ℤ) (r : List ℕ) (u : ℕ) : Type 0 where
+  pub place : (u < 64) ⊎ (u ≡ 64)
+  pub most : (y : ℕ) → y < 64 → Pending r y → getD l y none ≼ getD l u none
+  pub fresh : u < 64 → Pending r u
+  pub live : u < 64 → pos 0 ≼ getD l u none
+  pub tie : u < 64 → (y : ℕ) → y < u → Pending r y → code (getD l y none) < code (getD l u none)

@@ -1,39 +1,44 @@
-// Which subject is settled next.
+// Which subject is settled next: the one of the least rank.
 ghost use mathlib.Core.Path.{_≡_};
-ghost use Prim.Native.Nat.{_≤_, _<_};
+ghost use mathlib.Core.List.{List};
+ghost use Prim.Native.Nat.{_<_};
 ghost use lib.ListN.{length};
-ghost use Rattle.search.specs.Steps.{isHeavier, Heaviest};
+ghost use lib.IntN.{ℤ, pos};
+ghost use Rattle.rules.specs.Limit.{_≼_};
+ghost use Rattle.search.specs.Steps.{rankOf, Ranked, Heaviest};
 
-// Subject i is not settled, and its limit is above that of `best`; 64 is no subject, and has none.
-fn heavier(limits: &[i16], settled: &[u8], best: usize, i: usize) -> bool
-    requires { ⌜ (length (now limits) ≡ 64) × (length (now settled) ≡ 64) × (best ≤ 64) × (i < 64) ⌝ }
-    ensures { λ r. ⌜ r ≡ isHeavier (now (limits .entry)) (now (settled .entry)) best i ⌝ }
+// Every rank of a subject that has a limit is below this.
+const UNREACHED: u16 = 16384;
+
+// What stands in place of its rank once a subject is settled.
+pub const SETTLED: u16 = 32768;
+
+// The rank of a subject of this limit: the larger the limit the lower, then by number.
+pub fn rank(limit: i16, subject: usize) -> u16
+    requires { ⌜ (limit ≼ pos 255) × (subject < 64) ⌝ }
+    ensures { λ r. ⌜ r ≡ rankOf limit subject ⌝ }
 {
-    if settled[i] != 0 {
-        return false;
+    if limit < 0 {
+        return UNREACHED + subject as u16;
     }
-    let l = limits[i];
-    if l < 0 {
-        return false;
-    }
-    if best == 64 {
-        return true;
-    }
-    limits[best] < l
+    64 * (255 - limit as u16) + subject as u16
 }
 
 // The subject of the largest limit that is not settled, the lower number where limits tie; 64 where there is none.
-pub fn heaviest(limits: &[i16], settled: &[u8]) -> usize
-    requires { ⌜ (length (now limits) ≡ 64) × (length (now settled) ≡ 64) ⌝ }
-    ensures { λ r. ⌜ Heaviest (now (limits .entry)) (now (settled .entry)) 64 r ⌝ }
+pub fn heaviest(ranks: &[u16]) -> usize
+    requires { ⌜ length (now ranks) ≡ 64 ⌝ }
+    ensures { λ r. ⌜ ((l : List ℤ) → Ranked l (now (ranks .entry)) → Heaviest l (now (ranks .entry)) r) ⌝ }
 {
-    let mut best: usize = 64;
+    let mut least = UNREACHED;
     let mut i: usize = 0;
     while i < 64 {
-        if heavier(limits, settled, best, i) {
-            best = i;
+        if ranks[i] < least {
+            least = ranks[i];
         }
         i += 1;
     }
-    best
+    if least == UNREACHED {
+        return 64;
+    }
+    (least % 64) as usize
 }

@@ -16,18 +16,20 @@ pub use on_block::limits_for;
 pub use on_block::reach_of;
 pub use on_block::starts_of;
 
-// 255 at the owner, none elsewhere, no parents.
-fn start(limits: &mut [i16], parents: &mut [u16])
-    requires { ⌜ (length (now limits) ≡ 64) × (length (now parents) ≡ 64) ⌝ }
-    ensures { λ _. ⌜ Started (now (limits .exit)) (now (parents .exit)) ⌝ }
+// 255 at the owner, none elsewhere, no parents, the ranks by the limits.
+fn start(limits: &mut [i16], parents: &mut [u16], ranks: &mut [u16])
+    requires { ⌜ (length (now limits) ≡ 64) × (length (now parents) ≡ 64) × (length (now ranks) ≡ 64) ⌝ }
+    ensures { λ _. ⌜ Started (now (limits .exit)) (now (parents .exit)) (now (ranks .exit)) ⌝ }
 {
     let mut i: usize = 0;
     while i < 64 {
         limits[i] = -1;
         parents[i] = 0;
+        ranks[i] = heavy::rank(-1, i);
         i += 1;
     }
     limits[0] = 255;
+    ranks[0] = heavy::rank(255, 0);
 }
 
 // The reach of every subject, and for each subject that has one the place of the record by which it is reached.
@@ -43,12 +45,21 @@ pub fn search(
     requires { ⌜ Lent (now table) (now records) (length (now records) / 8) × Starts (now records) (now starts) × (length (now limits) ≡ 64) × (length (now parents) ≡ 64) ⌝ }
     ensures { λ _. ⌜ Searched (now (table .entry)) (now (records .entry)) marks (now (limits .exit)) (now (parents .exit)) ⌝ }
 {
-    start(limits, parents);
-    let mut settled = [0u8; 64];
-    let mut u = heavy::heaviest(limits, &settled);
+    let mut ranks = [0u16; 64];
+    start(limits, parents, &mut ranks);
+    let mut u = heavy::heaviest(&ranks);
     while u < 64 {
-        settled[u] = 1;
-        run::relax_giver(records, starts, u, marks, table, limits, parents);
-        u = heavy::heaviest(limits, &settled);
+        ranks[u] = heavy::SETTLED;
+        run::relax_giver(
+            records,
+            starts,
+            u,
+            marks,
+            table,
+            limits,
+            parents,
+            &mut ranks,
+        );
+        u = heavy::heaviest(&ranks);
     }
 }

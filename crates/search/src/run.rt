@@ -2,13 +2,17 @@
 ghost use mathlib.Core.Path.{_≡_};
 ghost use Prim.Native.Nat.{ℕ, _+_, _*_, _/_, _≤_, _<_};
 ghost use lib.ListN.{length, getD};
+ghost use lib.IntN.{pos};
+ghost use Rattle.rules.specs.Limit.{none, _≼_};
+ghost use Rattle.rules.specs.Table.{TableRule};
 ghost use Rattle.rules.specs.WellFormed.{Rising};
 ghost use Rattle.search.specs.Search.{Lent};
 ghost use Rattle.search.specs.Steps.{recordAt, Stepped, Ran, Sought, Starts, Gave};
 ghost use Rattle.search.specs.Found.{delegationsIn};
+use crate::heavy;
 use block::layout;
 
-// The record at `at`: where it raises its receiver, the limit is stored, and `place` as the receiver's parent.
+// The record at `at`: where it raises its receiver, the limit is stored with its rank, and `place` as the receiver's parent.
 fn relax_at(
     run: &[u8],
     at: usize,
@@ -18,9 +22,10 @@ fn relax_at(
     table: &[i16],
     limits: &mut [i16],
     parents: &mut [u16],
+    ranks: &mut [u16],
 )
-    requires { ⌜ (at + 8 ≤ length (now run)) × (place < 65536) × (length (now table) ≡ 256) × (length (now limits) ≡ 64) × (length (now parents) ≡ 64) × (getD (now run) (at + 1) 0 < 64) ⌝ }
-    ensures { λ _. ⌜ Stepped (now (table .entry)) limit marks (recordAt (now (run .entry)) at) place (now (limits .entry)) (now (parents .entry)) (now (limits .exit)) (now (parents .exit)) ⌝ }
+    requires { ⌜ (at + 8 ≤ length (now run)) × (place < 65536) × TableRule (now table) × (limit ≼ pos 255) × (length (now limits) ≡ 64) × (length (now parents) ≡ 64) × (length (now ranks) ≡ 64) × (getD (now run) (at + 1) 0 < 64) ⌝ }
+    ensures { λ _. ⌜ Stepped (now (table .entry)) limit marks (recordAt (now (run .entry)) at) place (now (limits .entry)) (now (parents .entry)) (now (ranks .entry)) (now (limits .exit)) (now (parents .exit)) (now (ranks .exit)) ⌝ }
 {
     let need = block::read_two(run, at + layout::NEED);
     let bar = block::read_two(run, at + layout::BAR);
@@ -30,6 +35,7 @@ fn relax_at(
         if limits[receiver] < given {
             limits[receiver] = given;
             parents[receiver] = place as u16;
+            ranks[receiver] = heavy::rank(given, receiver);
         }
     }
 }
@@ -43,9 +49,10 @@ fn relax_run(
     table: &[i16],
     limits: &mut [i16],
     parents: &mut [u16],
+    ranks: &mut [u16],
 )
-    requires { ⌜ (first + length (now run) / 8 ≤ 256) × (length (now table) ≡ 256) × (length (now limits) ≡ 64) × (length (now parents) ≡ 64) × ((k : ℕ) → k < length (now run) / 8 → getD (now run) (8 * k + 1) 0 < 64) ⌝ }
-    ensures { λ _. ⌜ Ran (now (table .entry)) limit marks (now (run .entry)) first (now (limits .entry)) (now (parents .entry)) (length (now (run .entry)) / 8) (now (limits .exit)) (now (parents .exit)) ⌝ }
+    requires { ⌜ (first + length (now run) / 8 ≤ 256) × TableRule (now table) × (limit ≼ pos 255) × (length (now limits) ≡ 64) × (length (now parents) ≡ 64) × (length (now ranks) ≡ 64) × ((k : ℕ) → k < length (now run) / 8 → getD (now run) (8 * k + 1) 0 < 64) ⌝ }
+    ensures { λ _. ⌜ Ran (now (table .entry)) limit marks (now (run .entry)) first (now (limits .entry)) (now (parents .entry)) (now (ranks .entry)) (length (now (run .entry)) / 8) (now (limits .exit)) (now (parents .exit)) (now (ranks .exit)) ⌝ }
 {
     let n = run.len() / layout::RECORD_SIZE;
     let mut k: usize = 0;
@@ -59,6 +66,7 @@ fn relax_run(
             table,
             limits,
             parents,
+            ranks,
         );
         k += 1;
     }
@@ -104,9 +112,10 @@ pub fn relax_giver(
     table: &[i16],
     limits: &mut [i16],
     parents: &mut [u16],
+    ranks: &mut [u16],
 )
-    requires { ⌜ Lent (now table) (now records) (length (now records) / 8) × Starts (now records) (now starts) × (giver < 64) × (length (now limits) ≡ 64) × (length (now parents) ≡ 64) ⌝ }
-    ensures { λ _. ⌜ Gave (now (table .entry)) (now (records .entry)) marks giver (now (limits .entry)) (now (parents .entry)) (now (limits .exit)) (now (parents .exit)) ⌝ }
+    requires { ⌜ Lent (now table) (now records) (length (now records) / 8) × Starts (now records) (now starts) × (giver < 64) × (getD (now limits) giver none ≼ pos 255) × (length (now limits) ≡ 64) × (length (now parents) ≡ 64) × (length (now ranks) ≡ 64) ⌝ }
+    ensures { λ _. ⌜ Gave (now (table .entry)) (now (records .entry)) marks giver (now (limits .entry)) (now (parents .entry)) (now (ranks .entry)) (now (limits .exit)) (now (parents .exit)) (now (ranks .exit)) ⌝ }
 {
     let a = starts[giver] as usize;
     let e = starts[giver + 1] as usize;
@@ -119,5 +128,6 @@ pub fn relax_giver(
         table,
         limits,
         parents,
+        ranks,
     );
 }

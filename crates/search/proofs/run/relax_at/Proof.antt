@@ -1,7 +1,7 @@
 -- `search::run::relax_at` takes the step of one record. Assumes nothing.
 use native.Mathlib.Omega.{arith}
 use borrow.Author.Needs.{needs}
-use Rattle.search.proofs.Signed.{step-raised, step-not-raised, step-unmet}
+use Rattle.search.proofs.Signed.{given-top, step-raised, step-not-raised, step-unmet}
 use Rattle.search.proofs.run.relax_at.Statement.{statement}
 use Rattle.search.proofs.run.relax_at.Tie as tie
 
@@ -59,30 +59,48 @@ mul-parents c = search needs
 slice-write-parents : tie.Need-slice-write-parents
 slice-write-parents c = search needs
 
+rank-requires : tie.Need-rank-requires
+rank-requires c κs =
+    let s = c .before .before .before .before .before .before .before .before .before .before .before .before in (
+      given-top (s .args .table .now) (s .args .run .now) (s .args .at) (s .args .place) (s .args .limit) (s .args .marks) (s .args .limits .now) (s .args .parents .now) (s .args .ranks .now)
+          _ _ _ (c .before .before .before .before .before .before .before .before .read-two .ensures) (c .before .before .before .before .before .before .before .read-two2 .ensures) (c .before .before .before .before .before .before .meets .ensures)
+          _ (s .fits .limit) (omega arith) (c .before .if22 .given) (record { sfits = c .before .before .next .ok }) (c .before .before .next .ensures) (s .pre .2) (s .pre .3),
+      omega arith,
+    )
+
+mul-ranks : tie.Need-mul-ranks
+mul-ranks c = search needs
+
+slice-write-ranks : tie.Need-slice-write-ranks
+slice-write-ranks c = search needs
+
 same-length : tie.Need-same-length
 same-length c = search needs
 
 same-length-2 : tie.Need-same-length-2
 same-length-2 c = search needs
 
+same-length-3 : tie.Need-same-length-3
+same-length-3 c = search needs
+
 returns : tie.Need-returns
 returns c =
-    let s = c .before .before .before .before .before .before .before .before .before .before .before in
-    step-raised (s .args .table .now) (s .args .run .now) (s .args .at) (s .args .place) (s .args .limit) (s .args .marks) (s .args .limits .now) (s .args .parents .now)
-    _ _ _ (c .before .before .before .before .before .before .before .before .read-two .ensures) (c .before .before .before .before .before .before .before .read-two2 .ensures) (c .before .before .before .before .before .before .meets .ensures)
-    _ (s .fits .limit) (omega arith) (c .before .if22 .given) (record { sfits = c .before .before .next .ok }) (c .before .before .next .ensures) (c .before .before .before .before .before .if1 .taken) (c .if2 .taken)
+    let s = c .before .before .before .before .before .before .before .before .before .before .before .before .before in
+    rw (c .rank .ensures) (step-raised (s .args .table .now) (s .args .run .now) (s .args .at) (s .args .place) (s .args .limit) (s .args .marks) (s .args .limits .now) (s .args .parents .now) (s .args .ranks .now)
+    _ _ _ (c .before .before .before .before .before .before .before .before .before .read-two .ensures) (c .before .before .before .before .before .before .before .before .read-two2 .ensures) (c .before .before .before .before .before .before .before .meets .ensures)
+    _ (s .fits .limit) (omega arith) (c .before .before .if22 .given) (record { sfits = c .before .before .before .next .ok }) (c .before .before .before .next .ensures) (c .before .before .before .before .before .before .if1 .taken) (c .before .if2 .taken))
 
 returns-2 : tie.Need-returns-2
 returns-2 c =
-    let s = c .before .before .before .before .before .before .before .before .before .before .before in
-    step-not-raised (s .args .table .now) (s .args .run .now) (s .args .at) (s .args .place) (s .args .limit) (s .args .marks) (s .args .limits .now) (s .args .parents .now)
+    let s = c .before .before .before .before .before .before .before .before .before .before .before .before in
+    step-not-raised (s .args .table .now) (s .args .run .now) (s .args .at) (s .args .place) (s .args .limit) (s .args .marks) (s .args .limits .now) (s .args .parents .now) (s .args .ranks .now)
     _ _ _ (c .before .before .before .before .before .before .before .before .read-two .ensures) (c .before .before .before .before .before .before .before .read-two2 .ensures) (c .before .before .before .before .before .before .meets .ensures)
     _ (s .fits .limit) (omega arith) (c .before .if22 .given) (record { sfits = c .before .before .next .ok }) (c .before .before .next .ensures) (c .if2 .left)
 
 returns-3 : tie.Need-returns-3
 returns-3 c =
-    let s = c .before .before .before .before .before .before in
-    step-unmet (s .args .table .now) (s .args .run .now) (s .args .at) (s .args .place) (s .args .limit) (s .args .marks) (s .args .limits .now) (s .args .parents .now)
+    let s = c .before .before .before .before .before .before .before in
+    step-unmet (s .args .table .now) (s .args .run .now) (s .args .at) (s .args .place) (s .args .limit) (s .args .marks) (s .args .limits .now) (s .args .parents .now) (s .args .ranks .now)
     _ _ _ (c .before .before .before .read-two .ensures) (c .before .before .read-two2 .ensures) (c .before .meets .ensures)
     (c .if1 .left)
 
@@ -108,8 +126,12 @@ relax-at-spec =
     cast-parents
     mul-parents
     slice-write-parents
+    rank-requires
+    mul-ranks
+    slice-write-ranks
     same-length
     same-length-2
+    same-length-3
     returns
     returns-2
     returns-3)

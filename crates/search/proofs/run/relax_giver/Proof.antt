@@ -1,8 +1,11 @@
 -- `search::run::relax_giver` takes the step of each of a giver's records, all of them and no others. Assumes nothing.
+use mathlib.Core.Path.{sym, subst}
 use Prim.Native.Nat.{_+_}
 use native.Mathlib.Omega.{arith}
 use borrow.Author.Needs.{needs}
 use lib.ListN.{getD}
+use lib.IntN.{ℤ, pos}
+use Rattle.rules.specs.Limit.{_≼_}
 use Rattle.search.proofs.Signed.{read-limit}
 use Rattle.search.proofs.Givers.{part-count, part-receivers, run-order, gave}
 use Rattle.search.proofs.run.relax_giver.Statement.{statement}
@@ -15,7 +18,7 @@ shared-slice-read-a : tie.Need-shared-slice-read-a
 shared-slice-read-a c = search needs
 
 cast-a : tie.Need-cast-a
-cast-a c = omega (arith, c .shared-slice-known3 .given (c .before .before .before .before .args .giver))
+cast-a c = omega (arith, c .shared-slice-known3 .given (c .before .before .before .before .before .args .giver))
 
 add-e : tie.Need-add-e
 add-e c = search needs
@@ -27,7 +30,7 @@ shared-slice-read-e : tie.Need-shared-slice-read-e
 shared-slice-read-e c = search needs
 
 cast-e : tie.Need-cast-e
-cast-e c = omega (arith, c .shared-slice-known4 .given (c .before .before .before .before .before .args .giver + 1))
+cast-e c = omega (arith, c .shared-slice-known4 .given (c .before .before .before .before .before .before .args .giver + 1))
 
 mul-limit : tie.Need-mul-limit
 mul-limit c = search needs
@@ -37,7 +40,7 @@ slice-copy-out-limit c = search needs
 
 mul-relax-run : tie.Need-mul-relax-run
 mul-relax-run c =
-    let s = c .before .before .before .before .before .before in
+    let s = c .before .before .before .before .before .before .before in
     let a = s .args in
     let g = a .giver in
     let low = s .pre .1 .each g (omega (arith, s .pre .2)) in
@@ -46,7 +49,7 @@ mul-relax-run c =
 
 mul-relax-run-2 : tie.Need-mul-relax-run-2
 mul-relax-run-2 c =
-    let s = c .before .before .before .before .before .before in
+    let s = c .before .before .before .before .before .before .before in
     let a = s .args in
     let g = a .giver in
     let low = s .pre .1 .each g (omega (arith, s .pre .2)) in
@@ -55,7 +58,7 @@ mul-relax-run-2 c =
 
 sub-relax-run : tie.Need-sub-relax-run
 sub-relax-run c =
-    let s = c .before .before .before .before .before .before in
+    let s = c .before .before .before .before .before .before .before in
     let a = s .args in
     let g = a .giver in
     let low = s .pre .1 .each g (omega (arith, s .pre .2)) in
@@ -64,7 +67,7 @@ sub-relax-run c =
 
 part-relax-run-start : tie.Need-part-relax-run-start
 part-relax-run-start c =
-    let s = c .before .before .before .before .before .before in
+    let s = c .before .before .before .before .before .before .before in
     let a = s .args in
     let g = a .giver in
     let low = s .pre .1 .each g (omega (arith, s .pre .2)) in
@@ -73,7 +76,7 @@ part-relax-run-start c =
 
 part-relax-run-end : tie.Need-part-relax-run-end
 part-relax-run-end c =
-    let s = c .before .before .before .before .before .before in
+    let s = c .before .before .before .before .before .before .before in
     let a = s .args in
     let g = a .giver in
     let low = s .pre .1 .each g (omega (arith, s .pre .2)) in
@@ -82,7 +85,7 @@ part-relax-run-end c =
 
 relax-run-requires : tie.Need-relax-run-requires
 relax-run-requires c κs =
-    let s = c .before .before .before .before .before .before .before .before .before in
+    let s = c .before .before .before .before .before .before .before .before .before .before .before in
     let a = s .args in
     let g = a .giver in
     let low = s .pre .1 .each g (omega (arith, s .pre .2)) in
@@ -92,9 +95,11 @@ relax-run-requires c κs =
     let order = run-order (a .records .now) g from past low high in
     let lent = s .pre .0 in (
       omega (arith, part-count (a .records .now) from past order (high .within), order, high .within, lent .few),
-      lent .rule .size,
-      s .pre .3,
+      lent .rule,
+      subst (λ (z : ℤ). z ≼ pos 255) (sym (read-limit (a .limits .now) g (omega arith) (c .before .before .before .before .limit .given))) (s .pre .3),
       s .pre .4,
+      s .pre .5,
+      s .pre .6,
       part-receivers (a .records .now) from past order (high .within) (a .table .now) lent,
     )
 
@@ -104,15 +109,18 @@ same-length c = search needs
 same-length-2 : tie.Need-same-length-2
 same-length-2 c = search needs
 
+same-length-3 : tie.Need-same-length-3
+same-length-3 c = search needs
+
 returns : tie.Need-returns
 returns c =
-    let s = c .before .before .before .before .before .before .before .before .before .before .before .before .before in
+    let s = c .before .before .before .before .before .before .before .before .before .before .before .before .before .before .before .before .before in
     let a = s .args in
     let g = a .giver in
     let low = s .pre .1 .each g (omega (arith, s .pre .2)) in
     let high = s .pre .1 .each (g + 1) (omega (arith, s .pre .2)) in
-    gave (a .table .now) (a .records .now) (a .marks) g (a .limits .now) (a .parents .now) _ _ _ _ _ low high (run-order (a .records .now) g (getD (a .starts .now) g 0) (getD (a .starts .now) (g + 1) 0) low high)
-    (read-limit (a .limits .now) g (omega arith) (c .before .before .before .before .before .before .before .limit .given)) (c .before .before .before .relax-run .ensures)
+    gave (a .table .now) (a .records .now) (a .marks) g (a .limits .now) (a .parents .now) (a .ranks .now) _ _ _ _ _ _ low high (run-order (a .records .now) g (getD (a .starts .now) g 0) (getD (a .starts .now) (g + 1) 0) low high)
+    (read-limit (a .limits .now) g (omega arith) (c .before .before .before .before .before .before .before .before .before .before .limit .given)) (c .before .before .before .before .before .relax-run .ensures)
 
 pub relax-giver-spec : {M : Type 1} → statement M
 relax-giver-spec =
@@ -135,4 +143,5 @@ relax-giver-spec =
     relax-run-requires
     same-length
     same-length-2
+    same-length-3
     returns)

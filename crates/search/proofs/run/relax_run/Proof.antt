@@ -12,14 +12,14 @@ use Rattle.search.proofs.run.relax_run.Statement.{statement}
 use Rattle.search.proofs.run.relax_run.Tie as tie
 
 abbrev Inv-loop : tie.InvT-loop
-Inv-loop run first limit marks table limits₀ parents₀ n k₀ limits parents k =
-    (n ≡ length run / 8) × (k ≤ n) × (length limits ≡ 64) × (length parents ≡ 64) × Ran table (toZ w16 limit) marks run first limits₀ parents₀ k limits parents
+Inv-loop run first limit marks table limits₀ parents₀ ranks₀ n k₀ limits parents ranks k =
+    (n ≡ length run / 8) × (k ≤ n) × (length limits ≡ 64) × (length parents ≡ 64) × (length ranks ≡ 64) × Ran table (toZ w16 limit) marks run first limits₀ parents₀ ranks₀ k limits parents ranks
 
 abbrev μ-loop : tie.MeasureT-loop
-μ-loop run first limit marks table limits₀ parents₀ n k₀ limits parents k = n - k
+μ-loop run first limit marks table limits₀ parents₀ ranks₀ n k₀ limits parents ranks k = n - k
 
 loop-holds : tie.Need-loop-holds Inv-loop μ-loop
-loop-holds c = (refl, omega arith, c .before .before .pre .2, c .before .before .pre .3, ran-none)
+loop-holds c = (refl, omega arith, c .before .before .before .pre .3, c .before .before .before .pre .4, c .before .before .before .pre .5, ran-none)
 
 mul-relax-at : tie.Need-mul-relax-at Inv-loop μ-loop
 mul-relax-at c = omega arith
@@ -29,9 +29,10 @@ add-relax-at c = omega arith
 
 relax-at-requires : tie.Need-relax-at-requires Inv-loop μ-loop
 relax-at-requires c κs =
-    let q = c .before .before .before .before .before .before .pre in
-    let v = c .before .before .before .loop in
-    (omega arith, omega arith, q .1, v .inv .2, v .inv .3, q .4 (v .k) (omega arith))
+    let s = c .before .before .before .before .before .before .before .before in
+    let q = s .pre in
+    let v = c .before .before .before .before .loop in
+    (omega arith, omega arith, q .1, rw (toZ-ofZ {w = w16} (s .fits .limit)) (q .2), v .inv .2, v .inv .3, v .inv .4, q .6 (v .k) (omega arith))
 
 add-k : tie.Need-add-k Inv-loop μ-loop
 add-k c = omega arith
@@ -40,24 +41,31 @@ loop-less : tie.Need-loop-less Inv-loop μ-loop
 loop-less c = omega arith
 
 loop-again : tie.Need-loop-again Inv-loop μ-loop
-loop-again c = (
-  refl,
-  omega arith,
-  c .before .before .before .relax-at .kept .1 .1 .1 .1 .1 .1 .0 ∙ c .before .before .before .before .before .before .before .loop .inv .2,
-  c .before .before .before .relax-at .kept .1 .1 .1 .1 .1 .1 .1 .0 ∙ c .before .before .before .before .before .before .before .loop .inv .3,
-  rw add-one (ran-more (c .before .before .before .before .before .before .before .loop .inv .4) (c .before .before .before .relax-at .ensures)),
-)
+loop-again c =
+    let v = c .before .before .before .before .before .before .before .before .before .before .loop in
+    let f = c .before .before .before .before .before .relax-at in (
+      refl,
+      omega arith,
+      f .kept .1 .1 .1 .1 .1 .1 .0 ∙ v .inv .2,
+      f .kept .1 .1 .1 .1 .1 .1 .1 .0 ∙ v .inv .3,
+      f .kept .1 .1 .1 .1 .1 .1 .1 .1 .0 ∙ v .inv .4,
+      rw add-one (ran-more (v .inv .5) (f .ensures)),
+    )
 
 same-length : tie.Need-same-length Inv-loop μ-loop
-same-length c = c .before .loop .inv .2 ∙ sym (c .before .before .before .before .pre .2)
+same-length c = c .before .loop .inv .2 ∙ sym (c .before .before .before .before .before .pre .3)
 
 same-length-2 : tie.Need-same-length-2 Inv-loop μ-loop
-same-length-2 c = c .before .loop .inv .3 ∙ sym (c .before .before .before .before .pre .3)
+same-length-2 c = c .before .loop .inv .3 ∙ sym (c .before .before .before .before .before .pre .4)
+
+same-length-3 : tie.Need-same-length-3 Inv-loop μ-loop
+same-length-3 c = c .before .loop .inv .4 ∙ sym (c .before .before .before .before .before .pre .5)
 
 returns : tie.Need-returns Inv-loop μ-loop
 returns c =
-    let e : c .before .loop .k ≡ length (c .before .before .before .before .args .run .now) / 8 = omega arith in
-    rw (← toZ-ofZ {w = w16} (c .before .before .before .before .fits .limit), ← e) (c .before .loop .inv .4)
+    let s = c .before .before .before .before .before in
+    let e : c .before .loop .k ≡ length (s .args .run .now) / 8 = omega arith in
+    rw (← toZ-ofZ {w = w16} (s .fits .limit), ← e) (c .before .loop .inv .5)
 
 pub relax-run-spec : {M : Type 1} → statement M
 relax-run-spec =
@@ -74,4 +82,5 @@ relax-run-spec =
     loop-again
     same-length
     same-length-2
+    same-length-3
     returns)
