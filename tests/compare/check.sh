@@ -8,20 +8,8 @@ cd "$here/../.."
 out="target/compare"
 mkdir -p "$out"
 
-# step WHAT COMMAND...: one line for the step; its output only if it fails.
-step() {
-    local what="$1" log="$out/step.log"
-    shift
-    if ! "$@" >"$log" 2>&1; then
-        cat "$log"
-        echo "compare: $what: FAILED"
-        exit 1
-    fi
-    echo "compare: $what: ok"
-}
-
-# A step runs as a condition, in which a failure does not end a function by
-# itself: its commands are joined by &&.
+part="compare"
+. tests/step.sh
 
 # The archive asks for nothing but C's memcpy and memset, and has no data that
 # is written: a call keeps nothing.

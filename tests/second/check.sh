@@ -8,17 +8,8 @@ root="$(cd "$here/../.." && pwd)"
 out="$root/target/second"
 mkdir -p "$out"
 
-# step WHAT COMMAND...: one line for the step; its output only if it fails.
-step() {
-    local what="$1" log="$out/step.log"
-    shift
-    if ! "$@" >"$log" 2>&1; then
-        grep -v '^test result' "$log" || true
-        echo "second: $what: FAILED"
-        exit 1
-    fi
-    echo "second: $what: ok"
-}
+part="second"
+. "$root/tests/step.sh"
 
 compile() {
     rustc --edition 2021 -D warnings -L "dependency=$out" "$@"
@@ -27,8 +18,6 @@ compile() {
 second=(--extern "second=$out/libsecond.rlib")
 generate=(--extern "generate=$out/libgenerate.rlib")
 
-# A step runs as a condition, in which a failure does not end a function by
-# itself: its commands are joined by &&.
 build() {
     compile -O -C overflow-checks=on --crate-type rlib --crate-name second "$here/lib.rs" --out-dir "$out" &&
         compile "${second[@]}" --crate-type rlib --crate-name generate "$here/generate/lib.rs" --out-dir "$out" &&
