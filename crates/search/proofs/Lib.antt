@@ -1,6 +1,9 @@
+pub mod BitSets
 pub mod Records
 pub mod Signed
 pub mod Weigh
+pub mod Levels
+pub mod Ways
 pub mod Givers
 pub mod Fill
 pub mod State

@@ -58,33 +58,3 @@ not-more (pos k) (pos m) h = omega (arith, nltb→le k m (not-T (ltb k m) h))
 not-more (pos k) (negsuc m) h = omega arith
 not-more (negsuc k) (pos m) h = absurd (h tt)
 not-more (negsuc k) (negsuc m) h = omega arith
-
--- ── the ways of a record ──
-module _ (t : List ℤ) (run : List ℕ) (at place : ℕ) (limit : ℤ) (marks : ℕ) (l : List ℤ) (p r : List ℕ) (need bar : ℕ) (m : Bool)
-    (en : need ≡ two run (at + 4)) (eb : bar ≡ two run (at + 6)) (em : m ≡ meets marks need bar) where
-  abbrev who : ℕ
-  who = getD run (at + 1) 0
-
-  met : m ≡ meets marks (two run (at + 4)) (two run (at + 6))
-  met = em ∙ (λ i. meets marks (en i) (eb i))
-
-  pub step-unmet : m ≡ false → Stepped t limit marks (recordAt run at) place l p r l p r
-  step-unmet f = inl ((λ q. no f (subst T (sym met) (q .0))), refl, refl, refl)
-
-  module _ (given : ℤ) (f : SFits w16 limit) (h : who < length l) (b : mag (getD l who (pos 0)) < 32768) (g : SFits w16 given)
-      (eg : given ≡ next t (kept limit) (getD run (at + 2) 0)) where
-    gives : kept given ≡ next t limit (getD run (at + 2) 0)
-    gives = toZ-ofZ g ∙ eg ∙ ap (λ (z : ℤ). next t z (getD run (at + 2) 0)) (toZ-ofZ f)
-
-    test : ltZ (kept (getD l who (pos 0))) (kept given) ≡ ltZ (getD l who none) (next t limit (getD run (at + 2) 0))
-    test = λ i. ltZ (read-limit l who h b i) (gives i)
-
-    pub step-raised : m ≡ true → ltZ (kept (getD l who (pos 0))) (kept given) ≡ true → Stepped t limit marks (recordAt run at) place l p r (set l who (kept given)) (set p who place) (set r who (rankOf (kept given) who))
-    step-raised y q = inr ((subst T met (yes y), subst T test (yes q)), ap (set l who) gives, refl, ap (λ (z : ℤ). set r who (rankOf z who)) gives)
-
-    -- what is given is a limit that has a rank
-    pub given-top : TableRule t → limit ≼ pos 255 → kept given ≼ pos 255
-    given-top rule small = subst (λ (z : ℤ). z ≼ pos 255) (sym gives) (next-top t rule limit (getD run (at + 2) 0) small)
-
-    pub step-not-raised : ltZ (kept (getD l who (pos 0))) (kept given) ≡ false → Stepped t limit marks (recordAt run at) place l p r l p r
-    step-not-raised q = inl ((λ k. no q (subst T (sym test) (k .1))), refl, refl, refl)

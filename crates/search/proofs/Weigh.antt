@@ -60,7 +60,6 @@ module _ (r : List ℕ) (least : ℕ) (w : Least r 64 least) (l : List ℤ) (k :
     most = λ y h q. omega (arith, w .below y h, k .each y h q);
     fresh = λ h. absurd (omega arith);
     live = λ h. absurd (omega arith);
-    tie = λ h. absurd (omega arith);
   }
 
   -- the subject whose rank is the least
@@ -72,7 +71,6 @@ module _ (r : List ℕ) (least : ℕ) (w : Least r 64 least) (l : List ℤ) (k :
         most = λ y hy p. omega (arith, w .below y hy, k .each y hy p, k .top y, k .top u, q);
         fresh = λ _. f;
         live = λ _. omega (arith, q);
-        tie = λ _ y hy p. let z : y < 64 = omega arith in omega (arith, w .below y z, k .each y z p, k .top y, k .top u, q);
       }
 
   pub heaviest-some : least ≢ 16384 → Heaviest l r (least % 64)

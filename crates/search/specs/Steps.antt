@@ -12,6 +12,7 @@ use Rattle.rules.specs.Table.{next}
 use Rattle.rules.specs.Register.{Delegation}
 use Rattle.rules.specs.Condition.{meets}
 use Rattle.block.specs.Bytes.{two}
+use Rattle.search.specs.Sets.{bit}
 
 -- the delegation whose record stands at i
 abbrev pub recordAt : List ℕ → ℕ → Delegation
@@ -79,10 +80,16 @@ pub record Ranked (l : List ℤ) (r : List ℕ) : Type 0 where
   pub top : (y : ℕ) → getD l y none ≼ pos 255
   pub each : (y : ℕ) → y < 64 → Pending r y → getD r y 0 ≡ rankOf (getD l y none) y
 
--- u is, of the subjects that are not settled, the one of the largest limit, the lower number where limits tie; 64, past the end of the limits, where none has one
+-- u is, of the subjects that are not settled, one of the largest limit; 64, past the end of the limits, where none has one
 pub record Heaviest (l : List ℤ) (r : List ℕ) (u : ℕ) : Type 0 where
   pub place : (u < 64) ⊎ (u ≡ 64)
   pub most : (y : ℕ) → y < 64 → Pending r y → getD l y none ≼ getD l u none
   pub fresh : u < 64 → Pending r u
   pub live : u < 64 → pos 0 ≼ getD l u none
-  pub tie : u < 64 → (y : ℕ) → y < u → Pending r y → code (getD l y none) < code (getD l u none)
+
+-- no subject that is not settled has a limit above z, and the subjects in the set `tied` are not settled and have it
+pub record Level (z : ℤ) (l : List ℤ) (r : List ℕ) (tied : ℕ) : Type 0 where
+  pub most : (y : ℕ) → y < 64 → Pending r y → getD l y none ≼ z
+  pub within : (y : ℕ) → bit tied y ≡ 1 → y < 64
+  pub fresh : (y : ℕ) → bit tied y ≡ 1 → Pending r y
+  pub same : (y : ℕ) → bit tied y ≡ 1 → getD l y none ≡ z

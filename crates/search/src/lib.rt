@@ -10,6 +10,7 @@ mod heavy;
 mod links;
 mod on_block;
 mod run;
+mod sets;
 
 pub use links::write_links;
 pub use on_block::limits_for;
@@ -47,10 +48,12 @@ pub fn search(
 {
     let mut ranks = [0u16; 64];
     start(limits, parents, &mut ranks);
-    let mut u = heavy::heaviest(&ranks);
+    let mut tied: u64 = 0;
+    let mut u = heavy::next_of(tied, &ranks);
     while u < 64 {
         ranks[u] = heavy::SETTLED;
-        run::relax_giver(
+        let left = sets::without(tied, u);
+        tied = run::relax_giver(
             records,
             starts,
             u,
@@ -59,7 +62,8 @@ pub fn search(
             limits,
             parents,
             &mut ranks,
+            left,
         );
-        u = heavy::heaviest(&ranks);
+        u = heavy::next_of(tied, &ranks);
     }
 }

@@ -1,7 +1,11 @@
 -- `search::run::relax_at` takes the step of one record. Assumes nothing.
+use mathlib.Core.Path.{ap, _∙_}
 use native.Mathlib.Omega.{arith}
 use borrow.Author.Needs.{needs}
-use Rattle.search.proofs.Signed.{given-top, step-raised, step-not-raised, step-unmet}
+use mir.Syntax.{w16}
+use mir.Val.{toZ}
+use mir.Facts.{toZ-ofZ}
+use Rattle.search.proofs.Ways.{given-top, step-unmet, step-not-raised, step-raised, step-joined}
 use Rattle.search.proofs.run.relax_at.Statement.{statement}
 use Rattle.search.proofs.run.relax_at.Tie as tie
 
@@ -61,10 +65,14 @@ slice-write-parents c = search needs
 
 rank-requires : tie.Need-rank-requires
 rank-requires c κs =
-    let s = c .before .before .before .before .before .before .before .before .before .before .before .before in (
-      given-top (s .args .table .now) (s .args .run .now) (s .args .at) (s .args .place) (s .args .limit) (s .args .marks) (s .args .limits .now) (s .args .parents .now) (s .args .ranks .now)
-          _ _ _ (c .before .before .before .before .before .before .before .before .read-two .ensures) (c .before .before .before .before .before .before .before .read-two2 .ensures) (c .before .before .before .before .before .before .meets .ensures)
-          _ (s .fits .limit) (omega arith) (c .before .if22 .given) (record { sfits = c .before .before .next .ok }) (c .before .before .next .ensures) (s .pre .2) (s .pre .3),
+    let i = c .before in
+    let n = i .before in
+    let m = n .before .before .before .before in
+    let s = m .before .before .before .before .before .before in
+    let a = s .args in (
+      given-top (a .table .now) (a .run .now) (a .at) (a .place) (a .limit) (a .marks) (a .limits .now) (a .parents .now) (a .ranks .now) (a .tied)
+          _ _ _ (m .before .before .read-two .ensures) (m .before .read-two2 .ensures) (m .meets .ensures) (s .pre .9)
+          _ (s .fits .limit) (omega arith) (i .if22 .given) (record { sfits = n .next .ok }) (n .next .ensures) (s .pre .2) (s .pre .3),
       omega arith,
     )
 
@@ -73,6 +81,9 @@ mul-ranks c = search needs
 
 slice-write-ranks : tie.Need-slice-write-ranks
 slice-write-ranks c = search needs
+
+with-requires : tie.Need-with-requires
+with-requires c κs = search needs
 
 same-length : tie.Need-same-length
 same-length c = search needs
@@ -85,24 +96,57 @@ same-length-3 c = search needs
 
 returns : tie.Need-returns
 returns c =
-    let s = c .before .before .before .before .before .before .before .before .before .before .before .before .before in
-    rw (c .rank .ensures) (step-raised (s .args .table .now) (s .args .run .now) (s .args .at) (s .args .place) (s .args .limit) (s .args .marks) (s .args .limits .now) (s .args .parents .now) (s .args .ranks .now)
-    _ _ _ (c .before .before .before .before .before .before .before .before .before .read-two .ensures) (c .before .before .before .before .before .before .before .before .read-two2 .ensures) (c .before .before .before .before .before .before .before .meets .ensures)
-    _ (s .fits .limit) (omega arith) (c .before .before .if22 .given) (record { sfits = c .before .before .before .next .ok }) (c .before .before .before .next .ensures) (c .before .before .before .before .before .before .if1 .taken) (c .before .if2 .taken))
+    let k = c .before .before in
+    let i = k .before .before in
+    let n = i .before in
+    let m = n .before .before .before .before in
+    let s = m .before .before .before .before .before .before in
+    let a = s .args in
+    rw (k .rank .ensures) (step-joined (a .table .now) (a .run .now) (a .at) (a .place) (a .limit) (a .marks) (a .limits .now) (a .parents .now) (a .ranks .now) (a .tied)
+    _ _ _ (m .before .before .read-two .ensures) (m .before .read-two2 .ensures) (m .meets .ensures) (s .pre .9)
+    _ (s .fits .limit) (omega arith) (i .if22 .given) (record { sfits = n .next .ok }) (n .next .ensures) (s .pre .2) (s .pre .3)
+    (s .pre .8) (omega arith) (n .before .before .before .if1 .taken) (k .before .if2 .taken) (ap (toZ w16) (c .before .if3 .taken) ∙ toZ-ofZ (s .fits .limit)) (s .pre .7) _ (c .with .ensures))
+
+same-length-4 : tie.Need-same-length-4
+same-length-4 c = search needs
+
+same-length-5 : tie.Need-same-length-5
+same-length-5 c = search needs
+
+same-length-6 : tie.Need-same-length-6
+same-length-6 c = search needs
 
 returns-2 : tie.Need-returns-2
 returns-2 c =
-    let s = c .before .before .before .before .before .before .before .before .before .before .before .before in
-    step-not-raised (s .args .table .now) (s .args .run .now) (s .args .at) (s .args .place) (s .args .limit) (s .args .marks) (s .args .limits .now) (s .args .parents .now) (s .args .ranks .now)
-    _ _ _ (c .before .before .before .before .before .before .before .before .read-two .ensures) (c .before .before .before .before .before .before .before .read-two2 .ensures) (c .before .before .before .before .before .before .meets .ensures)
-    _ (s .fits .limit) (omega arith) (c .before .if22 .given) (record { sfits = c .before .before .next .ok }) (c .before .before .next .ensures) (c .if2 .left)
+    let k = c .before in
+    let i = k .before .before in
+    let n = i .before in
+    let m = n .before .before .before .before in
+    let s = m .before .before .before .before .before .before in
+    let a = s .args in
+    rw (k .rank .ensures) (step-raised (a .table .now) (a .run .now) (a .at) (a .place) (a .limit) (a .marks) (a .limits .now) (a .parents .now) (a .ranks .now) (a .tied)
+    _ _ _ (m .before .before .read-two .ensures) (m .before .read-two2 .ensures) (m .meets .ensures) (s .pre .9)
+    _ (s .fits .limit) (omega arith) (i .if22 .given) (record { sfits = n .next .ok }) (n .next .ensures) (s .pre .2) (s .pre .3)
+    (s .pre .8) (omega arith) (n .before .before .before .if1 .taken) (k .before .if2 .taken))
 
 returns-3 : tie.Need-returns-3
 returns-3 c =
-    let s = c .before .before .before .before .before .before .before in
-    step-unmet (s .args .table .now) (s .args .run .now) (s .args .at) (s .args .place) (s .args .limit) (s .args .marks) (s .args .limits .now) (s .args .parents .now) (s .args .ranks .now)
-    _ _ _ (c .before .before .before .read-two .ensures) (c .before .before .read-two2 .ensures) (c .before .meets .ensures)
-    (c .if1 .left)
+    let i = c .before in
+    let n = i .before in
+    let m = n .before .before .before .before in
+    let s = m .before .before .before .before .before .before in
+    let a = s .args in
+    step-not-raised (a .table .now) (a .run .now) (a .at) (a .place) (a .limit) (a .marks) (a .limits .now) (a .parents .now) (a .ranks .now) (a .tied)
+    _ _ _ (m .before .before .read-two .ensures) (m .before .read-two2 .ensures) (m .meets .ensures) (s .pre .9)
+    _ (s .fits .limit) (omega arith) (i .if22 .given) (record { sfits = n .next .ok }) (n .next .ensures) (c .if2 .left)
+
+returns-4 : tie.Need-returns-4
+returns-4 c =
+    let m = c .before in
+    let s = m .before .before .before .before .before .before in
+    let a = s .args in
+    step-unmet (a .table .now) (a .run .now) (a .at) (a .place) (a .limit) (a .marks) (a .limits .now) (a .parents .now) (a .ranks .now) (a .tied)
+    _ _ _ (m .before .before .read-two .ensures) (m .before .read-two2 .ensures) (m .meets .ensures) (s .pre .9) (c .if1 .left)
 
 pub relax-at-spec : {M : Type 1} → statement M
 relax-at-spec =
@@ -129,9 +173,14 @@ relax-at-spec =
     rank-requires
     mul-ranks
     slice-write-ranks
+    with-requires
     same-length
     same-length-2
     same-length-3
     returns
+    same-length-4
+    same-length-5
+    same-length-6
     returns-2
-    returns-3)
+    returns-3
+    returns-4)
