@@ -5,22 +5,27 @@ use mathlib.Core.Bool.{Bool, true, false, _||_}
 use mathlib.Core.List.{List, _++_, List·Memᴰ·head, List·Memᴰ·tail}
 use Prim.Native.Nat.{ℕ, _+_, _*_, _-_, _≤_, _<_}
 use native.Mathlib.Omega.{arith}
-use lib.ListN.{length, getD, take, drop, List·getD-append}
-use lib.Seq.{length-take-le, getD-append-add, getD-take, getD-drop}
+use lib.ListN.{length, getD, set, take, drop, List·getD-append}
+use lib.Seq.{length-take-le, getD-append-add, getD-take, getD-drop, getD-set-same, getD-set-other}
 use borrow.Author.Tests.{eq-eqb}
 use lib.Dec.{eqb}
 use lib.IntN.{ℤ, pos}
 use Rattle.rules.specs.List.{_∈_}
-use Rattle.rules.specs.Register.{Delegation, Register}
+use Rattle.rules.specs.Register.{Delegation, Register, marksOf}
 use Rattle.rules.specs.Reach.{reach}
 use Rattle.rules.specs.Support.{allowed}
 use Rattle.rules.specs.Pair.{receives}
 use Rattle.rules.specs.WellFormed.{WellFormed}
 use Rattle.rules.proofs.Lists.{eqOr}
+use Rattle.block.specs.Bytes.{IsBytes, readAll}
+use Rattle.block.specs.Block.{delegationIn, countIn, decode}
+use Rattle.block.specs.WellFormed.{wellFormed}
 use Rattle.block.proofs.Bytes.{length-tabulate}
+use Rattle.block.proofs.Held.{delegations-held}
 use Rattle.search.specs.Search.{underMarks}
 use Rattle.search.specs.Found.{delegationsIn, Searched}
-use Rattle.rounds.specs.Rounded.{reachAt, Row, Tabled}
+use Rattle.search.proofs.Searching.{reach-marks}
+use Rattle.rounds.specs.Rounded.{reachAt, Row, Filled, Tabled, Copied, RowMade}
 
 -- a search finds the reach of 64 subjects
 pub row-length : (t : List ℤ) (s : List ℕ) (m : ℕ) (l : List ℤ) (p : List ℕ) → Searched t s m l p → length l ≡ 64
@@ -50,6 +55,26 @@ module _ {A : Type 0} (l ys : List A) (a k : ℕ) (z : A) (fits : a + k ≤ leng
       ∙ getD-drop a l (k + (i - (a + k))) z
       ∙ ap (λ (m : ℕ). getD l m z) f
 
+-- nothing copied yet
+pub copied-none : (b a : ℕ) (l : List ℤ) → Copied b a 0 l l
+copied-none b a l = record { there = λ i h. absurd (omega arith); rest = λ i h. refl }
+
+-- one more place copied, from before all that are written
+pub copied-on : (b a n : ℕ) (l m : List ℤ) (x : ℤ) → b + n < a → a + n < length m → x ≡ getD m (b + n) (pos 0) → Copied b a n l m → Copied b a (n + 1) l (set m (a + n) x)
+copied-on b a n l m x before room e c = record { there = λ i h. written i h (eqOr i n); rest = kept }
+  where
+    written : (i : ℕ) → i < n + 1 → (i ≡ n) ⊎ (i ≢ n) → getD (set m (a + n) x) (a + i) (pos 0) ≡ getD l (b + i) (pos 0)
+    written i h (inl s) = rw s (getD-set-same m (a + n) x (pos 0) room ∙ e ∙ c .rest (b + n) (inl before))
+    written i h (inr s) = getD-set-other m (a + n) (a + i) x (pos 0) (λ q. s (omega arith)) ∙ c .there i (omega arith)
+
+    kept : (i : ℕ) → (i < a) ⊎ (a + (n + 1) ≤ i) → getD (set m (a + n) x) i (pos 0) ≡ getD l i (pos 0)
+    kept i (inl h) = getD-set-other m (a + n) i x (pos 0) (λ q. omega arith) ∙ c .rest i (inl h)
+    kept i (inr h) = getD-set-other m (a + n) i x (pos 0) (λ q. omega arith) ∙ c .rest i (inr (omega arith))
+
+-- the block's test of a receiver is the register's
+pub receives-held : (b : List ℕ) (bytes : IsBytes b) (formed : wellFormed b ≡ true) (v n : ℕ) (x : Bool) → n ≡ countIn b → x ≡ receives v (readAll delegationIn 8 (drop 132 b) n) → x ≡ receives v (decode b .delegations)
+receives-held b bytes formed v n x e h = rw (delegations-held b bytes formed, ← e) h
+
 -- a receiver of some delegation receives
 receives-mem : {d : Delegation} {ds : List Delegation} → d ∈ ds → receives (d .receiver) ds ≡ true
 receives-mem {d} (List·Memᴰ·head {x = x} {xs = xs} e) = rw (eq-eqb (x .receiver) (d .receiver) (ap (λ (y : Delegation). y .receiver) (sym e)))
@@ -60,27 +85,30 @@ receives-mem {d} (List·Memᴰ·tail {x = x} {xs = xs} m) = go (eqb (x .receiver
     go false e = e
 
 module _ (t : List ℤ) (R : Register) where
-  -- the rows of the receivers below v are filled
-  abbrev pub Filled : ℕ → List ℤ → Type 0
-  Filled v l = (r : ℕ) → r < v → receives r (R .delegations) ≡ true → Row t R r l
-
-  pub filled-none : (l : List ℤ) → Filled 0 l
+  pub filled-none : (l : List ℤ) → Filled t R 0 l
   filled-none l r h = absurd (omega arith)
 
-  pub filled-skip : (v : ℕ) (l : List ℤ) → Filled v l → receives v (R .delegations) ≡ false → Filled (v + 1) l
+  pub filled-skip : (v : ℕ) (l : List ℤ) → Filled t R v l → receives v (R .delegations) ≡ false → Filled t R (v + 1) l
   filled-skip v l f n r h k = go (eqOr r v)
     where
       go : (r ≡ v) ⊎ (r ≢ v) → Row t R r l
       go (inl e) = let z : true ≡ false = sym k ∙ ap (λ (x : ℕ). receives x (R .delegations)) e ∙ n in let w : _≡_ {A = ℕ} 0 1 = cc in absurd (omega arith)
       go (inr e) = f r (omega arith) k
 
-  pub filled-on : (v : ℕ) (l m : List ℤ) → Filled v l → Row t R v m → ((i : ℕ) → (i < 64 * v) ⊎ (64 * v + 64 ≤ i) → getD m i (pos 0) ≡ getD l i (pos 0)) → Filled (v + 1) m
-  filled-on v l m f row out r h k = go (eqOr r v)
+  pub filled-on : (v : ℕ) (l m : List ℤ) → Filled t R v l → RowMade t R v l m → Filled t R (v + 1) m
+  filled-on v l m f made r h k = go (eqOr r v)
     where
       go : (r ≡ v) ⊎ (r ≢ v) → Row t R r m
-      go (inl e) = subst (λ (x : ℕ). Row t R x m) (sym e) row
-      go (inr e) = λ u q. out (reachAt u r) (inl (omega arith)) ∙ f r (omega arith) k u q
+      go (inl e) = subst (λ (x : ℕ). Row t R x m) (sym e) (made .row)
+      go (inr e) = λ u q. made .rest (reachAt u r) (inl (omega arith)) ∙ f r (omega arith) k u q
 
-  pub filled-tabled : WellFormed R → (v : ℕ) → v ≡ R .subjects → (l : List ℤ) → Filled v l → Tabled t R l
+  -- the row of another receiver of the same marks, copied
+  pub row-copied : (w v : ℕ) (l m : List ℤ) → Row t R w l → marksOf R w ≡ marksOf R v → Copied (64 * w) (64 * v) 64 l m → RowMade t R v l m
+  row-copied w v l m row e c = record {
+    row = λ u h. c .there u h ∙ row u h ∙ reach-marks t R u w ∙ ap (λ (x : ℕ). reach t (underMarks (R .delegations) x) u 0) e ∙ sym (reach-marks t R u v);
+    rest = c .rest;
+  }
+
+  pub filled-tabled : WellFormed R → (v : ℕ) → v ≡ R .subjects → (l : List ℤ) → Filled t R v l → Tabled t R l
   unfolding allowed
   filled-tabled w v e l f d m = f (d .receiver) (omega (arith, w .each d m .receiver)) (receives-mem m) (d .giver) (omega (arith, w .each d m .giver, w .most))

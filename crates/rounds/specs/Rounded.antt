@@ -1,9 +1,9 @@
 -- What the parts of a round find, lower and leave, for the register R that a block holds and the step table t. Assumes nothing.
 use mathlib.Core.Path.{_≡_}
-use mathlib.Core.Logic.{_≢_}
+use mathlib.Core.Logic.{_≢_, _⊎_}
 use mathlib.Core.Bool.{Bool, true, false, cond}
 use mathlib.Core.List.{List, [], _++_}
-use Prim.Native.Nat.{ℕ, zero, suc, _+_, _*_, _<_}
+use Prim.Native.Nat.{ℕ, zero, suc, _+_, _*_, _≤_, _<_}
 use lib.ListN.{getD, drop}
 use lib.IntN.{ℤ, pos}
 use lib.Signed.{ltZ}
@@ -11,6 +11,7 @@ use Rattle.rules.specs.List.{_∈_}
 use Rattle.rules.specs.Limit.{_≼_}
 use Rattle.rules.specs.Register.{Delegation, Register, withDelegations}
 use Rattle.rules.specs.Reach.{reach}
+use Rattle.rules.specs.Pair.{receives}
 use Rattle.rules.specs.Support.{allowed}
 use Rattle.rules.specs.Round.{placed, round}
 use Rattle.block.specs.Block.{delegationIn, countIn, decode, encode}
@@ -24,9 +25,27 @@ reachAt g r = 64 * r + g
 abbrev pub Row : List ℤ → Register → ℕ → List ℤ → Type 0
 Row t R r l = (u : ℕ) → u < 64 → getD l (reachAt u r) (pos 0) ≡ reach t R u r
 
+-- each subject below v that holds a delegation has its row
+abbrev pub Filled : List ℤ → Register → ℕ → List ℤ → Type 0
+Filled t R v l = (r : ℕ) → r < v → receives r (R .delegations) ≡ true → Row t R r l
+
 -- the table of reaches holds what counts for every delegation
 abbrev pub Tabled : List ℤ → Register → List ℤ → Type 0
 Tabled t R l = (d : Delegation) → d ∈ R .delegations → getD l (reachAt (d .giver) (d .receiver)) (pos 0) ≡ allowed t R d
+
+-- m is l but for the n places from a on
+abbrev pub Besides : ℕ → ℕ → List ℤ → List ℤ → Type 0
+Besides a n l m = (i : ℕ) → (i < a) ⊎ (a + n ≤ i) → getD m i (pos 0) ≡ getD l i (pos 0)
+
+-- m is l with the n places from b on copied to those from a on
+pub record Copied (b a n : ℕ) (l m : List ℤ) : Type 0 where
+  pub there : (i : ℕ) → i < n → getD m (a + i) (pos 0) ≡ getD l (b + i) (pos 0)
+  pub rest : Besides a n l m
+
+-- the table m is l with row r filled
+pub record RowMade (t : List ℤ) (R : Register) (r : ℕ) (l m : List ℤ) : Type 0 where
+  pub row : Row t R r m
+  pub rest : Besides (64 * r) 64 l m
 
 -- a delegation, decoded
 abbrev pub decodedAs : Delegation → Entry

@@ -5,11 +5,11 @@ use Prim.Native.Nat.{_-_, _≤_}
 use native.Mathlib.Omega.{arith}
 use borrow.Author.Needs.{needs}
 use lib.ListN.{length}
-use Rattle.rules.specs.Pair.{receives}
 use Rattle.block.specs.Block.{decode}
 use Rattle.block.proofs.Bytes.{fits-bytes}
-use Rattle.block.proofs.Held.{size-held, count-most, held-formed, subjects-held, delegations-held}
-use Rattle.rounds.proofs.Filling.{Filled, filled-none, filled-skip, filled-on, filled-tabled}
+use Rattle.block.proofs.Held.{size-held, count-most, held-formed, subjects-held}
+use Rattle.rounds.specs.Rounded.{Filled}
+use Rattle.rounds.proofs.Filling.{receives-held, filled-none, filled-skip, filled-on, filled-tabled}
 use Rattle.rounds.proofs.reaches.fill_reaches.Statement.{statement}
 use Rattle.rounds.proofs.reaches.fill_reaches.Tie as tie
 
@@ -49,14 +49,11 @@ receives-requires c κs =
 slice-aggregate-fill-row : tie.Need-slice-aggregate-fill-row Inv-loop μ-loop
 slice-aggregate-fill-row c = search needs
 
-cast-fill-row : tie.Need-cast-fill-row Inv-loop μ-loop
-cast-fill-row c = search needs
-
 fill-row-requires : tie.Need-fill-row-requires Inv-loop μ-loop
 fill-row-requires c κs =
     let s = c .before .before .before .before .before .before .before .before .before .before .before .before in
     let l = c .before .before .before .before .before in
-    (s .pre .0, l .before .before .starts-of .ensures, s .pre .1, omega (arith, l .before .before .before .before .before .subjects .ensures, c .before .before .before .before .loop-test .taken), l .loop .inv .0)
+    (s .pre .0, l .before .before .starts-of .ensures, s .pre .1, omega (arith, l .before .before .before .before .before .subjects .ensures, c .before .before .before .before .loop-test .taken), l .loop .inv .0, l .loop .inv .2)
 
 add-receiver : tie.Need-add-receiver Inv-loop μ-loop
 add-receiver c = search needs
@@ -70,9 +67,9 @@ loop-again c =
     let g = fits-bytes (s .args .block .now) (c .before .before .before .before .before .before .before .before .before .shared-slice-known .given) in
     let l = c .before .before .before .loop in
     let R = decode (s .args .block .now) in
-    let e : c .before .receives .result ≡ receives (l .receiver) (decode (s .args .block .now) .delegations) = rw (delegations-held (s .args .block .now) g (s .pre .0), ← c .before .before .before .before .before .before .before .count .ensures) (c .before .receives .ensures) in
+    let e = receives-held (s .args .block .now) g (s .pre .0) (l .receiver) _ (c .before .receives .result) (c .before .before .before .before .before .before .before .count .ensures) (c .before .receives .ensures) in
     ⊎-elim
-    (λ w. (rw (w .5) (w .3 .kept .1 .1 .1 .1 .0 ∙ l .inv .0), omega arith, rw (w .5) (filled-on (s .args .table .now) R (l .receiver) (l .reaches) (w .3 .last .1 .1 .1 .1 .0) (l .inv .2) (w .3 .ensures .0) (w .3 .ensures .1))))
+    (λ w. (rw (w .5) (w .3 .kept .1 .1 .1 .1 .0 ∙ l .inv .0), omega arith, rw (w .5) (filled-on (s .args .table .now) R (l .receiver) (l .reaches) (w .3 .last .1 .1 .1 .1 .0) (l .inv .2) (w .3 .ensures))))
     (λ w. (rw (w .1) (l .inv .0), omega arith, rw (w .1) (filled-skip (s .args .table .now) R (l .receiver) (l .reaches) (l .inv .2) (sym e ∙ w .0 .left))))
     (c .if1 .came)
 
@@ -100,7 +97,6 @@ fill-reaches-spec =
     loop-holds
     receives-requires
     slice-aggregate-fill-row
-    cast-fill-row
     fill-row-requires
     add-receiver
     loop-less

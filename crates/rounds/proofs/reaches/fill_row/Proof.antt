@@ -1,69 +1,121 @@
--- `rounds::fill_row` writes the reaches of one receiver into its row. Assumes nothing.
+-- `rounds::fill_row` fills the row of one receiver. Assumes nothing.
 use borrow.Author.Needs.{needs}
-use mathlib.Core.Path.{_≡_, _∙_}
-use Prim.Native.Nat.{_+_, _*_, _-_, _≤_}
+use mathlib.Core.Path.{_≡_, refl, sym, ap, _∙_}
+use Prim.Native.Nat.{_-_, _≤_, _<_}
 use native.Mathlib.Omega.{arith}
 use lib.ListN.{length}
-use lib.IntN.{pos}
+use Rattle.block.specs.Block.{decode}
 use Rattle.block.proofs.Bytes.{fits-bytes}
-use Rattle.block.proofs.Held.{rules-of}
-use Rattle.search.proofs.Searching.{reach-found}
-use Rattle.rounds.proofs.Filling.{row-length, put-in, put-out}
+use Rattle.block.proofs.Held.{size-held, rules-of}
+use Rattle.search.proofs.Searching.{marks-held}
+use Rattle.rounds.proofs.Filling.{receives-held, row-copied}
 use Rattle.rounds.proofs.reaches.fill_row.Statement.{statement}
 use Rattle.rounds.proofs.reaches.fill_row.Tie as tie
 
-mul-at : tie.Need-mul-at
-mul-at c = omega (arith, rules-of (c .before .before .args .block .now) (fits-bytes (c .before .before .args .block .now) (c .before .shared-slice-known .given)) (c .before .before .pre .0) .most, c .before .before .pre .3)
+abbrev Inv-loop : tie.InvT-loop
+Inv-loop block starts table receiver reaches₀ records marks other₀ reaches other = (other ≤ receiver) × (reaches ≡ reaches₀)
 
-add-limits-for : tie.Need-add-limits-for
-add-limits-for c = omega (arith, rules-of (c .before .before .args .block .now) (fits-bytes (c .before .before .args .block .now) (c .before .shared-slice-known .given)) (c .before .before .pre .0) .most, c .before .before .pre .3)
+abbrev μ-loop : tie.MeasureT-loop
+μ-loop block starts table receiver reaches₀ records marks other₀ reaches other = other
 
-mul-limits-for : tie.Need-mul-limits-for
-mul-limits-for c = omega (arith, rules-of (c .before .before .args .block .now) (fits-bytes (c .before .before .args .block .now) (c .before .shared-slice-known .given)) (c .before .before .pre .0) .most, c .before .before .pre .3)
+count-requires : tie.Need-count-requires Inv-loop μ-loop
+count-requires c κs =
+    let s = c .before .before in
+    omega (arith, size-held (s .args .block .now) (fits-bytes (s .args .block .now) (c .before .shared-slice-known .given)) (s .pre .0))
 
-sub-limits-for : tie.Need-sub-limits-for
-sub-limits-for c = search needs
+marks-requires : tie.Need-marks-requires Inv-loop μ-loop
+marks-requires c κs =
+    let s = c .before .before .before in
+    let r = rules-of (s .args .block .now) (fits-bytes (s .args .block .now) (c .before .before .shared-slice-known .given)) (s .pre .0) in
+    omega (arith, r .size, r .most, s .pre .3)
 
-part-limits-for-start : tie.Need-part-limits-for-start
-part-limits-for-start c = search needs
+loop-holds : tie.Need-loop-holds Inv-loop μ-loop
+loop-holds c = (omega arith, refl)
 
-part-limits-for-end : tie.Need-part-limits-for-end
-part-limits-for-end c = omega (arith, rules-of (c .before .before .args .block .now) (fits-bytes (c .before .before .args .block .now) (c .before .shared-slice-known .given)) (c .before .before .pre .0) .most, c .before .before .pre .3, c .before .before .pre .4)
+sub-other : tie.Need-sub-other Inv-loop μ-loop
+sub-other c = search needs
 
-slice-aggregate-limits-for : tie.Need-slice-aggregate-limits-for
-slice-aggregate-limits-for c = search needs
+cast-marks : tie.Need-cast-marks Inv-loop μ-loop
+cast-marks c = search needs
 
-limits-for-requires : tie.Need-limits-for-requires
-limits-for-requires c κs = search needs
+marks-requires-2 : tie.Need-marks-requires-2 Inv-loop μ-loop
+marks-requires-2 c κs =
+    let s = c .before .before .before .before .before .before in
+    let r = rules-of (s .args .block .now) (fits-bytes (s .args .block .now) (c .before .before .before .before .before .shared-slice-known .given)) (s .pre .0) in
+    omega (arith, r .size, r .most, s .pre .3, c .before .loop .inv .0)
 
-same-length : tie.Need-same-length
-same-length c = search needs
+receives-requires : tie.Need-receives-requires Inv-loop μ-loop
+receives-requires c κs =
+    let s = c .before .before .before .before .before .before .before .before in
+    let r = rules-of (s .args .block .now) (fits-bytes (s .args .block .now) (c .before .before .before .before .before .before .before .shared-slice-known .given)) (s .pre .0) in
+    omega (arith, r .size, r .few, c .before .before .before .before .before .count .ensures)
 
-returns : tie.Need-returns
+cast-copy-row : tie.Need-cast-copy-row Inv-loop μ-loop
+cast-copy-row c = search needs
+
+copy-row-requires : tie.Need-copy-row-requires Inv-loop μ-loop
+copy-row-requires c κs =
+    let l = c .before .before .before .before .before in
+    let s = l .before .before .before .before .before .before in
+    let r = rules-of (s .args .block .now) (fits-bytes (s .args .block .now) (l .before .before .before .before .before .shared-slice-known .given)) (s .pre .0) in
+    (omega (arith, l .loop-test .taken, l .before .loop .inv .0), omega (arith, r .most, s .pre .3), ap length (l .before .loop .inv .1) ∙ s .pre .4)
+
+same-length : tie.Need-same-length Inv-loop μ-loop
+same-length c = c .before .copy-row .kept .0 ∙ ap length (c .before .before .before .before .before .before .before .before .loop .inv .1)
+
+returns : tie.Need-returns Inv-loop μ-loop
 returns c =
-    let a = c .before .before .before .before .before .before .before .args in
-    let r = a .receiver in
-    let row = c .before .before .limits-for .last .1 .1 .1 .1 .0 in
-    let s = c .before .before .limits-for .ensures in
-    let w : 64 * r + 64 - 64 * r ≡ 64 = omega arith in
-    let fits : 64 * r + 64 ≤ length (a .reaches .now) = omega (arith, rules-of (c .before .before .before .before .before .before .before .args .block .now) (fits-bytes (c .before .before .before .before .before .before .before .args .block .now) (c .before .before .before .before .before .before .shared-slice-known .given)) (c .before .before .before .before .before .before .before .pre .0) .most, c .before .before .before .before .before .before .before .pre .3, c .before .before .before .before .before .before .before .pre .4) in
-    let size : length row ≡ 64 = row-length _ _ _ row _ s in
-    rw w (
-      λ u h. put-in (a .reaches .now) row (64 * r) 64 (pos 0) fits size u h ∙ reach-found (a .block .now) (fits-bytes (c .before .before .before .before .before .before .before .args .block .now) (c .before .before .before .before .before .before .shared-slice-known .given)) (c .before .before .before .before .before .before .before .pre .0) (a .table .now) r row _ s u h,
-      λ i h. put-out (a .reaches .now) row (64 * r) 64 (pos 0) fits size i h,
-    )
+    let l = c .before .before .before .before .before .before .before in
+    let s = l .before .before .before .before .before .before in
+    let b = s .args .block .now in
+    let g = fits-bytes (s .args .block .now) (l .before .before .before .before .before .shared-slice-known .given) in
+    let j = l .before .loop .other - 1 in
+    let v = s .args .receiver in
+    let o : j < v = omega (arith, l .loop-test .taken, l .before .loop .inv .0) in
+    let at-marks = l .before .before .marks in
+    let at-other = c .before .before .before .before .before .before .marks2 in
+    let at-if = c .before .before .before .before .before .if1 in
+    let at-receives = c .before .before .before .before .receives in
+    let e = sym (marks-held b g (s .pre .0) j (omega (arith, o, s .pre .3))) ∙ sym (at-other .ensures) ∙ at-if .taken ∙ at-marks .ensures ∙ marks-held b g (s .pre .0) v (s .pre .3) in
+    let h = sym (receives-held b g (s .pre .0) j _ (at-receives .result) (l .before .before .before .count .ensures) (at-receives .ensures)) ∙ c .before .before .before .if2 .taken in
+    row-copied (s .args .table .now) (decode b) j v (s .args .reaches .now) (c .before .copy-row .last .0) (s .pre .5 j o h) e (rw (l .before .loop .inv .1) at (c .before .copy-row .ensures))
+
+loop-less : tie.Need-loop-less Inv-loop μ-loop
+loop-less c = omega arith
+
+loop-again : tie.Need-loop-again Inv-loop μ-loop
+loop-again c = (omega arith, c .before .before .before .loop .inv .1)
+
+search-row-requires : tie.Need-search-row-requires Inv-loop μ-loop
+search-row-requires c κs =
+    let s = c .before .before .before .before .before .before .before in
+    (s .pre .0, s .pre .1, s .pre .2, s .pre .3, ap length (c .before .before .loop .inv .1) ∙ s .pre .4)
+
+same-length-2 : tie.Need-same-length-2 Inv-loop μ-loop
+same-length-2 c = c .before .search-row .kept .1 .1 .1 .1 .0 ∙ ap length (c .before .before .before .before .loop .inv .1)
+
+returns-2 : tie.Need-returns-2 Inv-loop μ-loop
+returns-2 c = rw (c .before .before .before .before .loop .inv .1) at (c .before .search-row .ensures)
 
 pub fill-row-spec : {M : Type 1} → statement M
 fill-row-spec =
     tie.close
     (tie.spec
-    mul-at
-    add-limits-for
-    mul-limits-for
-    sub-limits-for
-    part-limits-for-start
-    part-limits-for-end
-    slice-aggregate-limits-for
-    limits-for-requires
+    Inv-loop
+    μ-loop
+    count-requires
+    marks-requires
+    loop-holds
+    sub-other
+    cast-marks
+    marks-requires-2
+    receives-requires
+    cast-copy-row
+    copy-row-requires
     same-length
-    returns)
+    returns
+    loop-less
+    loop-again
+    search-row-requires
+    same-length-2
+    returns-2)
