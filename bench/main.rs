@@ -41,7 +41,9 @@ fn rows() -> Vec<Row> {
         row("use, full register", &block, passed(Call::Use, 0, 0, 63, 0), 0),
         row("reach, full register", &block, passed(Call::Reach, 0, 63, 62, 0), 0),
         row("grant of the 256th delegation", &encode(&before_last), grant_of(&last), 0),
-        row("revoke, full register, one round", &block, passed(Call::Revoke, 0, last.giver as u32, last.receiver as u32, 0), 1),
+        row("revoke, full register, one round", &block, revoke_of(&last), 1),
+        row("  the same, all marks equal", &encode(&equal_marks(full)), revoke_of(&last), 1),
+        row("  all limits distinct, one round", &encode(&descending()), passed(Call::Revoke, 0, 0, 5, 0), 1),
         row("revoke of 485 rounds", &deep, rounds::FIRST_CUT, 485),
     ]
 }
@@ -58,7 +60,11 @@ fn grant_of(d: &Delegation) -> Passed {
     Passed { need: d.need as u32, bar: d.bar as u32, ..passed(Call::Grant, 0, d.giver as u32, d.receiver as u32, d.weight as u32) }
 }
 
-/// 64 subjects with 63 distinct marks, and 256 delegations: one from the owner
+fn revoke_of(d: &Delegation) -> Passed {
+    passed(Call::Revoke, 0, d.giver as u32, d.receiver as u32, 0)
+}
+
+/// 64 subjects, all marks distinct, and 256 delegations: one from the owner
 /// to each, then from each to those that follow it. All are supported.
 fn full_register() -> Register {
     let mut register = Register::fresh();
@@ -72,6 +78,26 @@ fn full_register() -> Register {
         }
     }
     register.delegations.sort_by_key(|d| (d.giver, d.receiver));
+    register
+}
+
+fn equal_marks(register: Register) -> Register {
+    Register { marks: vec![0; 64], ..register }
+}
+
+/// 64 subjects, all marks distinct; from each a delegation to the next that
+/// carries all it has, and lighter ones to the three or four after that. No two
+/// subjects have the same limit, so none ties with another in the search.
+fn descending() -> Register {
+    let mut register = Register::fresh();
+    register.marks = (0..64).collect();
+    for giver in 0..64u8 {
+        let past = if giver < 10 { giver + 6 } else { giver + 5 };
+        for receiver in giver + 1..past.min(64) {
+            register.delegations.push(Delegation { giver, receiver, weight: 255 - receiver, need: 0, bar: 0 });
+        }
+    }
+    assert_eq!(register.delegations.len(), MOST_DELEGATIONS);
     register
 }
 
