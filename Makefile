@@ -4,6 +4,7 @@
 #   make compare [SEED=n] [CASES=n]   random calls through the archive and the second implementation
 #   make self-test                    the same with faults put in on purpose: each must be found
 #   make bench                        both measured side by side: nanoseconds a call, and the ratio
+#   make drawing                      writes docs/p5.svg anew
 #   make install [PREFIX=dir] [DESTDIR=dir]
 #   make test                         the gate
 #   make clean                        removes what is built here; what is proved stays
@@ -28,10 +29,11 @@ second := target/second/libsecond.rlib
 generate := target/second/libgenerate.rlib
 compare := target/compare/compare
 bench := target/bench/bench
+drawing := target/drawing/drawing
 host := target/host/host
 rust := $(RUSTC) --edition 2021 -D warnings -O -C overflow-checks=on
 
-.PHONY: run lib host compare self-test bench install test clean
+.PHONY: run lib host compare self-test bench drawing install test clean
 
 run: $(program)
 	@$(program) < examples/listing.calls
@@ -69,6 +71,13 @@ $(bench): $(wildcard bench/*.rs) tests/compare/entry.rs tests/compare/lent.rs $(
 	@mkdir -p $(@D)
 	$(rust) -A dead_code --extern second=$(second) --extern generate=$(generate) -L dependency=$(dir $(second)) --crate-name bench bench/main.rs -L native=$(dir $(archive)) -l static=seatreg -o $@
 
+drawing: $(drawing)
+	$(drawing) > docs/p5.svg
+
+$(drawing): $(wildcard docs/drawing/*.rs) tests/compare/entry.rs tests/compare/lent.rs $(second) $(generate) $(archive)
+	@mkdir -p $(@D)
+	$(rust) -A dead_code --extern second=$(second) --extern generate=$(generate) -L dependency=$(dir $(second)) --crate-name drawing docs/drawing/main.rs -L native=$(dir $(archive)) -l static=seatreg -o $@
+
 $(generate): $(wildcard tests/second/generate/*.rs) $(second)
 	$(rust) --extern second=$(second) --crate-type rlib --crate-name generate tests/second/generate/lib.rs --out-dir $(@D)
 
@@ -92,4 +101,4 @@ test:
 	bash .ci/run
 
 clean:
-	rm -rf target/host target/compare target/bench $(archive)
+	rm -rf target/host target/compare target/bench target/drawing $(archive)

@@ -1,6 +1,7 @@
 #!/usr/bin/env bash
 # The C side: the archive, the header, a short comparison with the second
-# implementation on fixed random calls, its self test, and the example host.
+# implementation on fixed random calls, its self test, the example host, and
+# the drawing.
 set -euo pipefail
 
 here="$(cd "$(dirname "${BASH_SOURCE[0]}")" && pwd)"
@@ -38,6 +39,13 @@ short() {
     make -s compare SEED=1 CASES=20000 | tee "$out/short" &&
         grep -qx 'every refusal that a call can return was returned' "$out/short" &&
         grep -qx 'compare: 20000 cases, 0 differences, seed 1' "$out/short"
+}
+
+# The committed drawing is what the archive's blocks give.
+drawing() {
+    make -s target/drawing/drawing &&
+        target/drawing/drawing >"$out/p5.svg" &&
+        cmp docs/p5.svg "$out/p5.svg"
 }
 
 # What is installed is enough to build the host; its flags come from pkg-config
@@ -83,6 +91,7 @@ step "20,000 random calls" short
 step "self test" make -s self-test SEED=1
 step "host" make -s host
 step "host in 64 KiB of stack" small_stack
+step "drawing" drawing
 step "host with what is installed" installed
 if command -v g++ >/dev/null; then
     step "header in C++" cpp
