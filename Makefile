@@ -5,6 +5,7 @@
 #   make self-test                    the same with faults put in on purpose: each must be found
 #   make bench                        both measured side by side: nanoseconds a call, and the ratio
 #   make drawing                      writes docs/p5.svg anew
+#   make stack                        bytes of stack that each call needs
 #   make install [PREFIX=dir] [DESTDIR=dir]
 #   make test                         the gate
 #   make clean                        removes what is built here; what is proved stays
@@ -30,10 +31,11 @@ generate := target/second/libgenerate.rlib
 compare := target/compare/compare
 bench := target/bench/bench
 drawing := target/drawing/drawing
+stack := target/stack/stack
 host := target/host/host
 rust := $(RUSTC) --edition 2021 -D warnings -O -C overflow-checks=on
 
-.PHONY: run lib host compare self-test bench drawing install test clean
+.PHONY: run lib host compare self-test bench drawing stack install test clean
 
 run: $(program)
 	@$(program) < examples/listing.calls
@@ -85,6 +87,14 @@ $(second): $(wildcard tests/second/*.rs)
 	@mkdir -p $(@D)
 	$(rust) --crate-type rlib --crate-name second tests/second/lib.rs --out-dir $(@D)
 
+# Bound by the loader before main, so that its own stack is in no figure.
+stack: $(stack)
+	@$(stack)
+
+$(stack): tests/compare/stack.c include/seatreg.h $(archive)
+	@mkdir -p $(@D)
+	$(CC) $(CFLAGS) $(STRICT) -Iinclude -pthread $< $(archive) -Wl,-z,now -o $@
+
 prefix := $(abspath $(PREFIX))
 dest := $(DESTDIR)$(prefix)
 
@@ -101,4 +111,4 @@ test:
 	bash .ci/run
 
 clean:
-	rm -rf target/host target/compare target/bench target/drawing $(archive)
+	rm -rf target/host target/compare target/bench target/drawing target/stack $(archive)

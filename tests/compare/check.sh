@@ -1,7 +1,7 @@
 #!/usr/bin/env bash
 # The C side: the archive, the header, a short comparison with the second
-# implementation on fixed random calls, its self test, the example host, and
-# the drawing.
+# implementation on fixed random calls, its self test, the example host, the
+# stack of every call, and the drawing.
 set -euo pipefail
 
 here="$(cd "$(dirname "${BASH_SOURCE[0]}")" && pwd)"
@@ -39,6 +39,15 @@ short() {
     make -s compare SEED=1 CASES=20000 | tee "$out/short" &&
         grep -qx 'every refusal that a call can return was returned' "$out/short" &&
         grep -qx 'compare: 20000 cases, 0 differences, seed 1' "$out/short"
+}
+
+# No call needs more than the bound, which README.md and the header state too.
+stack() {
+    make -s stack >"$out/stack" || return 1
+    local bound
+    bound="$(tail -n 1 "$out/stack")"
+    grep -x 'at most [0-9]* KiB of stack' <<<"$bound" &&
+        ! grep -LF "$bound" README.md include/seatreg.h | grep .
 }
 
 # The committed drawing is what the archive's blocks give.
@@ -91,6 +100,7 @@ step "20,000 random calls" short
 step "self test" make -s self-test SEED=1
 step "host" make -s host
 step "host in 64 KiB of stack" small_stack
+step "stack of every call" stack
 step "drawing" drawing
 step "host with what is installed" installed
 if command -v g++ >/dev/null; then
