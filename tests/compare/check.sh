@@ -1,7 +1,7 @@
 #!/usr/bin/env bash
 # The C side: the archive, the header, a short comparison with the second
 # implementation on fixed random calls, its self test, the example host, the
-# stack of every call, and the drawing.
+# host in README.md, the stack of every call, and the drawing.
 set -euo pipefail
 
 here="$(cd "$(dirname "${BASH_SOURCE[0]}")" && pwd)"
@@ -57,6 +57,19 @@ drawing() {
         cmp docs/p5.svg "$out/p5.svg"
 }
 
+# The whole host in README.md prints what the block after it says.
+readme() {
+    rm -f "$out/readme.c" "$out/readme.expected" &&
+        awk -v host="$out/readme.c" -v prints="$out/readme.expected" '
+            !/^```/ { text = text $0 "\n"; next }
+            !inside { inside = 1; text = ""; next }
+            { inside = 0 }
+            text ~ /\nint main\(/ { printf "%s", text > host; after = 1; next }
+            after { printf "%s", text > prints; after = 0 }' README.md &&
+        gcc -std=c99 -Wall -Wextra -Werror -Iinclude "$out/readme.c" target/staticlib/libseatreg.a -o "$out/readme" &&
+        "$out/readme" | diff "$out/readme.expected" -
+}
+
 # What is installed is enough to build the host; its flags come from pkg-config
 # where there is one.
 installed() {
@@ -100,6 +113,7 @@ step "20,000 random calls" short
 step "self test" make -s self-test SEED=1
 step "host" make -s host
 step "host in 64 KiB of stack" small_stack
+step "host of README.md" readme
 step "stack of every call" stack
 step "drawing" drawing
 step "host with what is installed" installed
