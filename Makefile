@@ -34,6 +34,8 @@ drawing := target/drawing/drawing
 stack := target/stack/stack
 host := target/host/host
 rust := $(RUSTC) --edition 2021 -D warnings -O -C overflow-checks=on
+# For a program that makes calls through the archive which the second implementation's cases give.
+linked := --extern second=$(second) --extern generate=$(generate) -L dependency=$(dir $(second)) -L native=$(dir $(archive)) -l static=seatreg
 
 .PHONY: run lib host compare self-test bench drawing stack install test clean
 
@@ -71,14 +73,15 @@ bench: $(bench)
 
 $(bench): $(wildcard bench/*.rs) tests/compare/entry.rs tests/compare/lent.rs $(second) $(generate) $(archive)
 	@mkdir -p $(@D)
-	$(rust) -A dead_code --extern second=$(second) --extern generate=$(generate) -L dependency=$(dir $(second)) --crate-name bench bench/main.rs -L native=$(dir $(archive)) -l static=seatreg -o $@
+	$(rust) -A dead_code --crate-name bench bench/main.rs $(linked) -o $@
 
 drawing: $(drawing)
-	$(drawing) > docs/p5.svg
+	$(drawing) > target/drawing/p5.svg
+	cp target/drawing/p5.svg docs/p5.svg
 
 $(drawing): $(wildcard docs/drawing/*.rs) tests/compare/entry.rs tests/compare/lent.rs $(second) $(generate) $(archive)
 	@mkdir -p $(@D)
-	$(rust) -A dead_code --extern second=$(second) --extern generate=$(generate) -L dependency=$(dir $(second)) --crate-name drawing docs/drawing/main.rs -L native=$(dir $(archive)) -l static=seatreg -o $@
+	$(rust) -A dead_code --crate-name drawing docs/drawing/main.rs $(linked) -o $@
 
 $(generate): $(wildcard tests/second/generate/*.rs) $(second)
 	$(rust) --extern second=$(second) --crate-type rlib --crate-name generate tests/second/generate/lib.rs --out-dir $(@D)
