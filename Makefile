@@ -4,6 +4,8 @@
 #   make compare [SEED=n] [CASES=n]   random calls through the archive and the second implementation
 #   make self-test                    the same with faults put in on purpose: each must be found
 #   make bench                        both measured side by side: nanoseconds a call, and the ratio
+#   make drawing                      writes docs/p5.svg anew
+#   make stack                        bytes of stack that each call needs
 #   make install [PREFIX=dir] [DESTDIR=dir]
 #   make test                         the gate
 #   make clean                        removes what is built here; what is proved stays
@@ -28,10 +30,14 @@ second := target/second/libsecond.rlib
 generate := target/second/libgenerate.rlib
 compare := target/compare/compare
 bench := target/bench/bench
+drawing := target/drawing/drawing
+stack := target/stack/stack
 host := target/host/host
 rust := $(RUSTC) --edition 2021 -D warnings -O -C overflow-checks=on
+# For a program that makes calls through the archive which the second implementation's cases give.
+linked := --extern second=$(second) --extern generate=$(generate) -L dependency=$(dir $(second)) -L native=$(dir $(archive)) -l static=seatreg
 
-.PHONY: run lib host compare self-test bench install test clean
+.PHONY: run lib host compare self-test bench drawing stack install test clean
 
 run: $(program)
 	@$(program) < examples/listing.calls
@@ -67,7 +73,15 @@ bench: $(bench)
 
 $(bench): $(wildcard bench/*.rs) tests/compare/entry.rs tests/compare/lent.rs $(second) $(generate) $(archive)
 	@mkdir -p $(@D)
-	$(rust) -A dead_code --extern second=$(second) --extern generate=$(generate) -L dependency=$(dir $(second)) --crate-name bench bench/main.rs -L native=$(dir $(archive)) -l static=seatreg -o $@
+	$(rust) -A dead_code --crate-name bench bench/main.rs $(linked) -o $@
+
+drawing: $(drawing)
+	$(drawing) > target/drawing/p5.svg
+	cp target/drawing/p5.svg docs/p5.svg
+
+$(drawing): $(wildcard docs/drawing/*.rs) tests/compare/entry.rs tests/compare/lent.rs $(second) $(generate) $(archive)
+	@mkdir -p $(@D)
+	$(rust) -A dead_code --crate-name drawing docs/drawing/main.rs $(linked) -o $@
 
 $(generate): $(wildcard tests/second/generate/*.rs) $(second)
 	$(rust) --extern second=$(second) --crate-type rlib --crate-name generate tests/second/generate/lib.rs --out-dir $(@D)
@@ -75,6 +89,14 @@ $(generate): $(wildcard tests/second/generate/*.rs) $(second)
 $(second): $(wildcard tests/second/*.rs)
 	@mkdir -p $(@D)
 	$(rust) --crate-type rlib --crate-name second tests/second/lib.rs --out-dir $(@D)
+
+# Bound by the loader before main, so that its own stack is in no figure.
+stack: $(stack)
+	@$(stack)
+
+$(stack): tests/compare/stack.c include/seatreg.h $(archive)
+	@mkdir -p $(@D)
+	$(CC) $(CFLAGS) $(STRICT) -Iinclude -pthread $< $(archive) -Wl,-z,now -o $@
 
 prefix := $(abspath $(PREFIX))
 dest := $(DESTDIR)$(prefix)
@@ -92,4 +114,4 @@ test:
 	bash .ci/run
 
 clean:
-	rm -rf target/host target/compare target/bench $(archive)
+	rm -rf target/host target/compare target/bench target/drawing target/stack $(archive)

@@ -29,6 +29,8 @@
  *   - While a call runs, no other thread writes the bytes lent to it, nor reads bytes that it may
  *     write: no two calls at the same time on one block or with one answers buffer. Reach and use
  *     only read the block, so several of these may run on one block, each with answers of its own.
+ *   - The thread that calls has enough stack: a call needs at most 32 KiB of stack on x86-64. This
+ *     is measured; the proofs know of no stack.
  *
  * WHAT THE REGISTER CAN'T KNOW. Who is calling: that a request really comes from the subject passed
  * as `by`, or as the giver of a grant, is the host's to establish. Who wrote the block: bytes that

@@ -1,6 +1,7 @@
 #!/usr/bin/env bash
 # The C side: the archive, the header, a short comparison with the second
-# implementation on fixed random calls, its self test, and the example host.
+# implementation on fixed random calls, its self test, the example host, the
+# host in README.md, the stack of every call, and the drawing.
 set -euo pipefail
 
 here="$(cd "$(dirname "${BASH_SOURCE[0]}")" && pwd)"
@@ -38,6 +39,35 @@ short() {
     make -s compare SEED=1 CASES=20000 | tee "$out/short" &&
         grep -qx 'every refusal that a call can return was returned' "$out/short" &&
         grep -qx 'compare: 20000 cases, 0 differences, seed 1' "$out/short"
+}
+
+# No call needs more than the bound, which README.md and the header state too.
+stack() {
+    make -s stack >"$out/stack" || return 1
+    local bound
+    bound="$(tail -n 1 "$out/stack")"
+    grep -x 'at most [0-9]* KiB of stack' <<<"$bound" &&
+        ! grep -LF "$bound" README.md include/seatreg.h | grep .
+}
+
+# The committed drawing is what the archive's blocks give.
+drawing() {
+    make -s target/drawing/drawing &&
+        target/drawing/drawing >"$out/p5.svg" &&
+        cmp docs/p5.svg "$out/p5.svg"
+}
+
+# The whole host in README.md prints what the block after it says.
+readme() {
+    rm -f "$out/readme.c" "$out/readme.expected" &&
+        awk -v host="$out/readme.c" -v prints="$out/readme.expected" '
+            !/^```/ { text = text $0 "\n"; next }
+            !inside { inside = 1; text = ""; next }
+            { inside = 0 }
+            text ~ /\nint main\(/ { printf "%s", text > host; after = 1; next }
+            after { printf "%s", text > prints; after = 0 }' README.md &&
+        gcc -std=c99 -Wall -Wextra -Werror -Iinclude "$out/readme.c" target/staticlib/libseatreg.a -o "$out/readme" &&
+        "$out/readme" | diff "$out/readme.expected" -
 }
 
 # What is installed is enough to build the host; its flags come from pkg-config
@@ -83,6 +113,9 @@ step "20,000 random calls" short
 step "self test" make -s self-test SEED=1
 step "host" make -s host
 step "host in 64 KiB of stack" small_stack
+step "host of README.md" readme
+step "stack of every call" stack
+step "drawing" drawing
 step "host with what is installed" installed
 if command -v g++ >/dev/null; then
     step "header in C++" cpp

@@ -1,0 +1,210 @@
+/* The stack that a call needs, measured on registers on which it has most to do.
+ *
+ * Each call is made on a thread whose stack is memory painted with one value. The deepest byte that
+ * no longer has this value tells how far down the call went. The same is measured for a function
+ * that does nothing, and taken off. Two values are painted in turn, since a call may write the one,
+ * and the larger result counts. The stack of the C library's memcpy and memset is in the figures;
+ * the dynamic loader's is not: the program is linked so that it has done its work before main. */
+#define _POSIX_C_SOURCE 200112L
+#include <pthread.h>
+#include <stdio.h>
+#include <stdlib.h>
+#include <string.h>
+
+#include "seatreg.h"
+
+/* What a call may need: README.md and include/seatreg.h state it. */
+enum { BOUND_KIB = 32 };
+
+/* The start and the end of a thread stay within ROOM; below it is what is measured. */
+enum { ROOM = 16 * 1024, STACK = 128 * 1024, PAGE = 4096 };
+
+static uint8_t block[SEATREG_BLOCK_SIZE];
+static uint8_t answers[SEATREG_ANSWERS_SIZE];
+#define BLOCK block, sizeof block
+#define ANSWERS answers, sizeof answers
+
+/* Ends the program unless this is so. */
+static void check(int holds, const char *what, const char *problem)
+{
+    if (holds)
+        return;
+    fprintf(stderr, "stack: %s: %s\n", what, problem);
+    exit(EXIT_FAILURE);
+}
+
+static void open_register(void)
+{
+    check(seatreg_open(BLOCK, ANSWERS) == SEATREG_ACCEPTED, "open", "refused");
+}
+
+static void enrol(uint32_t marks)
+{
+    check(seatreg_enrol(BLOCK, marks, ANSWERS) == SEATREG_ACCEPTED, "enrol", "refused");
+}
+
+static void grant(uint32_t giver, uint32_t receiver, uint32_t weight, uint32_t need, uint32_t bar)
+{
+    uint32_t refusal = seatreg_grant(BLOCK, giver, receiver, weight, need, bar, ANSWERS);
+    check(refusal == SEATREG_ACCEPTED, "grant", "refused");
+}
+
+/* These subjects, the owner among them, and so many unlimited delegations: from the owner to each,
+ * then from each to the one after it, to the second after it, and so on. */
+static void build(uint32_t subjects, uint32_t delegations)
+{
+    uint32_t others = subjects - 1;
+
+    open_register();
+    for (uint32_t s = 1; s < subjects; s++)
+        enrol(s);
+    for (uint32_t i = 0; i < delegations; i++) {
+        uint32_t ahead = i / others, at = i % others;
+        grant(ahead == 0 ? 0 : at + 1, (at + ahead) % others + 1, SEATREG_UNLIMITED, 0, 0);
+    }
+}
+
+static void build_full(void)
+{
+    build(SEATREG_MOST_SUBJECTS, SEATREG_MOST_DELEGATIONS);
+}
+
+static void build_before_last_subject(void)
+{
+    build(SEATREG_MOST_SUBJECTS - 1, SEATREG_MOST_DELEGATIONS);
+}
+
+static void build_before_last_grant(void)
+{
+    build(SEATREG_MOST_SUBJECTS, SEATREG_MOST_DELEGATIONS - 1);
+}
+
+/* The register of the deepest cut, as tests/second/generate/rounds.rs explains it: 256 delegations
+ * among subjects 0 to 23. A walk of 230 links goes from side to side. */
+enum { SIDE = 11, LINKS = 230, END = 23, BACK = 2 };
+enum { NUMBER = 31, FIRST_SIDE = 32, SECOND_SIDE = 64, START = 128, LAST = 256 };
+
+static uint32_t walk(uint32_t place)
+{
+    uint32_t turn = place / (2 * SIDE), step = place / 2 % SIDE;
+
+    if (place > LINKS)
+        return END;
+    return place % 2 == 0 ? 1 + step : 1 + SIDE + (step + turn) % SIDE;
+}
+
+/* A grant whose condition is met by the subject of this number alone. */
+static void grant_met_by(uint32_t subject, uint32_t giver, uint32_t receiver, uint32_t weight)
+{
+    grant(giver, receiver, weight, subject, NUMBER & ~subject);
+}
+
+static void build_deep(void)
+{
+    open_register();
+    for (uint32_t s = 1; s <= END; s++) {
+        uint32_t marks = s | (s <= SIDE ? FIRST_SIDE | START : SECOND_SIDE);
+        enrol(marks | (s == walk(1) ? START : 0) | (s == END || s == BACK ? LAST : 0));
+    }
+    grant(0, walk(0), SEATREG_UNLIMITED, START, 0);
+    for (uint32_t s = 2; s < END; s++)
+        grant(0, s, SEATREG_UNLIMITED, s <= SIDE ? FIRST_SIDE : SECOND_SIDE, 0);
+    grant_met_by(END, 0, END, 254);
+    for (uint32_t place = 1; place <= LINKS; place++)
+        grant_met_by(walk(place + 1), walk(place - 1), walk(place), SEATREG_UNLIMITED);
+    grant(walk(LINKS), END, SEATREG_UNLIMITED, LAST, 0);
+    grant_met_by(END, END, BACK, SEATREG_UNLIMITED);
+    grant_met_by(BACK, BACK, END, SEATREG_UNLIMITED);
+}
+
+/* The calls that are measured. */
+static uint32_t returned;
+
+static void nothing(void) { returned = SEATREG_ACCEPTED; }
+static void open_anew(void) { returned = seatreg_open(BLOCK, ANSWERS); }
+static void enrol_last(void) { returned = seatreg_enrol(BLOCK, SEATREG_MOST_MARKS, ANSWERS); }
+static void grant_last(void) { returned = seatreg_grant(BLOCK, 4, 8, SEATREG_UNLIMITED, 0, 0, ANSWERS); }
+static void reach_last(void) { returned = seatreg_reach(BLOCK, 63, 62, ANSWERS); }
+static void use_last(void) { returned = seatreg_use(BLOCK, 63, ANSWERS); }
+static void revoke_first(void) { returned = seatreg_revoke(BLOCK, 0, 0, 1, ANSWERS); }
+static void revoke_deep(void) { returned = seatreg_revoke(BLOCK, 0, 1, 12, ANSWERS); }
+static void downgrade_first(void) { returned = seatreg_downgrade(BLOCK, 0, 0, 1, 0, ANSWERS); }
+static void downgrade_deep(void) { returned = seatreg_downgrade(BLOCK, 0, 1, 12, 0, ANSWERS); }
+
+/* A row: the register, the call, and the rounds it must answer, 0 if it is no cut. */
+struct row {
+    const char *what;
+    void (*build)(void);
+    void (*make)(void);
+    int32_t rounds;
+};
+
+static const struct row rows[] = {
+    {"open", build_full, open_anew, 0},
+    {"enrol, the 64th subject", build_before_last_subject, enrol_last, 0},
+    {"grant, the 256th delegation", build_before_last_grant, grant_last, 0},
+    {"reach, full register", build_full, reach_last, 0},
+    {"use, full register", build_full, use_last, 0},
+    {"revoke, full register", build_full, revoke_first, 1},
+    {"revoke, 485 rounds", build_deep, revoke_deep, 485},
+    {"downgrade, full register", build_full, downgrade_first, 1},
+    {"downgrade, 485 rounds", build_deep, downgrade_deep, 485},
+};
+
+/* The thread: makes a call below ROOM bytes of its own. */
+static void *thread(void *row)
+{
+    volatile uint8_t room[ROOM];
+
+    room[0] = 0;
+    ((const struct row *)row)->make();
+    room[ROOM - 1] = room[0];
+    return NULL;
+}
+
+/* How far down the stack a call goes that is made on a stack of this value. */
+static size_t depth(const struct row *row, int value)
+{
+    static void *stack;
+    pthread_attr_t attributes;
+    pthread_t id;
+    size_t free_bytes = 0;
+
+    check(stack != NULL || posix_memalign(&stack, PAGE, STACK) == 0, "posix_memalign", "failed");
+    memset(stack, value, STACK);
+    row->build();
+    check(pthread_attr_init(&attributes) == 0, "pthread_attr_init", "failed");
+    check(pthread_attr_setstack(&attributes, stack, STACK) == 0, "pthread_attr_setstack", "failed");
+    check(pthread_create(&id, &attributes, thread, (void *)row) == 0, "pthread_create", "failed");
+    check(pthread_join(id, NULL) == 0, "pthread_join", "failed");
+    pthread_attr_destroy(&attributes);
+    check(returned == SEATREG_ACCEPTED, row->what, "refused");
+    check(row->rounds == 0 || seatreg_answer(answers, 2) == row->rounds, row->what, "other rounds than expected");
+    while (free_bytes < STACK && ((uint8_t *)stack)[free_bytes] == value)
+        free_bytes++;
+    check(free_bytes > 0, row->what, "the whole stack was used");
+    return STACK - free_bytes;
+}
+
+static size_t deepest(const struct row *row)
+{
+    size_t one = depth(row, 0xa5), other = depth(row, 0x5a);
+
+    return one > other ? one : other;
+}
+
+int main(void)
+{
+    const struct row none = {"nothing", open_register, nothing, 0};
+    size_t empty = deepest(&none);
+
+    check(empty < 2 * ROOM, none.what, "the thread needs more than its room");
+    printf("%-32s %s\n", "call", "bytes of stack");
+    for (size_t i = 0; i < sizeof rows / sizeof rows[0]; i++) {
+        size_t bytes = deepest(&rows[i]) - empty;
+        printf("%-32s %14zu\n", rows[i].what, bytes);
+        check(bytes <= (size_t)BOUND_KIB * 1024, rows[i].what, "more stack than the bound");
+    }
+    printf("at most %d KiB of stack\n", BOUND_KIB);
+    return EXIT_SUCCESS;
+}
