@@ -1,8 +1,6 @@
-pub mod BitSets
+pub mod Buckets
 pub mod Records
 pub mod Signed
-pub mod Weigh
-pub mod Levels
 pub mod Ways
 pub mod Givers
 pub mod Fill

@@ -1,4 +1,4 @@
-pub mod Sets
+pub mod Queue
 pub mod Search
 pub mod Steps
 pub mod Found

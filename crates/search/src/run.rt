@@ -7,14 +7,12 @@ ghost use Rattle.rules.specs.Limit.{none, _≼_};
 ghost use Rattle.rules.specs.Table.{TableRule};
 ghost use Rattle.rules.specs.WellFormed.{Rising};
 ghost use Rattle.search.specs.Search.{Lent};
-ghost use Rattle.search.specs.Steps.{recordAt, Stepped, Ran, Sought, Starts, Gave, Level};
+ghost use Rattle.search.specs.Steps.{recordAt, Stepped, Ran, Sought, Starts, Gave, Waiting};
 ghost use Rattle.search.specs.Found.{delegationsIn};
-use crate::heavy;
-use crate::sets;
+use crate::queue;
 use block::layout;
 
-// The record at `at`: where it raises its receiver, the limit is stored with its rank, and `place` as the receiver's parent.
-// A receiver raised to the giver's own limit joins those that tie with it; they are returned.
+// The record at `at`: where it raises its receiver, the limit is stored, and `place` as the receiver's parent, and it waits at that limit.
 fn relax_at(
     run: &[u8],
     at: usize,
@@ -24,11 +22,11 @@ fn relax_at(
     table: &[i16],
     limits: &mut [i16],
     parents: &mut [u16],
-    ranks: &mut [u16],
-    tied: u64,
-) -> u64
-    requires { ⌜ (at + 8 ≤ length (now run)) × (place < 65536) × TableRule (now table) × (limit ≼ pos 255) × (length (now limits) ≡ 64) × (length (now parents) ≡ 64) × (length (now ranks) ≡ 64) × (getD (now run) (at + 1) 0 < 64) × (pos 0 ≼ limit) × Level limit (now limits) (now ranks) tied ⌝ }
-    ensures { λ r. ⌜ Stepped (now (table .entry)) limit marks (recordAt (now (run .entry)) at) place (now (limits .entry)) (now (parents .entry)) (now (ranks .entry)) (now (limits .exit)) (now (parents .exit)) (now (ranks .exit)) × Level limit (now (limits .exit)) (now (ranks .exit)) r ⌝ }
+    waiting: &mut [u64],
+    low: usize,
+) -> usize
+    requires { ⌜ (at + 8 ≤ length (now run)) × (place < 65536) × TableRule (now table) × (limit ≼ pos 255) × (length (now limits) ≡ 64) × (length (now parents) ≡ 64) × (getD (now run) (at + 1) 0 < 64) × Waiting (now limits) (now waiting) low ⌝ }
+    ensures { λ r. ⌜ Stepped (now (table .entry)) limit marks (recordAt (now (run .entry)) at) place (now (limits .entry)) (now (parents .entry)) (now (waiting .entry)) (now (limits .exit)) (now (parents .exit)) (now (waiting .exit)) × Waiting (now (limits .exit)) (now (waiting .exit)) r ⌝ }
 {
     let need = block::read_two(run, at + layout::NEED);
     let bar = block::read_two(run, at + layout::BAR);
@@ -38,13 +36,10 @@ fn relax_at(
         if limits[receiver] < given {
             limits[receiver] = given;
             parents[receiver] = place as u16;
-            ranks[receiver] = heavy::rank(given, receiver);
-            if given == limit {
-                return sets::with(tied, receiver);
-            }
+            return queue::join(waiting, given as usize, receiver, low);
         }
     }
-    tied
+    low
 }
 
 // A run of records, from a giver of this limit; the first of them is at the place `first`.
@@ -56,17 +51,17 @@ fn relax_run(
     table: &[i16],
     limits: &mut [i16],
     parents: &mut [u16],
-    ranks: &mut [u16],
-    tied: u64,
-) -> u64
-    requires { ⌜ (first + length (now run) / 8 ≤ 256) × TableRule (now table) × (limit ≼ pos 255) × (length (now limits) ≡ 64) × (length (now parents) ≡ 64) × (length (now ranks) ≡ 64) × ((k : ℕ) → k < length (now run) / 8 → getD (now run) (8 * k + 1) 0 < 64) × (pos 0 ≼ limit) × Level limit (now limits) (now ranks) tied ⌝ }
-    ensures { λ r. ⌜ Ran (now (table .entry)) limit marks (now (run .entry)) first (now (limits .entry)) (now (parents .entry)) (now (ranks .entry)) (length (now (run .entry)) / 8) (now (limits .exit)) (now (parents .exit)) (now (ranks .exit)) × Level limit (now (limits .exit)) (now (ranks .exit)) r ⌝ }
+    waiting: &mut [u64],
+    low: usize,
+) -> usize
+    requires { ⌜ (first + length (now run) / 8 ≤ 256) × TableRule (now table) × (limit ≼ pos 255) × (length (now limits) ≡ 64) × (length (now parents) ≡ 64) × ((k : ℕ) → k < length (now run) / 8 → getD (now run) (8 * k + 1) 0 < 64) × Waiting (now limits) (now waiting) low ⌝ }
+    ensures { λ r. ⌜ Ran (now (table .entry)) limit marks (now (run .entry)) first (now (limits .entry)) (now (parents .entry)) (now (waiting .entry)) (length (now (run .entry)) / 8) (now (limits .exit)) (now (parents .exit)) (now (waiting .exit)) × Waiting (now (limits .exit)) (now (waiting .exit)) r ⌝ }
 {
     let n = run.len() / layout::RECORD_SIZE;
-    let mut ties = tied;
+    let mut lowest = low;
     let mut k: usize = 0;
     while k < n {
-        ties = relax_at(
+        lowest = relax_at(
             run,
             layout::RECORD_SIZE * k,
             first + k,
@@ -75,12 +70,12 @@ fn relax_run(
             table,
             limits,
             parents,
-            ranks,
-            ties,
+            waiting,
+            lowest,
         );
         k += 1;
     }
-    ties
+    lowest
 }
 
 // The place of the first record whose giver is not below `bound`, sought from `low` on.
@@ -123,11 +118,11 @@ pub fn relax_giver(
     table: &[i16],
     limits: &mut [i16],
     parents: &mut [u16],
-    ranks: &mut [u16],
-    tied: u64,
-) -> u64
-    requires { ⌜ Lent (now table) (now records) (length (now records) / 8) × Starts (now records) (now starts) × (giver < 64) × (getD (now limits) giver none ≼ pos 255) × (length (now limits) ≡ 64) × (length (now parents) ≡ 64) × (length (now ranks) ≡ 64) × (pos 0 ≼ getD (now limits) giver none) × Level (getD (now limits) giver none) (now limits) (now ranks) tied ⌝ }
-    ensures { λ r. ⌜ Gave (now (table .entry)) (now (records .entry)) marks giver (now (limits .entry)) (now (parents .entry)) (now (ranks .entry)) (now (limits .exit)) (now (parents .exit)) (now (ranks .exit)) × Level (getD (now (limits .entry)) giver none) (now (limits .exit)) (now (ranks .exit)) r ⌝ }
+    waiting: &mut [u64],
+    low: usize,
+) -> usize
+    requires { ⌜ Lent (now table) (now records) (length (now records) / 8) × Starts (now records) (now starts) × (giver < 64) × (getD (now limits) giver none ≼ pos 255) × (length (now limits) ≡ 64) × (length (now parents) ≡ 64) × Waiting (now limits) (now waiting) low ⌝ }
+    ensures { λ r. ⌜ Gave (now (table .entry)) (now (records .entry)) marks giver (now (limits .entry)) (now (parents .entry)) (now (waiting .entry)) (now (limits .exit)) (now (parents .exit)) (now (waiting .exit)) × Waiting (now (limits .exit)) (now (waiting .exit)) r ⌝ }
 {
     let a = starts[giver] as usize;
     let e = starts[giver + 1] as usize;
@@ -140,7 +135,7 @@ pub fn relax_giver(
         table,
         limits,
         parents,
-        ranks,
-        tied,
+        waiting,
+        low,
     )
 }

@@ -1,113 +1,172 @@
--- `search::search` meets its contract: each turn keeps the state of a search and settles one subject more. Assumes nothing.
-use mathlib.Core.Path.{refl, sym, _∙_}
-use mathlib.Core.List.{[]}
+-- `search::search` meets its contract: each turn keeps the state of a search and settles a subject, drops one that was raised since, or goes one level down. Assumes nothing.
+use mathlib.Core.Path.{_≡_, refl, sym, ap, subst, _∙_}
+use mathlib.Core.Logic.{_≢_}
+use mathlib.Core.List.{List, []}
+use Prim.Native.Nat.{ℕ, _-_, _≤_, _<_}
 use native.Mathlib.Omega.{arith}
-use lib.ListN.{getD, length-set}
+use lib.ListN.{getD}
 use lib.IntN.{pos}
+use mir.Syntax.{w16}
+use mir.Val.{ofZ, toZ}
+use mir.Facts.{toZ-ofZ}
 use Rattle.rules.specs.Limit.{none}
-use Rattle.search.specs.Steps.{Heaviest, Level}
+use Rattle.rules.proofs.Signed.{getD-within}
+use Rattle.search.specs.Steps.{Waiting}
+use Rattle.search.proofs.Buckets.{empty-waits, taken-none, taken-some}
+use Rattle.search.proofs.Signed.{read-limit}
 use Rattle.search.proofs.State.{isSettled, State, state-top}
-use Rattle.search.proofs.Levels.{level-start, level-settled}
-use Rattle.search.proofs.Whole.{unsettled, state-start, state-ranked, state-settle, settle-falls, state-end}
+use Rattle.search.proofs.Whole.{measure, state-start, waiting-start, waiting-taken, lower-less, state-lower, state-stale, stale-less, state-settle, settle-less, state-end}
 use Rattle.search.proofs.search.Statement.{statement}
 use Rattle.search.proofs.search.Tie as tie
 
 abbrev Inv-loop : tie.InvT-loop
-Inv-loop records starts table marks limits₀ parents₀ ranks₀ tied₀ u₀ limits parents ranks tied u =
-    State table records marks (isSettled ranks) limits parents ranks [] × Heaviest limits ranks u × Level (getD limits u none) limits ranks tied
+Inv-loop records starts table marks limits₀ parents₀ waiting₀ low₀ past₀ limits parents waiting low past =
+    State table records marks (isSettled limits waiting) past limits parents waiting [] × Waiting limits waiting low × (past ≤ 256)
 
 abbrev μ-loop : tie.MeasureT-loop
-μ-loop records starts table marks limits₀ parents₀ ranks₀ tied₀ u₀ limits parents ranks tied u = unsettled ranks
-
-slice-aggregate-start : tie.Need-slice-aggregate-start Inv-loop μ-loop
-slice-aggregate-start c = refl
+μ-loop records starts table marks limits₀ parents₀ waiting₀ low₀ past₀ limits parents waiting low past = measure limits waiting past
 
 start-requires : tie.Need-start-requires Inv-loop μ-loop
-start-requires c κs = (c .before .before .before .before .before .before .pre .2, c .before .before .before .before .before .before .pre .3, refl)
+start-requires c κs = (c .before .before .before .before .before .pre .2, c .before .before .before .before .before .pre .3)
 
-slice-aggregate-next-of : tie.Need-slice-aggregate-next-of Inv-loop μ-loop
-slice-aggregate-next-of c = sym (c .before .before .before .before .before .start .kept .1 .1 .0)
+slice-aggregate-join : tie.Need-slice-aggregate-join Inv-loop μ-loop
+slice-aggregate-join c = refl
 
-next-of-requires : tie.Need-next-of-requires Inv-loop μ-loop
-next-of-requires c κs = c .before .before .before .before .before .start .kept .1 .1 .0
+join-requires : tie.Need-join-requires Inv-loop μ-loop
+join-requires c κs = (refl, omega arith, omega arith, λ x y _. empty-waits 256 x y)
 
 loop-holds : tie.Need-loop-holds Inv-loop μ-loop
 loop-holds c =
-    let s = c .before .before .before .before .before .before .before .before .before .before .before .before .before in
+    let s = c .before .before .before .before .before .before .before .before .before .before .before .before in
     let f = c .before .before .before .before .before .before .start in
-    let now = state-start (s .args .table .now) (s .args .records .now) (s .pre .0) (s .args .marks) _ _ _ (f .kept .0 ∙ s .pre .2) (f .kept .1 .0 ∙ s .pre .3) (f .kept .1 .1 .0) (f .ensures) in
-    let ranked = state-ranked (s .args .table .now) (s .args .records .now) (s .pre .0) (s .args .marks) _ _ _ now in
-    let next = c .next-of .ensures _ (pos 255) ranked (omega arith) (level-start _ _ ranked) in
-    (now, next .0, next .1)
-
-mul-ranks : tie.Need-mul-ranks Inv-loop μ-loop
-mul-ranks c = omega arith
-
-array-write-ranks : tie.Need-array-write-ranks Inv-loop μ-loop
-array-write-ranks c = omega (arith, c .before .loop .inv .0 .ranks)
-
-without-requires : tie.Need-without-requires Inv-loop μ-loop
-without-requires c κs = c .loop-test .taken
-
-slice-aggregate-relax-giver : tie.Need-slice-aggregate-relax-giver Inv-loop μ-loop
-slice-aggregate-relax-giver c = simp length-set (sym (c .before .before .before .before .before .loop .inv .0 .ranks))
-
-relax-giver-requires : tie.Need-relax-giver-requires Inv-loop μ-loop
-relax-giver-requires c κs =
-    let s = c .before .before .before .before .before .before .before .before .before .before .before .before .before .before .before .before .before .before .before in
-    let v = c .before .before .before .before .before .loop in
-    let taken = c .before .before .before .before .loop-test .taken in
-    let now = v .inv .0 in (
-      s .pre .0,
-      s .pre .1,
-      taken,
-      state-top (s .args .table .now) (s .pre .0 .rule) (s .args .records .now) (s .args .marks) (isSettled (v .ranks)) (v .limits) (v .parents) (v .ranks) [] now (v .u),
-      now .limits,
-      now .parents,
-      simp length-set (now .ranks),
-      v .inv .1 .live taken,
-      level-settled (v .limits) (v .ranks) (v .u) (v .inv .1) (v .tied) (v .inv .2) (omega (arith, now .ranks)) _ (c .before .before .before .without .ensures),
+    let j = c .before .join in (
+      state-start (s .args .table .now) (s .args .records .now) (s .pre .0) (s .args .marks) _ _ _ _ (f .kept .0 ∙ s .pre .2) (f .kept .1 .0 ∙ s .pre .3) (f .ensures) (j .ensures .0),
+      waiting-start (s .args .table .now) (s .args .records .now) (s .pre .0) (s .args .marks) _ _ _ _ (f .kept .0 ∙ s .pre .2) (f .kept .1 .0 ∙ s .pre .3) (f .ensures) (j .ensures .0) refl _ (j .ensures .1),
+      omega arith,
     )
 
-slice-aggregate-next-of-2 : tie.Need-slice-aggregate-next-of-2 Inv-loop μ-loop
-slice-aggregate-next-of-2 c =
-    let f = c .before .before .before .before .before .relax-giver in
-    sym (f .kept .1 .1 .1 .1 .1 .1 .1 .0 ∙ simp length-set (c .before .before .before .before .before .before .before .before .before .before .before .loop .inv .0 .ranks))
+slice-aggregate-take : tie.Need-slice-aggregate-take Inv-loop μ-loop
+slice-aggregate-take c = sym (c .before .before .loop .inv .1 .size)
 
-next-of-requires-2 : tie.Need-next-of-requires-2 Inv-loop μ-loop
-next-of-requires-2 c κs =
-    let f = c .before .before .before .before .before .relax-giver in
-    f .kept .1 .1 .1 .1 .1 .1 .1 .0 ∙ simp length-set (c .before .before .before .before .before .before .before .before .before .before .before .loop .inv .0 .ranks)
+sub-take : tie.Need-sub-take Inv-loop μ-loop
+sub-take c = omega (arith, c .before .loop-test .taken)
+
+take-requires : tie.Need-take-requires Inv-loop μ-loop
+take-requires c κs = (c .before .before .loop .inv .1 .size, omega (arith, c .before .before .loop .inv .2))
+
+sub-past : tie.Need-sub-past Inv-loop μ-loop
+sub-past c = omega (arith, c .before .before .before .before .loop-test .taken)
 
 loop-less : tie.Need-loop-less Inv-loop μ-loop
 loop-less c =
-    let s = c .before .before .before .before .before .before .before .before .before .before .before .before .before .before .before .before .before .before .before .before .before .before .before .before .before .before in
-    let v = c .before .before .before .before .before .before .before .before .before .before .before .before .loop in
-    let taken = c .before .before .before .before .before .before .before .before .before .before .before .loop-test .taken in
-    let gave = c .before .before .before .before .before .before .relax-giver .ensures .0 in
-    settle-falls (s .args .table .now) (s .args .records .now) (s .pre .0) (s .args .marks) (v .limits) (v .parents) (v .ranks) (v .inv .0) (v .u) (v .inv .1) taken _ _ _ gave
+    let s = c .before .before .before .before .before .before .before .before .before .before .before .before .before .before .before .before .before .before in
+    let v = c .before .before .before .before .before .loop in
+    let n = taken-none (v .waiting) _ (v .past - 1) _ (c .before .before .take .ensures) (c .if1 .taken) in
+    subst (λ (q : List ℕ). measure (v .limits) q (v .past - 1) < measure (v .limits) (v .waiting) (v .past)) (sym (n .1))
+    (lower-less (s .args .table .now) (s .args .records .now) (s .pre .0) (s .args .marks) (v .limits) (v .parents) (v .waiting) (v .past) (omega (arith, c .before .before .before .before .loop-test .taken)) (v .inv .0))
 
 loop-again : tie.Need-loop-again Inv-loop μ-loop
 loop-again c =
-    let s = c .before .before .before .before .before .before .before .before .before .before .before .before .before .before .before .before .before .before .before .before .before .before .before .before .before .before in
-    let v = c .before .before .before .before .before .before .before .before .before .before .before .before .loop in
-    let taken = c .before .before .before .before .before .before .before .before .before .before .before .loop-test .taken in
-    let f = c .before .before .before .before .before .before .relax-giver in
-    let now = state-settle (s .args .table .now) (s .args .records .now) (s .pre .0) (s .args .marks) (v .limits) (v .parents) (v .ranks) (v .inv .0) (v .u) (v .inv .1) taken _ _ _ (f .ensures .0) in
-    let next = c .next-of2 .ensures _ _ (state-ranked (s .args .table .now) (s .args .records .now) (s .pre .0) (s .args .marks) _ _ _ now) (v .inv .1 .live taken) (f .ensures .1) in
-    (now, next .0, next .1)
+    let s = c .before .before .before .before .before .before .before .before .before .before .before .before .before .before .before .before .before .before in
+    let v = c .before .before .before .before .before .loop in
+    let n = taken-none (v .waiting) _ (v .past - 1) _ (c .before .before .take .ensures) (c .if1 .taken) in
+    let e : 0 < v .past = omega (arith, c .before .before .before .before .loop-test .taken) in
+    subst
+    (λ (q : List ℕ). State (s .args .table .now) (s .args .records .now) (s .args .marks) (isSettled (v .limits) q) (v .past - 1) (v .limits) (v .parents) q [] × Waiting (v .limits) q (v .low) × (v .past - 1 ≤ 256)) (sym (n .1))
+    (state-lower (s .args .table .now) (s .args .records .now) (s .pre .0) (s .args .marks) (v .limits) (v .parents) (v .waiting) (v .past) e (v .inv .0) (n .0), v .inv .1, omega (arith, v .inv .2))
+
+mul-if2 : tie.Need-mul-if2 Inv-loop μ-loop
+mul-if2 c =
+    let v = c .before .before .before .before .before .loop in
+    omega (arith, taken-some (v .waiting) _ (v .past - 1) _ (c .before .before .take .ensures) (c .if1 .left) .0)
+
+slice-copy-out-if2 : tie.Need-slice-copy-out-if2 Inv-loop μ-loop
+slice-copy-out-if2 c =
+    let v = c .before .before .before .before .before .loop in
+    omega (arith, taken-some (v .waiting) _ (v .past - 1) _ (c .before .before .take .ensures) (c .if1 .left) .0, v .inv .0 .limits)
+
+sub-if2 : tie.Need-sub-if2 Inv-loop μ-loop
+sub-if2 c = omega (arith, c .before .before .before .before .before .loop-test .taken)
+
+cast-if2 : tie.Need-cast-if2 Inv-loop μ-loop
+cast-if2 c = record { sfits = omega (arith, c .before .before .before .before .before .before .loop .inv .2) }
+
+slice-aggregate-relax-giver : tie.Need-slice-aggregate-relax-giver Inv-loop μ-loop
+slice-aggregate-relax-giver c =
+    let v = c .before .before .before .before .before .before .before .before .before .before .loop in
+    let some = taken-some (v .waiting) _ (v .past - 1) _ (c .before .before .before .before .before .before .before .take .ensures) (c .before .before .before .before .before .if1 .left) in
+    sym (some .2 .size ∙ v .inv .1 .size)
+
+relax-giver-requires : tie.Need-relax-giver-requires Inv-loop μ-loop
+relax-giver-requires c κs =
+    let s = c .before .before .before .before .before .before .before .before .before .before .before .before .before .before .before .before .before .before .before .before .before .before .before in
+    let v = c .before .before .before .before .before .before .before .before .before .before .loop in
+    let some = taken-some (v .waiting) _ (v .past - 1) _ (c .before .before .before .before .before .before .before .take .ensures) (c .before .before .before .before .before .if1 .left) in (
+      s .pre .0,
+      s .pre .1,
+      some .0,
+      state-top (s .args .table .now) (s .pre .0 .rule) (s .args .records .now) (s .args .marks) (isSettled (v .limits) (v .waiting)) (v .past) (v .limits) (v .parents) (v .waiting) [] (v .inv .0) (c .before .before .before .before .before .before .before .take .result),
+      v .inv .0 .limits,
+      v .inv .0 .parents,
+      waiting-taken (v .limits) (v .waiting) _ (v .past - 1) _ (v .low) (v .inv .1) (some .2) (omega (arith, c .before .before .before .before .before .before .before .before .before .loop-test .taken)),
+    )
+
+loop-less-2 : tie.Need-loop-less-2 Inv-loop μ-loop
+loop-less-2 c =
+    let s = c .before .before .before .before .before .before .before .before .before .before .before .before .before .before .before .before .before .before .before .before .before .before .before .before .before .before .before .before in
+    let v = c .before .before .before .before .before .before .before .before .before .before .before .before .before .before .before .loop in
+    let u = c .before .before .before .before .before .before .before .before .before .before .before .before .take .result in
+    let some = taken-some (v .waiting) _ (v .past - 1) u (c .before .before .before .before .before .before .before .before .before .before .before .before .take .ensures) (c .before .before .before .before .before .before .before .before .before .before .if1 .left) in
+    let e : 0 < v .past = omega (arith, c .before .before .before .before .before .before .before .before .before .before .before .before .before .before .loop-test .taken) in
+    let here : getD (v .limits) u none ≡ pos (v .past - 1) = sym (read-limit (v .limits) u (omega (arith, some .0, v .inv .0 .limits)) (c .before .before .before .before .before .before .before .before .before .if22 .given)) ∙ ap (toZ w16) (c .before .before .before .before .before .before .before .before .if2 .taken) ∙ toZ-ofZ {w = w16} (record { sfits = omega (arith, v .inv .2) }) in
+    let f = c .before .before .before .before .relax-giver in
+    settle-less (s .args .table .now) (s .args .records .now) (s .pre .0) (s .args .marks) (v .limits) (v .parents) (v .waiting) (v .past) e (v .inv .0) u _ (some .2) (some .0) (some .1) here _ _ _ (f .ensures .0) (v .inv .2)
+
+loop-again-2 : tie.Need-loop-again-2 Inv-loop μ-loop
+loop-again-2 c =
+    let s = c .before .before .before .before .before .before .before .before .before .before .before .before .before .before .before .before .before .before .before .before .before .before .before .before .before .before .before .before in
+    let v = c .before .before .before .before .before .before .before .before .before .before .before .before .before .before .before .loop in
+    let u = c .before .before .before .before .before .before .before .before .before .before .before .before .take .result in
+    let some = taken-some (v .waiting) _ (v .past - 1) u (c .before .before .before .before .before .before .before .before .before .before .before .before .take .ensures) (c .before .before .before .before .before .before .before .before .before .before .if1 .left) in
+    let e : 0 < v .past = omega (arith, c .before .before .before .before .before .before .before .before .before .before .before .before .before .before .loop-test .taken) in
+    let here : getD (v .limits) u none ≡ pos (v .past - 1) = sym (read-limit (v .limits) u (omega (arith, some .0, v .inv .0 .limits)) (c .before .before .before .before .before .before .before .before .before .if22 .given)) ∙ ap (toZ w16) (c .before .before .before .before .before .before .before .before .if2 .taken) ∙ toZ-ofZ {w = w16} (record { sfits = omega (arith, v .inv .2) }) in
+    let f = c .before .before .before .before .relax-giver in
+    (state-settle (s .args .table .now) (s .args .records .now) (s .pre .0) (s .args .marks) (v .limits) (v .parents) (v .waiting) (v .past) e (v .inv .0) u _ (some .2) (some .0) (some .1) here _ _ _ (f .ensures .0), f .ensures .1, v .inv .2)
+
+loop-less-3 : tie.Need-loop-less-3 Inv-loop μ-loop
+loop-less-3 c =
+    let s = c .before .before .before .before .before .before .before .before .before .before .before .before .before .before .before .before .before .before .before .before in
+    let v = c .before .before .before .before .before .before .before .loop in
+    let u = c .before .before .before .before .take .result in
+    let some = taken-some (v .waiting) _ (v .past - 1) u (c .before .before .before .before .take .ensures) (c .before .before .if1 .left) in
+    let e : 0 < v .past = omega (arith, c .before .before .before .before .before .before .loop-test .taken) in
+    let raised : getD (v .limits) u none ≢ pos (v .past - 1) = λ z. c .if2 .left (ap (ofZ w16) (getD-within (v .limits) u (pos 0) none (omega (arith, some .0, v .inv .0 .limits)) ∙ z)) in
+    stale-less (s .args .table .now) (s .args .records .now) (s .pre .0) (s .args .marks) (v .limits) (v .parents) (v .waiting) (v .past) e (v .inv .0) u _ (some .2) raised (some .0) (some .1)
+
+loop-again-3 : tie.Need-loop-again-3 Inv-loop μ-loop
+loop-again-3 c =
+    let s = c .before .before .before .before .before .before .before .before .before .before .before .before .before .before .before .before .before .before .before .before in
+    let v = c .before .before .before .before .before .before .before .loop in
+    let u = c .before .before .before .before .take .result in
+    let some = taken-some (v .waiting) _ (v .past - 1) u (c .before .before .before .before .take .ensures) (c .before .before .if1 .left) in
+    let e : 0 < v .past = omega (arith, c .before .before .before .before .before .before .loop-test .taken) in
+    let raised : getD (v .limits) u none ≢ pos (v .past - 1) = λ z. c .if2 .left (ap (ofZ w16) (getD-within (v .limits) u (pos 0) none (omega (arith, some .0, v .inv .0 .limits)) ∙ z)) in (
+      state-stale (s .args .table .now) (s .args .records .now) (s .pre .0) (s .args .marks) (v .limits) (v .parents) (v .waiting) (v .past) e (v .inv .0) u _ (some .2) raised,
+      waiting-taken (v .limits) (v .waiting) _ (v .past - 1) u (v .low) (v .inv .1) (some .2) (omega (arith, c .before .before .before .before .before .before .loop-test .taken)),
+      v .inv .2,
+    )
 
 same-length : tie.Need-same-length Inv-loop μ-loop
-same-length c = c .before .loop .inv .0 .limits ∙ sym (c .before .before .before .before .before .before .before .before .before .before .before .before .before .before .before .pre .2)
+same-length c = c .before .loop .inv .0 .limits ∙ sym (c .before .before .before .before .before .before .before .before .before .before .before .before .before .before .pre .2)
 
 same-length-2 : tie.Need-same-length-2 Inv-loop μ-loop
-same-length-2 c = c .before .loop .inv .0 .parents ∙ sym (c .before .before .before .before .before .before .before .before .before .before .before .before .before .before .before .pre .3)
+same-length-2 c = c .before .loop .inv .0 .parents ∙ sym (c .before .before .before .before .before .before .before .before .before .before .before .before .before .before .pre .3)
 
 returns : tie.Need-returns Inv-loop μ-loop
 returns c =
-    let s = c .before .before .before .before .before .before .before .before .before .before .before .before .before .before .before in
+    let s = c .before .before .before .before .before .before .before .before .before .before .before .before .before .before in
     let v = c .before .loop in
-    state-end (s .args .table .now) (s .args .records .now) (s .pre .0) (s .args .marks) (v .limits) (v .parents) (v .ranks) (v .inv .0) (v .u) (v .inv .1) (c .loop-test .left)
+    state-end (s .args .table .now) (s .args .records .now) (s .pre .0) (s .args .marks) (v .limits) (v .parents) (v .waiting) (v .past) (v .low) (v .inv .0) (v .inv .1 .lowest) (omega (arith, c .loop-test .left))
 
 pub search-spec : {M : Type 1} → statement M
 search-spec =
@@ -115,20 +174,26 @@ search-spec =
     (tie.spec
     Inv-loop
     μ-loop
-    slice-aggregate-start
     start-requires
-    slice-aggregate-next-of
-    next-of-requires
+    slice-aggregate-join
+    join-requires
     loop-holds
-    mul-ranks
-    array-write-ranks
-    without-requires
-    slice-aggregate-relax-giver
-    relax-giver-requires
-    slice-aggregate-next-of-2
-    next-of-requires-2
+    slice-aggregate-take
+    sub-take
+    take-requires
+    sub-past
     loop-less
     loop-again
+    mul-if2
+    slice-copy-out-if2
+    sub-if2
+    cast-if2
+    slice-aggregate-relax-giver
+    relax-giver-requires
+    loop-less-2
+    loop-again-2
+    loop-less-3
+    loop-again-3
     same-length
     same-length-2
     returns)

@@ -1,11 +1,7 @@
 -- `search::run::relax_at` takes the step of one record. Assumes nothing.
-use mathlib.Core.Path.{ap, _∙_}
 use native.Mathlib.Omega.{arith}
 use borrow.Author.Needs.{needs}
-use mir.Syntax.{w16}
-use mir.Val.{toZ}
-use mir.Facts.{toZ-ofZ}
-use Rattle.search.proofs.Ways.{given-top, step-unmet, step-not-raised, step-raised, step-joined}
+use Rattle.search.proofs.Ways.{given-level, step-unmet, step-not-raised, step-raised}
 use Rattle.search.proofs.run.relax_at.Statement.{statement}
 use Rattle.search.proofs.run.relax_at.Tie as tie
 
@@ -63,27 +59,29 @@ mul-parents c = search needs
 slice-write-parents : tie.Need-slice-write-parents
 slice-write-parents c = search needs
 
-rank-requires : tie.Need-rank-requires
-rank-requires c κs =
-    let i = c .before in
+cast-join : tie.Need-cast-join
+cast-join c =
+    let i = c .before .before in
     let n = i .before in
     let m = n .before .before .before .before in
     let s = m .before .before .before .before .before .before in
-    let a = s .args in (
-      given-top (a .table .now) (a .run .now) (a .at) (a .place) (a .limit) (a .marks) (a .limits .now) (a .parents .now) (a .ranks .now) (a .tied)
-          _ _ _ (m .before .before .read-two .ensures) (m .before .read-two2 .ensures) (m .meets .ensures) (s .pre .9)
-          _ (s .fits .limit) (omega arith) (i .if22 .given) (record { sfits = n .next .ok }) (n .next .ensures) (s .pre .2) (s .pre .3),
-      omega arith,
-    )
+    let a = s .args in
+    let level = given-level (a .table .now) (a .run .now) (a .at) (a .place) (a .limit) (a .marks) (a .limits .now) (a .parents .now) (a .waiting .now) (a .low)
+    _ _ _ (m .before .before .read-two .ensures) (m .before .read-two2 .ensures) (m .meets .ensures) (s .pre .7)
+    _ (s .fits .limit) (omega arith) (i .if22 .given) (record { sfits = n .next .ok }) (n .next .ensures) (c .before .if2 .taken) (s .pre .2) (s .pre .3) in
+    (level .0, omega (arith, level .1))
 
-mul-ranks : tie.Need-mul-ranks
-mul-ranks c = search needs
-
-slice-write-ranks : tie.Need-slice-write-ranks
-slice-write-ranks c = search needs
-
-with-requires : tie.Need-with-requires
-with-requires c κs = search needs
+join-requires : tie.Need-join-requires
+join-requires c κs =
+    let i = c .before .before in
+    let n = i .before in
+    let m = n .before .before .before .before in
+    let s = m .before .before .before .before .before .before in
+    let a = s .args in
+    let level = given-level (a .table .now) (a .run .now) (a .at) (a .place) (a .limit) (a .marks) (a .limits .now) (a .parents .now) (a .waiting .now) (a .low)
+    _ _ _ (m .before .before .read-two .ensures) (m .before .read-two2 .ensures) (m .meets .ensures) (s .pre .7)
+    _ (s .fits .limit) (omega arith) (i .if22 .given) (record { sfits = n .next .ok }) (n .next .ensures) (c .before .if2 .taken) (s .pre .2) (s .pre .3) in
+    (s .pre .7 .size, level .1, s .pre .6, s .pre .7 .lowest)
 
 same-length : tie.Need-same-length
 same-length c = search needs
@@ -96,57 +94,34 @@ same-length-3 c = search needs
 
 returns : tie.Need-returns
 returns c =
-    let k = c .before .before in
-    let i = k .before .before in
+    let j = c .before .before in
+    let i = j .before .before .before in
     let n = i .before in
     let m = n .before .before .before .before in
     let s = m .before .before .before .before .before .before in
     let a = s .args in
-    rw (k .rank .ensures) (step-joined (a .table .now) (a .run .now) (a .at) (a .place) (a .limit) (a .marks) (a .limits .now) (a .parents .now) (a .ranks .now) (a .tied)
-    _ _ _ (m .before .before .read-two .ensures) (m .before .read-two2 .ensures) (m .meets .ensures) (s .pre .9)
-    _ (s .fits .limit) (omega arith) (i .if22 .given) (record { sfits = n .next .ok }) (n .next .ensures) (s .pre .2) (s .pre .3)
-    (s .pre .8) (omega arith) (n .before .before .before .if1 .taken) (k .before .if2 .taken) (ap (toZ w16) (c .before .if3 .taken) ∙ toZ-ofZ (s .fits .limit)) (s .pre .7) _ (c .with .ensures))
-
-same-length-4 : tie.Need-same-length-4
-same-length-4 c = search needs
-
-same-length-5 : tie.Need-same-length-5
-same-length-5 c = search needs
-
-same-length-6 : tie.Need-same-length-6
-same-length-6 c = search needs
+    step-raised (a .table .now) (a .run .now) (a .at) (a .place) (a .limit) (a .marks) (a .limits .now) (a .parents .now) (a .waiting .now) (a .low)
+    _ _ _ (m .before .before .read-two .ensures) (m .before .read-two2 .ensures) (m .meets .ensures) (s .pre .7)
+    _ (s .fits .limit) (omega arith) (i .if22 .given) (record { sfits = n .next .ok }) (n .next .ensures) (j .before .before .if2 .taken) (n .before .before .before .if1 .taken) _ _ (j .join .ensures .0) (j .join .ensures .1)
 
 returns-2 : tie.Need-returns-2
 returns-2 c =
-    let k = c .before in
-    let i = k .before .before in
-    let n = i .before in
-    let m = n .before .before .before .before in
-    let s = m .before .before .before .before .before .before in
-    let a = s .args in
-    rw (k .rank .ensures) (step-raised (a .table .now) (a .run .now) (a .at) (a .place) (a .limit) (a .marks) (a .limits .now) (a .parents .now) (a .ranks .now) (a .tied)
-    _ _ _ (m .before .before .read-two .ensures) (m .before .read-two2 .ensures) (m .meets .ensures) (s .pre .9)
-    _ (s .fits .limit) (omega arith) (i .if22 .given) (record { sfits = n .next .ok }) (n .next .ensures) (s .pre .2) (s .pre .3)
-    (s .pre .8) (omega arith) (n .before .before .before .if1 .taken) (k .before .if2 .taken))
-
-returns-3 : tie.Need-returns-3
-returns-3 c =
     let i = c .before in
     let n = i .before in
     let m = n .before .before .before .before in
     let s = m .before .before .before .before .before .before in
     let a = s .args in
-    step-not-raised (a .table .now) (a .run .now) (a .at) (a .place) (a .limit) (a .marks) (a .limits .now) (a .parents .now) (a .ranks .now) (a .tied)
-    _ _ _ (m .before .before .read-two .ensures) (m .before .read-two2 .ensures) (m .meets .ensures) (s .pre .9)
+    step-not-raised (a .table .now) (a .run .now) (a .at) (a .place) (a .limit) (a .marks) (a .limits .now) (a .parents .now) (a .waiting .now) (a .low)
+    _ _ _ (m .before .before .read-two .ensures) (m .before .read-two2 .ensures) (m .meets .ensures) (s .pre .7)
     _ (s .fits .limit) (omega arith) (i .if22 .given) (record { sfits = n .next .ok }) (n .next .ensures) (c .if2 .left)
 
-returns-4 : tie.Need-returns-4
-returns-4 c =
+returns-3 : tie.Need-returns-3
+returns-3 c =
     let m = c .before in
     let s = m .before .before .before .before .before .before in
     let a = s .args in
-    step-unmet (a .table .now) (a .run .now) (a .at) (a .place) (a .limit) (a .marks) (a .limits .now) (a .parents .now) (a .ranks .now) (a .tied)
-    _ _ _ (m .before .before .read-two .ensures) (m .before .read-two2 .ensures) (m .meets .ensures) (s .pre .9) (c .if1 .left)
+    step-unmet (a .table .now) (a .run .now) (a .at) (a .place) (a .limit) (a .marks) (a .limits .now) (a .parents .now) (a .waiting .now) (a .low)
+    _ _ _ (m .before .before .read-two .ensures) (m .before .read-two2 .ensures) (m .meets .ensures) (s .pre .7) (c .if1 .left)
 
 pub relax-at-spec : {M : Type 1} → statement M
 relax-at-spec =
@@ -170,17 +145,11 @@ relax-at-spec =
     cast-parents
     mul-parents
     slice-write-parents
-    rank-requires
-    mul-ranks
-    slice-write-ranks
-    with-requires
+    cast-join
+    join-requires
     same-length
     same-length-2
     same-length-3
     returns
-    same-length-4
-    same-length-5
-    same-length-6
     returns-2
-    returns-3
-    returns-4)
+    returns-3)

@@ -6,7 +6,6 @@ use borrow.Author.Needs.{needs}
 use lib.ListN.{getD}
 use lib.IntN.{ℤ, pos}
 use Rattle.rules.specs.Limit.{_≼_}
-use Rattle.search.specs.Steps.{Level}
 use Rattle.search.proofs.Signed.{read-limit}
 use Rattle.search.proofs.Givers.{part-count, part-receivers, run-order, gave}
 use Rattle.search.proofs.run.relax_giver.Statement.{statement}
@@ -100,10 +99,8 @@ relax-run-requires c κs =
       subst (λ (z : ℤ). z ≼ pos 255) (sym (read-limit (a .limits .now) g (omega arith) (c .before .before .before .before .limit .given))) (s .pre .3),
       s .pre .4,
       s .pre .5,
-      s .pre .6,
       part-receivers (a .records .now) from past order (high .within) (a .table .now) lent,
-      subst (λ (z : ℤ). pos 0 ≼ z) (sym (read-limit (a .limits .now) g (omega arith) (c .before .before .before .before .limit .given))) (s .pre .7),
-      subst (λ (z : ℤ). Level z (a .limits .now) (a .ranks .now) (a .tied)) (sym (read-limit (a .limits .now) g (omega arith) (c .before .before .before .before .limit .given))) (s .pre .8),
+      s .pre .6,
     )
 
 same-length : tie.Need-same-length
@@ -124,9 +121,9 @@ returns c =
     let high = s .pre .1 .each (g + 1) (omega (arith, s .pre .2)) in
     let f = c .before .before .before .before .before .relax-run in
     let e = read-limit (a .limits .now) g (omega arith) (c .before .before .before .before .before .before .before .before .before .before .limit .given) in (
-      gave (a .table .now) (a .records .now) (a .marks) g (a .limits .now) (a .parents .now) (a .ranks .now) _ _ _ _ _ _ low high (run-order (a .records .now) g (getD (a .starts .now) g 0) (getD (a .starts .now) (g + 1) 0) low high)
+      gave (a .table .now) (a .records .now) (a .marks) g (a .limits .now) (a .parents .now) (a .waiting .now) _ _ _ _ _ _ low high (run-order (a .records .now) g (getD (a .starts .now) g 0) (getD (a .starts .now) (g + 1) 0) low high)
           e (f .ensures .0),
-      rw (← e) (f .ensures .1),
+      f .ensures .1,
     )
 
 pub relax-giver-spec : {M : Type 1} → statement M

@@ -7,21 +7,21 @@ use lib.ListN.{length}
 use mir.Syntax.{w16}
 use mir.Val.{toZ}
 use mir.Facts.{toZ-ofZ}
-use Rattle.search.specs.Steps.{Ran, ran-none, ran-more, Level}
+use Rattle.search.specs.Steps.{Ran, ran-none, ran-more, Waiting}
 use Rattle.search.proofs.run.relax_run.Statement.{statement}
 use Rattle.search.proofs.run.relax_run.Tie as tie
 
 abbrev Inv-loop : tie.InvT-loop
-Inv-loop run first limit marks table limits₀ parents₀ ranks₀ tied n ties₀ k₀ limits parents ranks ties k =
-    (n ≡ length run / 8) × (k ≤ n) × (length limits ≡ 64) × (length parents ≡ 64) × (length ranks ≡ 64) × Ran table (toZ w16 limit) marks run first limits₀ parents₀ ranks₀ k limits parents ranks × Level (toZ w16 limit) limits ranks ties
+Inv-loop run first limit marks table limits₀ parents₀ waiting₀ low n lowest₀ k₀ limits parents waiting lowest k =
+    (n ≡ length run / 8) × (k ≤ n) × (length limits ≡ 64) × (length parents ≡ 64) × Ran table (toZ w16 limit) marks run first limits₀ parents₀ waiting₀ k limits parents waiting × Waiting limits waiting lowest
 
 abbrev μ-loop : tie.MeasureT-loop
-μ-loop run first limit marks table limits₀ parents₀ ranks₀ tied n ties₀ k₀ limits parents ranks ties k = n - k
+μ-loop run first limit marks table limits₀ parents₀ waiting₀ low n lowest₀ k₀ limits parents waiting lowest k = n - k
 
 loop-holds : tie.Need-loop-holds Inv-loop μ-loop
 loop-holds c =
     let s = c .before .before .before in
-    (refl, omega arith, s .pre .3, s .pre .4, s .pre .5, ran-none, rw (toZ-ofZ {w = w16} (s .fits .limit)) (s .pre .8))
+    (refl, omega arith, s .pre .3, s .pre .4, ran-none, s .pre .6)
 
 mul-relax-at : tie.Need-mul-relax-at Inv-loop μ-loop
 mul-relax-at c = omega arith
@@ -34,7 +34,7 @@ relax-at-requires c κs =
     let s = c .before .before .before .before .before .before .before .before in
     let q = s .pre in
     let v = c .before .before .before .before .loop in
-    (omega arith, omega arith, q .1, rw (toZ-ofZ {w = w16} (s .fits .limit)) (q .2), v .inv .2, v .inv .3, v .inv .4, q .6 (v .k) (omega arith), rw (toZ-ofZ {w = w16} (s .fits .limit)) (q .7), v .inv .6)
+    (omega arith, omega arith, q .1, rw (toZ-ofZ {w = w16} (s .fits .limit)) (q .2), v .inv .2, v .inv .3, q .5 (v .k) (omega arith), v .inv .5)
 
 add-k : tie.Need-add-k Inv-loop μ-loop
 add-k c = omega arith
@@ -50,8 +50,7 @@ loop-again c =
       omega arith,
       f .kept .1 .1 .1 .1 .1 .1 .0 ∙ v .inv .2,
       f .kept .1 .1 .1 .1 .1 .1 .1 .0 ∙ v .inv .3,
-      f .kept .1 .1 .1 .1 .1 .1 .1 .1 .0 ∙ v .inv .4,
-      rw add-one (ran-more (v .inv .5) (f .ensures .0)),
+      rw add-one (ran-more (v .inv .4) (f .ensures .0)),
       f .ensures .1,
     )
 
@@ -62,13 +61,13 @@ same-length-2 : tie.Need-same-length-2 Inv-loop μ-loop
 same-length-2 c = c .before .loop .inv .3 ∙ sym (c .before .before .before .before .before .pre .4)
 
 same-length-3 : tie.Need-same-length-3 Inv-loop μ-loop
-same-length-3 c = c .before .loop .inv .4 ∙ sym (c .before .before .before .before .before .pre .5)
+same-length-3 c = c .before .loop .inv .5 .size ∙ sym (c .before .before .before .before .before .pre .6 .size)
 
 returns : tie.Need-returns Inv-loop μ-loop
 returns c =
     let s = c .before .before .before .before .before in
     let e : c .before .loop .k ≡ length (s .args .run .now) / 8 = omega arith in
-    rw (← toZ-ofZ {w = w16} (s .fits .limit), ← e) (c .before .loop .inv .5, c .before .loop .inv .6)
+    rw (← toZ-ofZ {w = w16} (s .fits .limit), ← e) (c .before .loop .inv .4, c .before .loop .inv .5)
 
 pub relax-run-spec : {M : Type 1} → statement M
 relax-run-spec =
