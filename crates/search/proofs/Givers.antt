@@ -15,7 +15,7 @@ use Rattle.rules.specs.Limit.{none}
 use Rattle.rules.specs.Register.{Delegation}
 use Rattle.rules.proofs.Lists.{either}
 use Rattle.search.specs.Search.{Lent}
-use Rattle.search.specs.Steps.{recordAt, Ran, Sought, part, Gave}
+use Rattle.search.specs.Steps.{recordAt, Ran, Sought, Starts, part, Gave}
 use Rattle.search.proofs.Records.{record-part, delegation-mem}
 
 module _ (s : List ℕ) (a e : ℕ) (h : a ≤ e) (l : e ≤ length s / 8) where
@@ -38,12 +38,33 @@ starts-more s starts giver k h all new =
     (subst (Sought s giver) (sym (getD-set-same starts giver k 0 h)) new)
 
 -- a run does not end before it starts
-pub run-order : (s : List ℕ) (giver a e : ℕ) → Sought s giver a → Sought s (giver + 1) e → a ≤ e
+run-order : (s : List ℕ) (giver a e : ℕ) → Sought s giver a → Sought s (giver + 1) e → a ≤ e
 run-order s giver a e low high = go (either (ltb e a))
   where
     go : T (ltb e a) ⊎ T (not (ltb e a)) → a ≤ e
     go (inl q) = absurd (omega (arith, ltb→lt e a q, low .within, low .below e (ltb→lt e a q), high .above e (le-refl e) (omega (arith, ltb→lt e a q, low .within))))
     go (inr q) = nltb→le e a q
+
+-- the run of a giver stands within the records, of which there are at most 256
+pub record Run (s : List ℕ) (giver a e : ℕ) : Type 0 where
+  pub low : Sought s giver a
+  pub high : Sought s (giver + 1) e
+  pub order : a ≤ e
+  pub within : e ≤ length s / 8
+  pub few : length s / 8 ≤ 256
+  pub size : 8 * (length s / 8) ≤ length s
+
+pub run-of : (t : List ℤ) (s starts : List ℕ) (giver : ℕ) → Lent t s (length s / 8) → Starts s starts → giver < 64 → Run s giver (getD starts giver 0) (getD starts (giver + 1) 0)
+run-of t s starts giver lent each h =
+    let low = each .each giver (omega arith) in
+    let high = each .each (giver + 1) (omega arith) in record {
+      low = low;
+      high = high;
+      order = run-order s giver (getD starts giver 0) (getD starts (giver + 1) 0) low high;
+      within = high .within;
+      few = lent .few;
+      size = omega (arith, lent .size);
+    }
 
 pub gave : (t : List ℤ) (s : List ℕ) (marks giver : ℕ) (l : List ℤ) (p r : List ℕ) (l′ : List ℤ) (p′ r′ : List ℕ) (a e : ℕ) (limit : ℤ) → Sought s giver a → Sought s (giver + 1) e → a ≤ e
     → limit ≡ getD l giver none → Ran t limit marks (part s a e) a l p r (length (part s a e) / 8) l′ p′ r′ → Gave t s marks giver l p r l′ p′ r′
