@@ -1,5 +1,6 @@
 pub mod Layout
 pub mod Bytes
 pub mod Block
+pub mod Records
 pub mod WellFormed
 pub mod Shift

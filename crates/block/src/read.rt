@@ -6,8 +6,9 @@ ghost use lib.ListN.{length, getD, drop};
 ghost use Rattle.rules.specs.Pair.{isPair, receives};
 ghost use Rattle.rules.specs.Call.{granted};
 ghost use Rattle.rules.specs.CallStep.{before};
-ghost use Rattle.block.specs.Bytes.{two, readAll, allFrom, zeros, leading};
-ghost use Rattle.block.specs.Block.{marksIn, delegationIn, subjectsIn, countIn};
+ghost use Rattle.block.specs.Bytes.{two, allFrom, zeros, leading};
+ghost use Rattle.block.specs.Block.{marksIn, subjectsIn, countIn};
+ghost use Rattle.block.specs.Records.{HasRecord, HasRecords, recordFrom, delegationAt, delegationsTo};
 ghost use Rattle.block.specs.WellFormed.{headFormed, recordFormed, rises, wellFormed};
 use crate::layout::BAR;
 use crate::layout::BLOCK_SIZE;
@@ -74,52 +75,52 @@ pub fn marks(b: &[u8], subject: usize) -> u16
 
 // The byte at `j` of record `k`.
 fn record_byte(b: &[u8], k: usize, j: usize) -> u8
-    requires { ⌜ (j + 1 ≤ 8) × (132 + 8 * k + 8 ≤ length (now b)) ⌝ }
-    ensures { λ r. ⌜ r ≡ getD (drop (8 * k) (drop 132 (now (b .entry)))) j 0 ⌝ }
+    requires { ⌜ (j + 1 ≤ 8) × (HasRecord (now b) k) ⌝ }
+    ensures { λ r. ⌜ r ≡ getD (recordFrom (now (b .entry)) k) j 0 ⌝ }
 {
     b[RECORDS_AT + RECORD_SIZE * k + j]
 }
 
 // The two-byte number at `j` of record `k`.
 fn record_two(b: &[u8], k: usize, j: usize) -> u16
-    requires { ⌜ (j + 2 ≤ 8) × (132 + 8 * k + 8 ≤ length (now b)) ⌝ }
-    ensures { λ r. ⌜ r ≡ two (drop (8 * k) (drop 132 (now (b .entry)))) j ⌝ }
+    requires { ⌜ (j + 2 ≤ 8) × (HasRecord (now b) k) ⌝ }
+    ensures { λ r. ⌜ r ≡ two (recordFrom (now (b .entry)) k) j ⌝ }
 {
     read_two(b, RECORDS_AT + RECORD_SIZE * k + j)
 }
 
 // The fields of record `k`.
 pub fn giver(b: &[u8], k: usize) -> u8
-    requires { ⌜ 132 + 8 * k + 8 ≤ length (now b) ⌝ }
-    ensures { λ r. ⌜ r ≡ (delegationIn (drop (8 * k) (drop 132 (now (b .entry))))) .giver ⌝ }
+    requires { ⌜ HasRecord (now b) k ⌝ }
+    ensures { λ r. ⌜ r ≡ delegationAt (now (b .entry)) k .giver ⌝ }
 {
     record_byte(b, k, GIVER)
 }
 
 pub fn receiver(b: &[u8], k: usize) -> u8
-    requires { ⌜ 132 + 8 * k + 8 ≤ length (now b) ⌝ }
-    ensures { λ r. ⌜ r ≡ (delegationIn (drop (8 * k) (drop 132 (now (b .entry))))) .receiver ⌝ }
+    requires { ⌜ HasRecord (now b) k ⌝ }
+    ensures { λ r. ⌜ r ≡ delegationAt (now (b .entry)) k .receiver ⌝ }
 {
     record_byte(b, k, RECEIVER)
 }
 
 pub fn weight(b: &[u8], k: usize) -> u8
-    requires { ⌜ 132 + 8 * k + 8 ≤ length (now b) ⌝ }
-    ensures { λ r. ⌜ r ≡ (delegationIn (drop (8 * k) (drop 132 (now (b .entry))))) .weight ⌝ }
+    requires { ⌜ HasRecord (now b) k ⌝ }
+    ensures { λ r. ⌜ r ≡ delegationAt (now (b .entry)) k .weight ⌝ }
 {
     record_byte(b, k, WEIGHT)
 }
 
 pub fn need(b: &[u8], k: usize) -> u16
-    requires { ⌜ 132 + 8 * k + 8 ≤ length (now b) ⌝ }
-    ensures { λ r. ⌜ r ≡ (delegationIn (drop (8 * k) (drop 132 (now (b .entry))))) .need ⌝ }
+    requires { ⌜ HasRecord (now b) k ⌝ }
+    ensures { λ r. ⌜ r ≡ delegationAt (now (b .entry)) k .need ⌝ }
 {
     record_two(b, k, NEED)
 }
 
 pub fn bar(b: &[u8], k: usize) -> u16
-    requires { ⌜ 132 + 8 * k + 8 ≤ length (now b) ⌝ }
-    ensures { λ r. ⌜ r ≡ (delegationIn (drop (8 * k) (drop 132 (now (b .entry))))) .bar ⌝ }
+    requires { ⌜ HasRecord (now b) k ⌝ }
+    ensures { λ r. ⌜ r ≡ delegationAt (now (b .entry)) k .bar ⌝ }
 {
     record_two(b, k, BAR)
 }
@@ -152,8 +153,8 @@ pub fn record_formed(s: &[u8], at: usize, subjects: u8) -> bool
 
 // The first `count` records are each formed.
 pub fn records_formed(b: &[u8], count: usize, subjects: u8) -> bool
-    requires { ⌜ 132 + 8 * count ≤ length (now b) ⌝ }
-    ensures { λ r. ⌜ r ≡ allFrom (λ k. recordFormed subjects (drop (8 * k) (drop 132 (now (b .entry))))) 0 count ⌝ }
+    requires { ⌜ HasRecords (now b) count ⌝ }
+    ensures { λ r. ⌜ r ≡ allFrom (λ k. recordFormed subjects (recordFrom (now (b .entry)) k)) 0 count ⌝ }
 {
     let mut k: usize = 0;
     while k < count {
@@ -167,8 +168,8 @@ pub fn records_formed(b: &[u8], count: usize, subjects: u8) -> bool
 
 // Record `k` is of this pair.
 pub fn is_pair(b: &[u8], k: usize, giver: u8, receiver: u8) -> bool
-    requires { ⌜ 132 + 8 * k + 8 ≤ length (now b) ⌝ }
-    ensures { λ r. ⌜ r ≡ isPair giver receiver (delegationIn (drop (8 * k) (drop 132 (now (b .entry))))) ⌝ }
+    requires { ⌜ HasRecord (now b) k ⌝ }
+    ensures { λ r. ⌜ r ≡ isPair giver receiver (delegationAt (now (b .entry)) k) ⌝ }
 {
     let g = self::giver(b, k);
     let r = self::receiver(b, k);
@@ -177,8 +178,8 @@ pub fn is_pair(b: &[u8], k: usize, giver: u8, receiver: u8) -> bool
 
 // This pair comes before record `k`: by giver, then receiver.
 fn is_before(b: &[u8], k: usize, giver: u8, receiver: u8) -> bool
-    requires { ⌜ 132 + 8 * k + 8 ≤ length (now b) ⌝ }
-    ensures { λ r. ⌜ r ≡ before (granted giver receiver 0 0 0) (delegationIn (drop (8 * k) (drop 132 (now (b .entry))))) ⌝ }
+    requires { ⌜ HasRecord (now b) k ⌝ }
+    ensures { λ r. ⌜ r ≡ before (granted giver receiver 0 0 0) (delegationAt (now (b .entry)) k) ⌝ }
 {
     let g = self::giver(b, k);
     let r = self::receiver(b, k);
@@ -190,8 +191,8 @@ fn is_before(b: &[u8], k: usize, giver: u8, receiver: u8) -> bool
 
 // The first `count` records rise strictly.
 pub fn records_rise(b: &[u8], count: usize) -> bool
-    requires { ⌜ 132 + 8 * count ≤ length (now b) ⌝ }
-    ensures { λ r. ⌜ r ≡ rises (readAll delegationIn 8 (drop 132 (now (b .entry))) count) ⌝ }
+    requires { ⌜ HasRecords (now b) count ⌝ }
+    ensures { λ r. ⌜ r ≡ rises (delegationsTo (now (b .entry)) count) ⌝ }
 {
     let mut k: usize = 0;
     while k + 1 < count {
@@ -251,8 +252,8 @@ pub fn well_formed(b: &[u8]) -> bool
 
 // How many records stand before the first of this pair.
 pub fn find(b: &[u8], count: usize, giver: u8, receiver: u8) -> usize
-    requires { ⌜ 132 + 8 * count ≤ length (now b) ⌝ }
-    ensures { λ r. ⌜ r ≡ leading (λ d. not (isPair giver receiver d)) (readAll delegationIn 8 (drop 132 (now (b .entry))) count) ⌝ }
+    requires { ⌜ HasRecords (now b) count ⌝ }
+    ensures { λ r. ⌜ r ≡ leading (λ d. not (isPair giver receiver d)) (delegationsTo (now (b .entry)) count) ⌝ }
 {
     let mut k: usize = 0;
     while k < count {
@@ -266,8 +267,8 @@ pub fn find(b: &[u8], count: usize, giver: u8, receiver: u8) -> usize
 
 // How many records at the front this pair does not come before: its place.
 pub fn place(b: &[u8], count: usize, giver: u8, receiver: u8) -> usize
-    requires { ⌜ 132 + 8 * count ≤ length (now b) ⌝ }
-    ensures { λ r. ⌜ r ≡ leading (λ e. not (before (granted giver receiver 0 0 0) e)) (readAll delegationIn 8 (drop 132 (now (b .entry))) count) ⌝ }
+    requires { ⌜ HasRecords (now b) count ⌝ }
+    ensures { λ r. ⌜ r ≡ leading (λ e. not (before (granted giver receiver 0 0 0) e)) (delegationsTo (now (b .entry)) count) ⌝ }
 {
     let mut k: usize = 0;
     while k < count {
@@ -281,8 +282,8 @@ pub fn place(b: &[u8], count: usize, giver: u8, receiver: u8) -> usize
 
 // Some record is to this receiver.
 pub fn receives(b: &[u8], count: usize, receiver: u8) -> bool
-    requires { ⌜ 132 + 8 * count ≤ length (now b) ⌝ }
-    ensures { λ r. ⌜ r ≡ receives receiver (readAll delegationIn 8 (drop 132 (now (b .entry))) count) ⌝ }
+    requires { ⌜ HasRecords (now b) count ⌝ }
+    ensures { λ r. ⌜ r ≡ receives receiver (delegationsTo (now (b .entry)) count) ⌝ }
 {
     let mut k: usize = 0;
     while k < count {

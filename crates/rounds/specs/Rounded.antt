@@ -4,7 +4,7 @@ use mathlib.Core.Logic.{_≢_, _⊎_}
 use mathlib.Core.Bool.{Bool, true, false, cond}
 use mathlib.Core.List.{List, [], _++_}
 use Prim.Native.Nat.{ℕ, zero, suc, _+_, _*_, _≤_, _<_}
-use lib.ListN.{getD, drop}
+use lib.ListN.{getD}
 use lib.IntN.{ℤ, pos}
 use lib.Signed.{ltZ}
 use Rattle.rules.specs.List.{_∈_}
@@ -14,7 +14,8 @@ use Rattle.rules.specs.Reach.{reach}
 use Rattle.rules.specs.Pair.{receives}
 use Rattle.rules.specs.Support.{allowed}
 use Rattle.rules.specs.Round.{placed, round}
-use Rattle.block.specs.Block.{delegationIn, countIn, decode, encode}
+use Rattle.block.specs.Records.{delegationAt}
+use Rattle.block.specs.Block.{countIn, decode, encode}
 use Rattle.rounds.specs.declared.Delegation.{Delegation as Entry}
 
 -- where the reach of a giver and a receiver is kept in the table of reaches
@@ -85,7 +86,7 @@ leftTo f weights (suc k) = leftTo f weights k ++ placed (f k) (getD weights k (p
 -- the weights that a round on the block b leaves; the answer says whether one changed
 pub record Reckoned (t : List ℤ) (b : List ℕ) (changed : Bool) (weights : List ℤ) : Type 0 where
   pub most : (k : ℕ) → k < countIn b → getD weights k (pos 0) ≼ pos 255
-  pub left : withDelegations (decode b) (leftTo (λ k. delegationIn (drop (8 * k) (drop 132 b))) weights (countIn b)) ≡ round t (decode b)
+  pub left : withDelegations (decode b) (leftTo (delegationAt b) weights (countIn b)) ≡ round t (decode b)
   pub same : changed ≡ false → round t (decode b) ≡ decode b
   pub change : changed ≡ true → round t (decode b) ≢ decode b
 

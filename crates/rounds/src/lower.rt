@@ -3,14 +3,14 @@ ghost use mathlib.Core.Path.{_≡_};
 ghost use mathlib.Core.List.{map, _++_};
 ghost use Prim.Native.Nat.{_+_, _*_, _≤_};
 ghost use lib.ListN.{length, take, drop};
-ghost use Rattle.block.specs.Block.{delegationIn};
+ghost use Rattle.block.specs.Records.{HasRecord, HasRecords, delegationAt};
 ghost use Rattle.rounds.specs.Rounded.{decodedAs, Decoded, loweredTo, lowerOne, WeightsRead};
 use crate::Delegation;
 
 // The delegation of record k, decoded.
 fn decoded_at(block: &[u8], k: usize) -> Delegation
-    requires { ⌜ 132 + 8 * k + 8 ≤ length (now block) ⌝ }
-    ensures { λ r. ⌜ r ≡ decodedAs (delegationIn (drop (8 * k) (drop 132 (now (block .entry))))) ⌝ }
+    requires { ⌜ HasRecord (now block) k ⌝ }
+    ensures { λ r. ⌜ r ≡ decodedAs (delegationAt (now (block .entry)) k) ⌝ }
 {
     let weight = block::weight(block, k);
     Delegation {
@@ -24,8 +24,8 @@ fn decoded_at(block: &[u8], k: usize) -> Delegation
 
 // The delegations of the first `n` records, decoded.
 pub fn decoded(block: &[u8], n: usize) -> [Delegation; 256]
-    requires { ⌜ (132 + 8 * n ≤ length (now block)) × (n ≤ 256) ⌝ }
-    ensures { λ r. ⌜ Decoded (λ k. delegationIn (drop (8 * k) (drop 132 (now (block .entry))))) n r ⌝ }
+    requires { ⌜ HasRecords (now block) n × (n ≤ 256) ⌝ }
+    ensures { λ r. ⌜ Decoded (delegationAt (now (block .entry))) n r ⌝ }
 {
     let none = Delegation {
         giver: 0,
@@ -83,8 +83,8 @@ pub fn lowered(ds: [Delegation; 256], n: usize, reaches: &[i16]) -> [Delegation;
 
 // The weights of the first `n` delegations; whether one is below the weight that its record has.
 pub fn read_weights(block: &[u8], ds: [Delegation; 256], n: usize, weights: &mut [i16]) -> bool
-    requires { ⌜ (132 + 8 * n ≤ length (now block)) × (n ≤ 256) × (length (now weights) ≡ 256) ⌝ }
-    ensures { λ r. ⌜ WeightsRead (λ k. delegationIn (drop (8 * k) (drop 132 (now (block .entry))))) ds n r (now (weights .exit)) ⌝ }
+    requires { ⌜ HasRecords (now block) n × (n ≤ 256) × (length (now weights) ≡ 256) ⌝ }
+    ensures { λ r. ⌜ WeightsRead (delegationAt (now (block .entry))) ds n r (now (weights .exit)) ⌝ }
 {
     let mut changed = false;
     let mut k: usize = 0;

@@ -11,15 +11,17 @@ ghost use Rattle.rules.specs.List.{concatMap};
 ghost use Rattle.rules.specs.Limit.{code};
 ghost use Rattle.rules.specs.Register.{withDelegations};
 ghost use Rattle.rules.specs.Round.{placed};
-ghost use Rattle.block.specs.Block.{delegationIn, recordBytes, countIn, decode, encode};
+ghost use Rattle.block.specs.Layout.{recordsAt};
+ghost use Rattle.block.specs.Block.{recordBytes, countIn, decode, encode};
 ghost use Rattle.block.specs.WellFormed.{wellFormed};
+ghost use Rattle.block.specs.Records.{recordPlace, HasRecord, HasRecords, delegationAt};
 ghost use Rattle.rounds.specs.Rounded.{leftTo};
 use block::layout;
 
 // Record `from` written at the place `to` with a new weight, unless that is -1; whether it was.
 fn keep_at(block: &mut [u8], from: usize, to: usize, weight: i16) -> bool
-    requires { ⌜ (to ≤ from) × (132 + 8 * from + 8 ≤ length (now block)) × (code weight ≤ 256) ⌝ }
-    ensures { λ r. ⌜ (r ≡ ltb 0 (code weight)) × (now (block .exit) ≡ sets (now (block .entry)) (132 + 8 * to) (concatMap recordBytes (placed (delegationIn (drop (8 * from) (drop 132 (now (block .entry))))) weight))) ⌝ }
+    requires { ⌜ (to ≤ from) × HasRecord (now block) from × (code weight ≤ 256) ⌝ }
+    ensures { λ r. ⌜ (r ≡ ltb 0 (code weight)) × (now (block .exit) ≡ sets (now (block .entry)) (recordPlace to) (concatMap recordBytes (placed (delegationAt (now (block .entry)) from) weight))) ⌝ }
 {
     if weight < 0 {
         return false;
@@ -35,8 +37,8 @@ fn keep_at(block: &mut [u8], from: usize, to: usize, weight: i16) -> bool
 
 // What is left of the first `n` records, each at its new weight, written from the first place on; how many.
 fn keep_left(block: &mut [u8], n: usize, weights: &[i16]) -> usize
-    requires { ⌜ (132 + 8 * n ≤ length (now block)) × (n ≤ length (now weights)) × ((k : ℕ) → k < n → code (getD (now weights) k (pos 0)) ≤ 256) ⌝ }
-    ensures { λ r. ⌜ (let ds = leftTo (λ k. delegationIn (drop (8 * k) (drop 132 (now (block .entry))))) (now (weights .entry)) n in (r ≡ length ds) × (now (block .exit) ≡ take 132 (now (block .entry)) ++ (concatMap recordBytes ds ++ drop (132 + 8 * r) (now (block .entry))))) ⌝ }
+    requires { ⌜ HasRecords (now block) n × (n ≤ length (now weights)) × ((k : ℕ) → k < n → code (getD (now weights) k (pos 0)) ≤ 256) ⌝ }
+    ensures { λ r. ⌜ (let ds = leftTo (delegationAt (now (block .entry))) (now (weights .entry)) n in (r ≡ length ds) × (now (block .exit) ≡ take recordsAt (now (block .entry)) ++ (concatMap recordBytes ds ++ drop (recordPlace r) (now (block .entry))))) ⌝ }
 {
     let mut kept: usize = 0;
     let mut k: usize = 0;
@@ -53,7 +55,7 @@ fn keep_left(block: &mut [u8], n: usize, weights: &[i16]) -> usize
 // The block written anew: what is left of its delegations, each at its new weight.
 pub fn write_left(block: &mut [u8], weights: &[i16])
     requires { ⌜ (wellFormed (now block) ≡ true) × (length (now weights) ≡ 256) × ((k : ℕ) → k < countIn (now block) → code (getD (now weights) k (pos 0)) ≤ 256) ⌝ }
-    ensures { λ _. ⌜ now (block .exit) ≡ encode (withDelegations (decode (now (block .entry))) (leftTo (λ k. delegationIn (drop (8 * k) (drop 132 (now (block .entry))))) (now (weights .entry)) (countIn (now (block .entry))))) ⌝ }
+    ensures { λ _. ⌜ now (block .exit) ≡ encode (withDelegations (decode (now (block .entry))) (leftTo (delegationAt (now (block .entry))) (now (weights .entry)) (countIn (now (block .entry))))) ⌝ }
 {
     let n = block::count(block);
     let kept = keep_left(block, n, weights);

@@ -1,6 +1,5 @@
 -- `block::add_subject` enrols one more subject. Assumes nothing.
 use borrow.Author.Needs.{needs}
-use Prim.Native.Nat.{_-_}
 use native.Mathlib.Omega.{arith}
 use lib.ListN.{length-set}
 use Rattle.rules.specs.CallStep.{before}

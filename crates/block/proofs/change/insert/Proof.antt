@@ -1,6 +1,6 @@
 -- `block::insert` adds the delegation at its place. Assumes nothing.
 use mathlib.Core.Bool.{not}
-use Prim.Native.Nat.{_-_, _≤_}
+use Prim.Native.Nat.{_≤_}
 use native.Mathlib.Omega.{arith}
 use lib.ListN.{drop}
 use Rattle.rules.specs.Call.{granted}

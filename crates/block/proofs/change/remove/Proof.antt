@@ -1,5 +1,5 @@
 -- `block::remove` removes the pair's delegation. Assumes nothing.
-use Prim.Native.Nat.{_-_, _<_}
+use Prim.Native.Nat.{_<_}
 use native.Mathlib.Omega.{arith}
 use Rattle.rules.specs.CallStep.{before}
 use Rattle.block.proofs.Bytes.{fits-bytes}

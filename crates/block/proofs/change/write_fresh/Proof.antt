@@ -1,6 +1,5 @@
 -- `block::write_fresh` writes the fresh register. Assumes nothing.
 use borrow.Author.Needs.{needs}
-use Prim.Native.Nat.{_-_}
 use Rattle.rules.specs.CallStep.{before}
 use Rattle.block.proofs.Rewrite.{encode-fresh}
 use Rattle.block.proofs.change.write_fresh.Statement.{statement}

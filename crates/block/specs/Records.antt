@@ -1,0 +1,30 @@
+-- The records of a block by their place. Assumes nothing.
+use mathlib.Core.List.{List}
+use Prim.Native.Nat.{ℕ, _+_, _*_, _≤_}
+use lib.ListN.{length, drop}
+use Rattle.rules.specs.Register.{Delegation}
+use Rattle.block.specs.Layout.{recordsAt, recordSize}
+use Rattle.block.specs.Bytes.{readAll}
+use Rattle.block.specs.Block.{delegationIn}
+
+-- where record k begins
+abbrev pub recordPlace : ℕ → ℕ
+recordPlace k = recordsAt + recordSize * k
+
+-- the bytes reach as far as record k, as the first n records
+abbrev pub HasRecord : List ℕ → ℕ → Type 0
+HasRecord b k = recordPlace k + recordSize ≤ length b
+
+abbrev pub HasRecords : List ℕ → ℕ → Type 0
+HasRecords b n = recordPlace n ≤ length b
+
+-- the bytes from record k on
+abbrev pub recordFrom : List ℕ → ℕ → List ℕ
+recordFrom b k = drop (recordSize * k) (drop recordsAt b)
+
+-- the delegation of record k, and those of the first n records
+abbrev pub delegationAt : List ℕ → ℕ → Delegation
+delegationAt b k = delegationIn (recordFrom b k)
+
+abbrev pub delegationsTo : List ℕ → ℕ → List Delegation
+delegationsTo b n = readAll delegationIn recordSize (drop recordsAt b) n
