@@ -12,6 +12,7 @@ use Rattle.rules.specs.WellFormed.{DelegationFormed, WellFormed}
 use Rattle.block.specs.Bytes.{IsBytes, twoBytes, readAll, padded}
 use Rattle.block.specs.Block.{marksIn, delegationIn, recordBytes, subjectsIn, countIn, decode, encode}
 use Rattle.block.proofs.Bytes.{two-twoBytes, bytes-append, bytes-zeros, length-written, read-written}
+use Rattle.block.specs.Records.{delegationsTo}
 
 -- the bytes of the marks, and of the records
 abbrev pub marksPart : Register → List ℕ
@@ -82,7 +83,7 @@ module _ (R : Register) (f : WellFormed R) where
       ∙ ap (λ (n : ℕ). readAll marksIn 2 (concatMap twoBytes (R .marks) ++ (replicate (128 - length (concatMap twoBytes (R .marks))) 0 ++ recordsPart R)) n) (sym (f .marked))
       ∙ read-written twoBytes 2 two-wide marksIn (R .marks) (replicate (128 - length (concatMap twoBytes (R .marks))) 0 ++ recordsPart R) (λ m i r. two-twoBytes m (f .marks m i))
 
-  pub delegations-encode : readAll delegationIn 8 (drop 132 (encode R)) (countIn (encode R)) ≡ R .delegations
+  pub delegations-encode : delegationsTo (encode R) (countIn (encode R)) ≡ R .delegations
   delegations-encode =
       ap (λ (s : List ℕ). readAll delegationIn 8 s (countIn (encode R))) records-encode
       ∙ ap (λ (n : ℕ). readAll delegationIn 8 (recordsPart R) n) count-encode

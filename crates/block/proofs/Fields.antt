@@ -2,7 +2,7 @@
 use mathlib.Core.Path.{_≡_}
 use mathlib.Core.Bool.{Bool, true, false, not, _&&_}
 use mathlib.Core.List.{List}
-use Prim.Native.Nat.{ℕ, _+_, _*_, _≤_}
+use Prim.Native.Nat.{ℕ, _+_, _≤_}
 use native.Mathlib.Nat.{add-assoc}
 use native.Mathlib.Omega.{arith}
 use borrow.Author.Tests.{leb-true}
@@ -10,14 +10,9 @@ use lib.Bits.{bitAnd}
 use lib.Dec.{eqb, ltb, leb}
 use lib.ListN.{getD, drop}
 use lib.Seq.{getD-drop}
-use Rattle.rules.specs.Register.{Delegation}
 use Rattle.block.specs.Bytes.{two}
-use Rattle.block.specs.Block.{delegationIn, subjectsIn, countIn}
+use Rattle.block.specs.Block.{subjectsIn, countIn}
 use Rattle.block.specs.WellFormed.{headFormed, recordFormed}
-
--- record k of a block
-abbrev pub recordAt : List ℕ → ℕ → Delegation
-recordAt b k = delegationIn (drop (8 * k) (drop 132 b))
 
 -- two bytes at j of the part that begins at `at`
 pub two-in : (s : List ℕ) (at j : ℕ) → two s (at + j) ≡ two (drop at s) j

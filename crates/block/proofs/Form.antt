@@ -21,6 +21,7 @@ use Rattle.block.specs.Block.{marksIn, delegationIn, recordBytes, subjec
 use Rattle.block.specs.WellFormed.{headFormed, ownerUnmarked, restUnmarked, delegationFormed, recordFormed, recordsFormed, rises, recordsRise, restZero, wellFormed}
 use Rattle.block.proofs.Bytes.{tabulate-suc, twoBytes-two, two-most, bytes-drop, length-tabulate, tabulate-mem, length-written, written-at, written-read, allFrom-at, allFrom-all, padded-zeros, getD-mem}
 use Rattle.block.proofs.Encode.{marksPart, recordsPart, marks-encode, record-wide, record-read, length-encode, subjects-encode, count-encode, records-encode, delegations-encode}
+use Rattle.block.specs.Records.{delegationAt, delegationsTo, recordFrom}
 
 -- ── the rules of a well-formed block, each by itself ──
 pub record Parts (b : List ℕ) : Type 0 where
@@ -155,13 +156,13 @@ first-marks b (suc n) l = λ j. getD-drop 4 b 0 0 j + getD-drop 4 b 1 0 j * 256
 -- ── a well-formed block holds a well-formed register ──
 module _ (b : List ℕ) (bytes : IsBytes b) (p : Parts b) where
   -- record k passes its test
-  pub record-at : (k : ℕ) → k < countIn b → T (recordFormed (subjectsIn b) (drop (8 * k) (drop 132 b)))
-  record-at k l = subst (λ (j : ℕ). T (recordFormed (subjectsIn b) (drop (8 * j) (drop 132 b)))) (zero-add k) (allFrom-at (λ k. recordFormed (subjectsIn b) (drop (8 * k) (drop 132 b))) 0 (countIn b) (p .formed) k l)
+  pub record-at : (k : ℕ) → k < countIn b → T (recordFormed (subjectsIn b) (recordFrom b k))
+  record-at k l = subst (λ (j : ℕ). T (recordFormed (subjectsIn b) (recordFrom b j))) (zero-add k) (allFrom-at (λ k. recordFormed (subjectsIn b) (recordFrom b k)) 0 (countIn b) (p .formed) k l)
 
-  delegation-at : (k : ℕ) → k < countIn b → DelegationFormed (subjectsIn b) (delegationIn (drop (8 * k) (drop 132 b)))
+  delegation-at : (k : ℕ) → k < countIn b → DelegationFormed (subjectsIn b) (delegationAt b k)
   unfolding recordFormed
   delegation-at k l =
-      let s = drop (8 * k) (drop 132 b) in
+      let s = recordFrom b k in
       let h = bytes-drop (8 * k) (drop 132 b) (bytes-drop 132 b bytes) in
       formed-of (subjectsIn b) (delegationIn s) (omega (arith, h 2)) (two-most s h 4) (two-most s h 6)
       (T-left (delegationFormed (subjectsIn b) (delegationIn s)) (eqb (getD s 3 0) 0) (record-at k l))
@@ -174,15 +175,15 @@ module _ (b : List ℕ) (bytes : IsBytes b) (p : Parts b) where
     marked = length-tabulate (λ k. marksIn (drop (2 * k) (drop 4 b))) 0 (subjectsIn b);
     marks = λ m i. mark m (tabulate-mem (λ k. marksIn (drop (2 * k) (drop 4 b))) 0 (subjectsIn b) i);
     owner = first-marks b (subjectsIn b) (p .some) ∙ p .owner;
-    few = subst (λ (n : ℕ). n ≤ 256) (sym (length-tabulate (λ k. delegationIn (drop (8 * k) (drop 132 b))) 0 (countIn b))) (p .few);
-    rising = rises-Rising (readAll delegationIn 8 (drop 132 b) (countIn b)) (p .rise);
-    each = λ d i. one d (tabulate-mem (λ k. delegationIn (drop (8 * k) (drop 132 b))) 0 (countIn b) i);
+    few = subst (λ (n : ℕ). n ≤ 256) (sym (length-tabulate (delegationAt b) 0 (countIn b))) (p .few);
+    rising = rises-Rising (delegationsTo b (countIn b)) (p .rise);
+    each = λ d i. one d (tabulate-mem (delegationAt b) 0 (countIn b) i);
   }
     where
       mark : (m : ℕ) → (k : ℕ) × (k < subjectsIn b) × (m ≡ marksIn (drop (2 * (0 + k)) (drop 4 b))) → m ≤ 65535
       mark m r = subst (λ (x : ℕ). x ≤ 65535) (sym (r .2)) (two-most (drop (2 * (0 + r .0)) (drop 4 b)) (bytes-drop (2 * (0 + r .0)) (drop 4 b) (bytes-drop 4 b bytes)) 0)
 
-      one : (d : Delegation) → (k : ℕ) × (k < countIn b) × (d ≡ delegationIn (drop (8 * (0 + k)) (drop 132 b))) → DelegationFormed (subjectsIn b) d
+      one : (d : Delegation) → (k : ℕ) × (k < countIn b) × (d ≡ delegationAt b (0 + k)) → DelegationFormed (subjectsIn b) d
       one d r = subst (λ (x : Delegation). DelegationFormed (subjectsIn b) x) (sym (r .2)) (delegation-at (0 + r .0) (omega (arith, r .1)))
 
 -- ── a well-formed block is its register written ──
@@ -219,24 +220,24 @@ module _ (b : List ℕ) (bytes : IsBytes b) (p : Parts b) where
       zero-mark : (k : ℕ) → 2 * subjectsIn b ≤ k → k < 128 → getD b (4 + k) 0 ≡ 0
       zero-mark k l m = zeros-at b (4 + 2 * subjectsIn b) (132 - (4 + 2 * subjectsIn b)) (p .unmarked) (4 + k) (omega arith) (omega arith)
 
-  records-written : padded 2048 (concatMap recordBytes (readAll delegationIn 8 (drop 132 b) (countIn b))) ≡ drop 132 b
+  records-written : padded 2048 (concatMap recordBytes (delegationsTo b (countIn b))) ≡ drop 132 b
   records-written =
       ap (padded 2048) (written-read recordBytes 8 record-wide delegationIn (countIn b) (drop 132 b) back)
       ∙ padded-zeros (drop 132 b) (8 * countIn b) 2048 (omega (arith, p .few)) (simp length-drop (omega (arith, p .size))) (λ k l m. getD-drop 132 b k 0 ∙ zero-record k l m)
       ∙ take-all 2048 (drop 132 b) (simp length-drop (omega (arith, p .size)))
     where
-      third : (k : ℕ) → k < countIn b → getD (drop (8 * k) (drop 132 b)) 3 0 ≡ 0
-      third k l = record-third (subjectsIn b) (drop (8 * k) (drop 132 b)) (record-at b bytes p k l)
+      third : (k : ℕ) → k < countIn b → getD (recordFrom b k) 3 0 ≡ 0
+      third k l = record-third (subjectsIn b) (recordFrom b k) (record-at b bytes p k l)
 
-      back : (k : ℕ) → k < countIn b → recordBytes (delegationIn (drop (8 * k) (drop 132 b))) ≡ take 8 (drop (8 * k) (drop 132 b))
-      back k l = record-back (drop (8 * k) (drop 132 b)) (simp length-drop (omega (arith, p .size, p .few))) (bytes-drop (8 * k) (drop 132 b) (bytes-drop 132 b bytes)) (third k l)
+      back : (k : ℕ) → k < countIn b → recordBytes (delegationAt b k) ≡ take 8 (recordFrom b k)
+      back k l = record-back (recordFrom b k) (simp length-drop (omega (arith, p .size, p .few))) (bytes-drop (8 * k) (drop 132 b) (bytes-drop 132 b bytes)) (third k l)
 
       zero-record : (k : ℕ) → 8 * countIn b ≤ k → k < 2048 → getD b (132 + k) 0 ≡ 0
       zero-record k l m = zeros-at b (132 + 8 * countIn b) (2180 - (132 + 8 * countIn b)) (p .rest) (132 + k) (omega arith) (omega (arith, p .few))
 
-  head-written : (subjectsIn b ∷ 0 ∷ twoBytes (length (readAll delegationIn 8 (drop 132 b) (countIn b)))) ≡ take 4 b
+  head-written : (subjectsIn b ∷ 0 ∷ twoBytes (length (delegationsTo b (countIn b)))) ≡ take 4 b
   head-written =
-      let n = length-tabulate (λ k. delegationIn (drop (8 * k) (drop 132 b))) 0 (countIn b) in
+      let n = length-tabulate (delegationAt b) 0 (countIn b) in
       let e = ap twoBytes n ∙ twoBytes-two (getD b 2 0) (getD b 3 0) (bytes 2) (bytes 3) in
       let z = sym (p .second) in
       (λ j. subjectsIn b ∷ z j ∷ e j) ∙ sym (take-tabulate 4 b (omega (arith, p .size)))
@@ -288,9 +289,9 @@ module _ (R : Register) (f : WellFormed R) where
       (zeros-after (encode R) (concatMap twoBytes (R .marks)) (recordsPart R) 4 (132 - (4 + length (concatMap twoBytes (R .marks)))) (128 - length (concatMap twoBytes (R .marks))) marks-drop (omega arith))
 
   records-formed : T (recordsFormed (encode R))
-  records-formed = allFrom-all (λ k. recordFormed (subjectsIn (encode R)) (drop (8 * k) (drop 132 (encode R)))) 0 (countIn (encode R)) one
+  records-formed = allFrom-all (λ k. recordFormed (subjectsIn (encode R)) (recordFrom (encode R) k)) 0 (countIn (encode R)) one
     where
-      one : (k : ℕ) → k < countIn (encode R) → T (recordFormed (subjectsIn (encode R)) (drop (8 * (0 + k)) (drop 132 (encode R))))
+      one : (k : ℕ) → k < countIn (encode R) → T (recordFormed (subjectsIn (encode R)) (recordFrom (encode R) (0 + k)))
       one k l =
           let m : k < length (R .delegations) = omega (arith, count-encode R f) in
           let d = getD (R .delegations) k none-given in

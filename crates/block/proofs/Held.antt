@@ -19,13 +19,14 @@ use Rattle.rules.specs.Call.{granted, enrolled}
 use Rattle.rules.specs.CallStep.{before, insert}
 use Rattle.rules.proofs.Lists.{either}
 use Rattle.block.specs.Bytes.{IsBytes, twoBytes, readAll, leading}
-use Rattle.block.specs.Block.{delegationIn, recordBytes, subjectsIn, countIn, decode, encode}
+use Rattle.block.specs.Block.{recordBytes, subjectsIn, countIn, decode, encode}
 use Rattle.block.specs.WellFormed.{wellFormed}
 use Rattle.block.specs.Shift.{movedUp, movedDown}
 use Rattle.block.proofs.Bytes.{length-tabulate}
 use Rattle.block.proofs.Form.{Parts, parts, decode-formed, encode-decode}
 use Rattle.block.proofs.Splice.{leading-most, insert-leading, pairPlace, filter-pair, map-pair, weightAt-found, weightAt-missing}
 use Rattle.block.proofs.Rewrite.{encode-insert, encode-remove, encode-reweigh, encode-enrol}
+use Rattle.block.specs.Records.{delegationAt, delegationsTo}
 
 -- at most as many at the front as there are
 pub leading-read : {A : Type 0} (f : A → Bool) (g : List ℕ → A) (w : ℕ) (s : List ℕ) (n : ℕ) → leading f (readAll g w s n) ≤ n
@@ -52,12 +53,12 @@ module _ (b : List ℕ) (bytes : IsBytes b) (formed : wellFormed b ≡ true) whe
   unfolding decode
   subjects-held = refl
 
-  pub delegations-held : decode b .delegations ≡ readAll delegationIn 8 (drop 132 b) (countIn b)
+  pub delegations-held : decode b .delegations ≡ delegationsTo b (countIn b)
   unfolding decode
   delegations-held = refl
 
   pub count-held : length (decode b .delegations) ≡ countIn b
-  count-held = ap length delegations-held ∙ length-tabulate (λ k. delegationIn (drop (8 * k) (drop 132 b))) 0 (countIn b)
+  count-held = ap length delegations-held ∙ length-tabulate (delegationAt b) 0 (countIn b)
 
   -- one more subject
   pub enrol-held : (v : ℕ) → subjectsIn b < 64 → sets (set b 0 (subjectsIn b + 1)) (4 + 2 * subjectsIn b) (twoBytes v) ≡ encode (enrolled (decode b) v)
@@ -68,7 +69,7 @@ module _ (b : List ℕ) (bytes : IsBytes b) (formed : wellFormed b ≡ true) whe
       n = sym subjects-held
 
   -- one more delegation
-  pub insert-held : (d : Delegation) (k : ℕ) → countIn b < 256 → k ≡ leading (λ e. not (before d e)) (readAll delegationIn 8 (drop 132 b) (countIn b))
+  pub insert-held : (d : Delegation) (k : ℕ) → countIn b < 256 → k ≡ leading (λ e. not (before d e)) (delegationsTo b (countIn b))
       → sets (sets (movedUp b (132 + 8 * k) (132 + 8 * countIn b)) (132 + 8 * k) (recordBytes d)) 2 (twoBytes (countIn b + 1)) ≡ encode (withDelegations (decode b) (insert d (decode b .delegations)))
   insert-held d k l e =
       let ds = decode b .delegations in
@@ -80,7 +81,7 @@ module _ (b : List ℕ) (bytes : IsBytes b) (formed : wellFormed b ≡ true) whe
       ∙ ap (λ (x : List Delegation). encode (withDelegations (decode b) x)) (sym (insert-leading d ds))
 
   -- where a pair stands, its place is that of a record
-  module _ (g r k : ℕ) (e : k ≡ leading (λ d. not (isPair g r d)) (readAll delegationIn 8 (drop 132 b) (countIn b))) where
+  module _ (g r k : ℕ) (e : k ≡ leading (λ d. not (isPair g r d)) (delegationsTo b (countIn b))) where
     pub place-held : k ≡ pairPlace g r (decode b .delegations)
     place-held = e ∙ ap (leading (λ d. not (isPair g r d))) (sym delegations-held)
 

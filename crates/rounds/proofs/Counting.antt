@@ -21,9 +21,9 @@ use Rattle.block.specs.Bytes.{IsBytes}
 use Rattle.block.specs.Block.{countIn, decode}
 use Rattle.block.specs.WellFormed.{wellFormed}
 use Rattle.block.proofs.Bytes.{length-tabulate}
-use Rattle.block.proofs.Fields.{recordAt}
 use Rattle.block.proofs.Loops.{rest-all, rest-end, rest-on}
 use Rattle.block.proofs.Held.{held-formed, delegations-held}
+use Rattle.block.specs.Records.{delegationAt}
 use Rattle.rounds.proofs.Merging.{Ahead, met-weight, met-on, missed-weight, missed-on, others}
 
 -- how many pass: x before place i, and those from place i on
@@ -67,15 +67,15 @@ module _ (F : Register) (d : Delegation) where
 
 -- the records of a block from place k on
 abbrev pub recordsFrom : List ℕ → ℕ → List Delegation
-recordsFrom b k = tabulate (recordAt b) k (countIn b - k)
+recordsFrom b k = tabulate (delegationAt b) k (countIn b - k)
 
 records-all : (b : List ℕ) → IsBytes b → wellFormed b ≡ true → decode b .delegations ≡ recordsFrom b 0
-records-all b bytes formed = delegations-held b bytes formed ∙ rest-all (recordAt b) (countIn b)
+records-all b bytes formed = delegations-held b bytes formed ∙ rest-all (delegationAt b) (countIn b)
 
 -- ── the loop: the first k records of one block were looked for, and the first j of another met ──
 pub record Compared (b a : List ℕ) (j k x y : ℕ) : Type 0 where
-  pub dropped : Passing (isDropped (decode a)) (recordAt b) (countIn b) k x
-  pub lowered : Passing (isLowered (decode a)) (recordAt b) (countIn b) k y
+  pub dropped : Passing (isDropped (decode a)) (delegationAt b) (countIn b) k x
+  pub lowered : Passing (isLowered (decode a)) (delegationAt b) (countIn b) k y
   pub ahead : Ahead (decode a .delegations) (recordsFrom b k) (recordsFrom a j)
 
 pub compared-none : (b a : List ℕ) → IsBytes b → IsBytes a → wellFormed b ≡ true → wellFormed a ≡ true → Within (decode a) (decode b) → Compared b a 0 0 0 0
@@ -84,65 +84,65 @@ compared-none b a p q f g w =
     record { rising = held-formed b p f .rising; rises = held-formed a q g .rising; held = w .held; same = λ d m. refl } in
     let part = subst (λ (es : List Delegation). Ahead (decode a .delegations) (decode b .delegations) es) (records-all a q g) whole in
     record {
-      dropped = passing-all (isDropped (decode a)) (recordAt b) (countIn b);
-      lowered = passing-all (isLowered (decode a)) (recordAt b) (countIn b);
+      dropped = passing-all (isDropped (decode a)) (delegationAt b) (countIn b);
+      lowered = passing-all (isLowered (decode a)) (delegationAt b) (countIn b);
       ahead = subst (λ (ds : List Delegation). Ahead (decode a .delegations) ds (recordsFrom a 0)) (records-all b p f) part;
     }
 
 -- no more than there are records
 pub compared-most : (b a : List ℕ) (j k x y : ℕ) → Compared b a j k x y → (x ≤ countIn b) × (y ≤ countIn b)
-compared-most b a j k x y s = (passing-most (isDropped (decode a)) (recordAt b) k (countIn b) x (s .dropped), passing-most (isLowered (decode a)) (recordAt b) k (countIn b) y (s .lowered))
+compared-most b a j k x y s = (passing-most (isDropped (decode a)) (delegationAt b) k (countIn b) x (s .dropped), passing-most (isLowered (decode a)) (delegationAt b) k (countIn b) y (s .lowered))
 
 module _ (b a : List ℕ) (j k x y : ℕ) (s : Compared b a j k x y) (l : k < countIn b) where
   -- record k is the next to look for
-  next : Ahead (decode a .delegations) (recordAt b k ∷ recordsFrom b (k + 1)) (recordsFrom a j)
-  next = rw (rest-on (recordAt b) k (countIn b) l) at (s .ahead)
+  next : Ahead (decode a .delegations) (delegationAt b k ∷ recordsFrom b (k + 1)) (recordsFrom a j)
+  next = rw (rest-on (delegationAt b) k (countIn b) l) at (s .ahead)
 
-  missed : ((e : Delegation) → e ∈ recordsFrom a j → IsPair (recordAt b k .giver) (recordAt b k .receiver) e → ⊥) → Compared b a j (k + 1) (x + 1) y
+  missed : ((e : Delegation) → e ∈ recordsFrom a j → IsPair (delegationAt b k .giver) (delegationAt b k .receiver) e → ⊥) → Compared b a j (k + 1) (x + 1) y
   missed n =
-      let w = missed-weight (decode a .delegations) (recordAt b k) (recordsFrom b (k + 1)) (recordsFrom a j) next n in
+      let w = missed-weight (decode a .delegations) (delegationAt b k) (recordsFrom b (k + 1)) (recordsFrom a j) next n in
       record {
-        dropped = passing-one (isDropped (decode a)) (recordAt b) k (countIn b) x (s .dropped) l (missing-dropped (decode a) (recordAt b k) w);
-        lowered = passing-none (isLowered (decode a)) (recordAt b) k (countIn b) y (s .lowered) l (missing-lowered (decode a) (recordAt b k) w);
-        ahead = missed-on (decode a .delegations) (recordAt b k) (recordsFrom b (k + 1)) (recordsFrom a j) next n;
+        dropped = passing-one (isDropped (decode a)) (delegationAt b) k (countIn b) x (s .dropped) l (missing-dropped (decode a) (delegationAt b k) w);
+        lowered = passing-none (isLowered (decode a)) (delegationAt b) k (countIn b) y (s .lowered) l (missing-lowered (decode a) (delegationAt b k) w);
+        ahead = missed-on (decode a .delegations) (delegationAt b k) (recordsFrom b (k + 1)) (recordsFrom a j) next n;
       }
 
   -- the other block has no more
   pub compared-past : countIn a ≤ j → Compared b a j (k + 1) (x + 1) y
-  compared-past h = missed (λ e m. absurd (List·Memᴰ·not-nil (subst (λ (es : List Delegation). e ∈ es) (rest-end (recordAt a) j (countIn a) h) m)))
+  compared-past h = missed (λ e m. absurd (List·Memᴰ·not-nil (subst (λ (es : List Delegation). e ∈ es) (rest-end (delegationAt a) j (countIn a) h) m)))
 
   module _ (h : j < countIn a) where
     -- record j is the next to meet
-    both : Ahead (decode a .delegations) (recordAt b k ∷ recordsFrom b (k + 1)) (recordAt a j ∷ recordsFrom a (j + 1))
-    both = rw (rest-on (recordAt a) j (countIn a) h) at next
+    both : Ahead (decode a .delegations) (delegationAt b k ∷ recordsFrom b (k + 1)) (delegationAt a j ∷ recordsFrom a (j + 1))
+    both = rw (rest-on (delegationAt a) j (countIn a) h) at next
 
-    pub compared-other : isPair (recordAt b k .giver) (recordAt b k .receiver) (recordAt a j) ≡ false → Compared b a j (k + 1) (x + 1) y
+    pub compared-other : isPair (delegationAt b k .giver) (delegationAt b k .receiver) (delegationAt a j) ≡ false → Compared b a j (k + 1) (x + 1) y
     compared-other t = missed (λ e m.
-        others (decode a .delegations) (recordAt b k) (recordsFrom b (k + 1)) (recordAt a j) (recordsFrom a (j + 1)) both t e
-        (subst (λ (es : List Delegation). e ∈ es) (rest-on (recordAt a) j (countIn a) h) m))
+        others (decode a .delegations) (delegationAt b k) (recordsFrom b (k + 1)) (delegationAt a j) (recordsFrom a (j + 1)) both t e
+        (subst (λ (es : List Delegation). e ∈ es) (rest-on (delegationAt a) j (countIn a) h) m))
 
-    module _ (t : isPair (recordAt b k .giver) (recordAt b k .receiver) (recordAt a j) ≡ true) where
+    module _ (t : isPair (delegationAt b k .giver) (delegationAt b k .receiver) (delegationAt a j) ≡ true) where
       -- the comparison of the weights decides
-      met : (c : Bool) (z : ℕ) → leb (suc (recordAt a j .weight)) (recordAt b k .weight) ≡ c
-          → (isLowered (decode a) (recordAt b k) ≡ c → Passing (isLowered (decode a)) (recordAt b) (countIn b) (k + 1) z) → Compared b a (j + 1) (k + 1) x z
+      met : (c : Bool) (z : ℕ) → leb (suc (delegationAt a j .weight)) (delegationAt b k .weight) ≡ c
+          → (isLowered (decode a) (delegationAt b k) ≡ c → Passing (isLowered (decode a)) (delegationAt b) (countIn b) (k + 1) z) → Compared b a (j + 1) (k + 1) x z
       met c z q f =
-          let w = met-weight (decode a .delegations) (recordAt b k) (recordsFrom b (k + 1)) (recordAt a j) (recordsFrom a (j + 1)) both t in
+          let w = met-weight (decode a .delegations) (delegationAt b k) (recordsFrom b (k + 1)) (delegationAt a j) (recordsFrom a (j + 1)) both t in
           record {
-            dropped = passing-none (isDropped (decode a)) (recordAt b) k (countIn b) x (s .dropped) l (found-dropped (decode a) (recordAt b k) (recordAt a j .weight) w);
-            lowered = f (found-lowered (decode a) (recordAt b k) (recordAt a j .weight) w c q);
-            ahead = met-on (decode a .delegations) (recordAt b k) (recordsFrom b (k + 1)) (recordAt a j) (recordsFrom a (j + 1)) both t;
+            dropped = passing-none (isDropped (decode a)) (delegationAt b) k (countIn b) x (s .dropped) l (found-dropped (decode a) (delegationAt b k) (delegationAt a j .weight) w);
+            lowered = f (found-lowered (decode a) (delegationAt b k) (delegationAt a j .weight) w c q);
+            ahead = met-on (decode a .delegations) (delegationAt b k) (recordsFrom b (k + 1)) (delegationAt a j) (recordsFrom a (j + 1)) both t;
           }
 
-      pub compared-lowered : recordAt a j .weight < recordAt b k .weight → Compared b a (j + 1) (k + 1) x (y + 1)
-      compared-lowered w = met true (y + 1) (le-leb (suc (recordAt a j .weight)) (recordAt b k .weight) w) (passing-one (isLowered (decode a)) (recordAt b) k (countIn b) y (s .lowered) l)
+      pub compared-lowered : delegationAt a j .weight < delegationAt b k .weight → Compared b a (j + 1) (k + 1) x (y + 1)
+      compared-lowered w = met true (y + 1) (le-leb (suc (delegationAt a j .weight)) (delegationAt b k .weight) w) (passing-one (isLowered (decode a)) (delegationAt b) k (countIn b) y (s .lowered) l)
 
-      pub compared-kept : recordAt b k .weight ≤ recordAt a j .weight → Compared b a (j + 1) (k + 1) x y
-      compared-kept w = met false y (lt-leb (suc (recordAt a j .weight)) (recordAt b k .weight) (omega arith)) (passing-none (isLowered (decode a)) (recordAt b) k (countIn b) y (s .lowered) l)
+      pub compared-kept : delegationAt b k .weight ≤ delegationAt a j .weight → Compared b a (j + 1) (k + 1) x y
+      compared-kept w = met false y (lt-leb (suc (delegationAt a j .weight)) (delegationAt b k .weight) (omega arith)) (passing-none (isLowered (decode a)) (delegationAt b) k (countIn b) y (s .lowered) l)
 
 -- all records looked for
 pub compared-all : (b a : List ℕ) → IsBytes b → wellFormed b ≡ true → (j k x y : ℕ) → Compared b a j k x y → countIn b ≤ k → (x ≡ dropped (decode b) (decode a)) × (y ≡ lowered (decode b) (decode a))
 compared-all b a bytes formed j k x y s h =
     let e = sym (delegations-held b bytes formed) in (
-      passing-end (isDropped (decode a)) (recordAt b) k (countIn b) x (s .dropped) h ∙ ap (λ (ds : List Delegation). length (filter (isDropped (decode a)) ds)) e,
-      passing-end (isLowered (decode a)) (recordAt b) k (countIn b) y (s .lowered) h ∙ ap (λ (ds : List Delegation). length (filter (isLowered (decode a)) ds)) e,
+      passing-end (isDropped (decode a)) (delegationAt b) k (countIn b) x (s .dropped) h ∙ ap (λ (ds : List Delegation). length (filter (isDropped (decode a)) ds)) e,
+      passing-end (isLowered (decode a)) (delegationAt b) k (countIn b) y (s .lowered) h ∙ ap (λ (ds : List Delegation). length (filter (isLowered (decode a)) ds)) e,
     )

@@ -17,11 +17,12 @@ use Rattle.rules.specs.Support.{allowed}
 use Rattle.rules.specs.Pair.{receives}
 use Rattle.rules.specs.WellFormed.{WellFormed}
 use Rattle.rules.proofs.Lists.{eqOr}
-use Rattle.block.specs.Bytes.{IsBytes, readAll}
-use Rattle.block.specs.Block.{delegationIn, countIn, decode}
+use Rattle.block.specs.Bytes.{IsBytes}
+use Rattle.block.specs.Block.{countIn, decode}
 use Rattle.block.specs.WellFormed.{wellFormed}
 use Rattle.block.proofs.Bytes.{length-tabulate}
 use Rattle.block.proofs.Held.{delegations-held}
+use Rattle.block.specs.Records.{delegationsTo}
 use Rattle.search.specs.Search.{underMarks}
 use Rattle.search.specs.Found.{delegationsIn, Searched}
 use Rattle.search.proofs.Searching.{reach-marks}
@@ -72,7 +73,7 @@ copied-on b a n l m x before room e c = record { there = λ i h. written i h (eq
     kept i (inr h) = getD-set-other m (a + n) i x (pos 0) (λ q. omega arith) ∙ c .rest i (inr (omega arith))
 
 -- the block's test of a receiver is the register's
-pub receives-held : (b : List ℕ) (bytes : IsBytes b) (formed : wellFormed b ≡ true) (v n : ℕ) (x : Bool) → n ≡ countIn b → x ≡ receives v (readAll delegationIn 8 (drop 132 b) n) → x ≡ receives v (decode b .delegations)
+pub receives-held : (b : List ℕ) (bytes : IsBytes b) (formed : wellFormed b ≡ true) (v n : ℕ) (x : Bool) → n ≡ countIn b → x ≡ receives v (delegationsTo b n) → x ≡ receives v (decode b .delegations)
 receives-held b bytes formed v n x e h = rw (delegations-held b bytes formed, ← e) h
 
 -- a receiver of some delegation receives

@@ -22,8 +22,8 @@ use Rattle.block.specs.Bytes.{IsBytes}
 use Rattle.block.specs.Block.{countIn, decode}
 use Rattle.block.specs.WellFormed.{wellFormed}
 use Rattle.block.proofs.Bytes.{tabulate-mem, mem-tabulate}
-use Rattle.block.proofs.Fields.{recordAt}
 use Rattle.block.proofs.Held.{count-most, held-formed, delegations-held}
+use Rattle.block.specs.Records.{delegationAt}
 use Rattle.search.proofs.Signed.{below-weight}
 use Rattle.rounds.specs.Rounded.{reachAt, Tabled, noEntry, Decoded, lesser, lowerOne, WeightsRead, leftTo, Reckoned}
 use Rattle.rounds.specs.declared.Delegation.{Delegation as Entry}
@@ -78,59 +78,59 @@ lesser-less l w = go (ltZ l (pos w)) refl
 
 -- ── the round ──
 module _ (t : List ℤ) (b : List ℕ) (bytes : IsBytes b) (formed : wellFormed b ≡ true) (reaches : List ℤ) (size : length reaches ≡ 4096) (tabled : Tabled t (decode b) reaches)
-    (ds : List Entry) (all : length ds ≡ 256) (dec : Decoded (recordAt b) (countIn b) ds) where
-  member : (k : ℕ) → k < countIn b → recordAt b k ∈ decode b .delegations
-  member k h = subst (λ (ds : List Delegation). recordAt b k ∈ ds) (sym (delegations-held b bytes formed)) (subst (λ (m : ℕ). recordAt b m ∈ tabulate (recordAt b) 0 (countIn b)) (zero-add k) (mem-tabulate (recordAt b) 0 (countIn b) k h))
+    (ds : List Entry) (all : length ds ≡ 256) (dec : Decoded (delegationAt b) (countIn b) ds) where
+  member : (k : ℕ) → k < countIn b → delegationAt b k ∈ decode b .delegations
+  member k h = subst (λ (ds : List Delegation). delegationAt b k ∈ ds) (sym (delegations-held b bytes formed)) (subst (λ (m : ℕ). delegationAt b m ∈ tabulate (delegationAt b) 0 (countIn b)) (zero-add k) (mem-tabulate (delegationAt b) 0 (countIn b) k h))
 
   -- the table has what counts for the delegation at place k
-  counts-for : (k : ℕ) → k < countIn b → (z : ℤ) → getD reaches (reachAt (recordAt b k .giver) (recordAt b k .receiver)) z ≡ allowed t (decode b) (recordAt b k)
+  counts-for : (k : ℕ) → k < countIn b → (z : ℤ) → getD reaches (reachAt (delegationAt b k .giver) (delegationAt b k .receiver)) z ≡ allowed t (decode b) (delegationAt b k)
   counts-for k h z =
       let f = held-formed b bytes formed in
-      let d = f .each (recordAt b k) (member k h) in
-      getD-within reaches (reachAt (recordAt b k .giver) (recordAt b k .receiver)) z (pos 0) (omega (arith, size, d .giver, d .receiver, f .most)) ∙ tabled (recordAt b k) (member k h)
+      let d = f .each (delegationAt b k) (member k h) in
+      getD-within reaches (reachAt (delegationAt b k .giver) (delegationAt b k .receiver)) z (pos 0) (omega (arith, size, d .giver, d .receiver, f .most)) ∙ tabled (delegationAt b k) (member k h)
 
   -- the run that the round leaves
   abbrev run-left : List Entry
   run-left = map (lowerOne reaches) (take (countIn b) ds) ++ drop (countIn b) ds
 
-  entry-left : (k : ℕ) → k < countIn b → getD run-left k noEntry .weight ≡ lesser (allowed t (decode b) (recordAt b k)) (pos (recordAt b k .weight))
+  entry-left : (k : ℕ) → k < countIn b → getD run-left k noEntry .weight ≡ lesser (allowed t (decode b) (delegationAt b k)) (pos (delegationAt b k .weight))
   entry-left k h =
       ap (λ (d : Entry). d .weight) (each-at (lowerOne reaches) noEntry ds (countIn b) k (omega (arith, all, count-most b bytes formed)) h ∙ ap (lowerOne reaches) (dec k h))
-      ∙ ap (λ (l : ℤ). lesser l (pos (recordAt b k .weight))) (counts-for k h (pos (recordAt b k .weight)))
+      ∙ ap (λ (l : ℤ). lesser l (pos (delegationAt b k .weight))) (counts-for k h (pos (delegationAt b k .weight)))
 
-  module _ (c : Bool) (after : List ℤ) (left : WeightsRead (recordAt b) run-left (countIn b) c after) where
-    weight-left : (k : ℕ) (h : k < countIn b) → getD after k (pos 0) ≡ lesser (allowed t (decode b) (recordAt b k)) (pos (recordAt b k .weight))
+  module _ (c : Bool) (after : List ℤ) (left : WeightsRead (delegationAt b) run-left (countIn b) c after) where
+    weight-left : (k : ℕ) (h : k < countIn b) → getD after k (pos 0) ≡ lesser (allowed t (decode b) (delegationAt b k)) (pos (delegationAt b k .weight))
     weight-left k h = left .each k h ∙ entry-left k h
 
     weights-most : (k : ℕ) → k < countIn b → code (getD after k (pos 0)) ≤ 256
     weights-most k h =
-        let w = held-formed b bytes formed .each (recordAt b k) (member k h) .weight in
-        omega (arith, ap code (weight-left k h), code-lesser (allowed t (decode b) (recordAt b k)) (recordAt b k .weight))
+        let w = held-formed b bytes formed .each (delegationAt b k) (member k h) .weight in
+        omega (arith, ap code (weight-left k h), code-lesser (allowed t (decode b) (delegationAt b k)) (delegationAt b k .weight))
 
     -- what is left is what the definition leaves
-    round-left : withDelegations (decode b) (leftTo (recordAt b) after (countIn b)) ≡ round t (decode b)
+    round-left : withDelegations (decode b) (leftTo (delegationAt b) after (countIn b)) ≡ round t (decode b)
     round-left =
         let g : Delegation → List Delegation = λ d. capped d (allowed t (decode b) d) in
         ap (withDelegations (decode b))
-        (left-all (recordAt b) g after (countIn b) (λ k h. ap (placed (recordAt b k)) (weight-left k h) ∙ placed-lesser (recordAt b k) (allowed t (decode b) (recordAt b k))) ∙ ap (concatMap g) (sym (delegations-held b bytes formed)))
+        (left-all (delegationAt b) g after (countIn b) (λ k h. ap (placed (delegationAt b k)) (weight-left k h) ∙ placed-lesser (delegationAt b k) (allowed t (decode b) (delegationAt b k))) ∙ ap (concatMap g) (sym (delegations-held b bytes formed)))
 
-    test : (k : ℕ) (h : k < countIn b) → ltZ (getD run-left k noEntry .weight) (pos (recordAt b k .weight)) ≡ ltb (code (allowed t (decode b) (recordAt b k))) (suc (recordAt b k .weight))
-    test k h = ap (λ (z : ℤ). ltZ z (pos (recordAt b k .weight))) (entry-left k h) ∙ lesser-less (allowed t (decode b) (recordAt b k)) (recordAt b k .weight) ∙ below-weight (allowed t (decode b) (recordAt b k)) (recordAt b k .weight)
+    test : (k : ℕ) (h : k < countIn b) → ltZ (getD run-left k noEntry .weight) (pos (delegationAt b k .weight)) ≡ ltb (code (allowed t (decode b) (delegationAt b k))) (suc (delegationAt b k .weight))
+    test k h = ap (λ (z : ℤ). ltZ z (pos (delegationAt b k .weight))) (entry-left k h) ∙ lesser-less (allowed t (decode b) (delegationAt b k)) (delegationAt b k .weight) ∙ below-weight (allowed t (decode b) (delegationAt b k)) (delegationAt b k .weight)
 
     round-same : c ≡ false → round t (decode b) ≡ decode b
     round-same e = round-stays t (decode b) each
       where
         each : (d : Delegation) → d ∈ decode b .delegations → pos (d .weight) ≼ allowed t (decode b) d
         each d m =
-            let (k, h, q) = tabulate-mem (recordAt b) 0 (countIn b) (subst (λ (ds : List Delegation). d ∈ ds) (delegations-held b bytes formed) m) in
-            let p = q ∙ ap (recordAt b) (zero-add k) in
-            subst (λ (x : Delegation). pos (x .weight) ≼ allowed t (decode b) x) (sym p) (ltb-false (code (allowed t (decode b) (recordAt b k))) (suc (recordAt b k .weight)) (sym (test k h) ∙ left .same e k h))
+            let (k, h, q) = tabulate-mem (delegationAt b) 0 (countIn b) (subst (λ (ds : List Delegation). d ∈ ds) (delegations-held b bytes formed) m) in
+            let p = q ∙ ap (delegationAt b) (zero-add k) in
+            subst (λ (x : Delegation). pos (x .weight) ≼ allowed t (decode b) x) (sym p) (ltb-false (code (allowed t (decode b) (delegationAt b k))) (suc (delegationAt b k .weight)) (sym (test k h) ∙ left .same e k h))
 
     round-change : c ≡ true → round t (decode b) ≢ decode b
     round-change e =
         let (k, h, q) = left .less e in
-        let l = ltb-true (code (allowed t (decode b) (recordAt b k))) (suc (recordAt b k .weight)) (sym (test k h) ∙ q) in
-        round-changes t (decode b) (recordAt b k) (member k h) (omega arith)
+        let l = ltb-true (code (allowed t (decode b) (delegationAt b k))) (suc (delegationAt b k .weight)) (sym (test k h) ∙ q) in
+        round-changes t (decode b) (delegationAt b k) (member k h) (omega arith)
 
     pub reckoned : Reckoned t b c after
     reckoned = record { most = weights-most; left = round-left; same = round-same; change = round-change }

@@ -3,11 +3,10 @@ use mathlib.Core.Path.{_≡_, refl, sym, ap, subst, _∙_}
 use mathlib.Core.Logic.{_≢_}
 use mathlib.Core.Bool.{Bool, true, false}
 use mathlib.Core.List.{List}
-use Prim.Native.Nat.{ℕ, suc, _+_, _*_, _≤_, _<_}
+use Prim.Native.Nat.{ℕ, suc, _+_, _≤_, _<_}
 use native.Mathlib.Nat.{zero-add, add-zero}
 use native.Mathlib.Omega.{arith}
 use lib.IntN.{ℤ}
-use lib.ListN.{drop}
 use Rattle.rules.specs.Register.{Register, withDelegations}
 use Rattle.rules.specs.Table.{TableRule}
 use Rattle.rules.specs.Round.{round, SettlesIn, settle, total}
@@ -18,11 +17,12 @@ use Rattle.rules.proofs.WellFormed.{round-formed}
 use Rattle.rules.proofs.Ranges.{total-most}
 use Rattle.rules.proofs.Lists.{T-true}
 use Rattle.block.specs.Bytes.{IsBytes}
-use Rattle.block.specs.Block.{delegationIn, countIn, decode, encode}
+use Rattle.block.specs.Block.{countIn, decode, encode}
 use Rattle.block.specs.WellFormed.{wellFormed}
 use Rattle.block.proofs.Encode.{decode-encode}
 use Rattle.block.proofs.Form.{encode-formed}
 use Rattle.block.proofs.Held.{held-formed, held-written}
+use Rattle.block.specs.Records.{delegationAt}
 use Rattle.search.proofs.Signed.{no}
 use Rattle.rounds.specs.Rounded.{leftTo, Reckoned, RoundMade}
 
@@ -65,7 +65,7 @@ round-none t b bytes formed x ws r e = record {
 
 -- a round that lowers one
 pub round-some : (t : List ℤ) (b : List ℕ) (x : Bool) (ws : List ℤ) → Reckoned t b x ws → x ≡ true → (after : List ℕ)
-    → after ≡ encode (withDelegations (decode b) (leftTo (λ k. delegationIn (drop (8 * k) (drop 132 b))) ws (countIn b))) → RoundMade t (decode b) true after
+    → after ≡ encode (withDelegations (decode b) (leftTo (delegationAt b) ws (countIn b))) → RoundMade t (decode b) true after
 round-some t b x ws r e after w = record { left = w ∙ ap encode (r .left); same = λ z. absurd (no z tt); change = λ _. r .change e }
 
 -- the block holds what n rounds left

@@ -27,9 +27,9 @@ use Rattle.block.specs.Block.{delegationIn, recordBytes, countIn, decode, encod
 use Rattle.block.specs.WellFormed.{wellFormed}
 use Rattle.block.proofs.Bytes.{length-written}
 use Rattle.block.proofs.Encode.{marksPart, recordsPart, record-wide, length-marksPart}
-use Rattle.block.proofs.Fields.{recordAt}
 use Rattle.block.proofs.Held.{size-held, count-most, held-formed, held-written}
 use Rattle.block.proofs.Rewrite.{concatMap-append}
+use Rattle.block.specs.Records.{delegationAt}
 use Rattle.search.proofs.Signed.{kept}
 use Rattle.rounds.specs.Rounded.{leftTo}
 
@@ -85,26 +85,26 @@ left-most f ws (suc k) = go (getD ws k (pos 0)) (left-most f ws k)
 
 -- the block b, with what is left of its first k records written from the first place on: n of them
 abbrev pub Left : List ℕ → List ℤ → ℕ → ℕ → List ℕ → Type 0
-Left b ws k n c = (n ≡ length (leftTo (recordAt b) ws k)) × (c ≡ take 132 b ++ (concatMap recordBytes (leftTo (recordAt b) ws k) ++ drop (132 + 8 * n) b))
+Left b ws k n c = (n ≡ length (leftTo (delegationAt b) ws k)) × (c ≡ take 132 b ++ (concatMap recordBytes (leftTo (delegationAt b) ws k) ++ drop (132 + 8 * n) b))
 
 pub left-none : (b : List ℕ) (ws : List ℤ) → Left b ws 0 0 b
 left-none b ws = (refl, sym (take-append-drop 132 b))
 
 module _ (b : List ℕ) (ws : List ℤ) (k n : ℕ) (c : List ℕ) (s : Left b ws k n c) (fits : 132 + 8 * k ≤ length b) where
   pub left-few : n ≤ k
-  left-few = omega (arith, s .0, left-most (recordAt b) ws k)
+  left-few = omega (arith, s .0, left-most (delegationAt b) ws k)
 
   -- what stands before the rest of b
   abbrev front : List ℕ
-  front = take 132 b ++ concatMap recordBytes (leftTo (recordAt b) ws k)
+  front = take 132 b ++ concatMap recordBytes (leftTo (delegationAt b) ws k)
 
   front-length : length front ≡ 132 + 8 * n
   front-length =
-      let L = leftTo (recordAt b) ws k in
+      let L = leftTo (delegationAt b) ws k in
       length-append (take 132 b) (concatMap recordBytes L) ∙ omega (arith, length-take-le 132 b (omega arith), length-written recordBytes 8 record-wide L, s .0)
 
   halves : c ≡ front ++ drop (132 + 8 * n) b
-  halves = s .1 ∙ sym (append-assoc (take 132 b) (concatMap recordBytes (leftTo (recordAt b) ws k)) (drop (132 + 8 * n) b))
+  halves = s .1 ∙ sym (append-assoc (take 132 b) (concatMap recordBytes (leftTo (delegationAt b) ws k)) (drop (132 + 8 * n) b))
 
   pub left-length : length c ≡ length b
   left-length = ap length halves ∙ length-append front (drop (132 + 8 * n) b) ∙ omega (arith, front-length, length-drop (132 + 8 * n) b, left-few)
@@ -119,7 +119,7 @@ module _ (b : List ℕ) (ws : List ℤ) (k n : ℕ) (c : List ℕ) (s : Left b w
       ap (drop (132 + 8 * n + m)) halves ∙ ap (λ (i : ℕ). drop (i + m) (front ++ Q)) (sym front-length) ∙ drop-append-add front Q m ∙ drop-drop m (132 + 8 * n) b
 
   -- the record at place k is still that of b
-  record-same : recordAt c k ≡ recordAt b k
+  record-same : delegationAt c k ≡ delegationAt b k
   record-same =
       let e : 132 + 8 * n + 8 * (k - n) ≡ 132 + 8 * k = omega (arith, left-few) in
       ap delegationIn (drop-drop (8 * k) 132 c ∙ ap (λ (i : ℕ). drop i c) (sym e) ∙ rest (8 * (k - n)) ∙ ap (λ (i : ℕ). drop i b) e ∙ sym (drop-drop (8 * k) 132 b))
@@ -128,11 +128,11 @@ module _ (b : List ℕ) (ws : List ℤ) (k n : ℕ) (c : List ℕ) (s : Left b w
   written X room =
       sets-eq X c (132 + 8 * n) (omega (arith, left-length)) ∙ (λ i. front-taken i ++ X ++ rest (length X) i) ∙ append-assoc front X (drop (132 + 8 * n + length X) b)
 
-  next : (m : ℕ) (c′ : List ℕ) → m ≤ 1 → 132 + 8 * k + 8 ≤ length b → length (placed (recordAt b k) (getD ws k (pos 0))) ≡ m
-      → c′ ≡ sets c (132 + 8 * n) (concatMap recordBytes (placed (recordAt c k) (getD ws k (pos 0)))) → Left b ws (suc k) (n + m) c′
+  next : (m : ℕ) (c′ : List ℕ) → m ≤ 1 → 132 + 8 * k + 8 ≤ length b → length (placed (delegationAt b k) (getD ws k (pos 0))) ≡ m
+      → c′ ≡ sets c (132 + 8 * n) (concatMap recordBytes (placed (delegationAt c k) (getD ws k (pos 0)))) → Left b ws (suc k) (n + m) c′
   next m c′ l room e q =
-      let L = leftTo (recordAt b) ws k in
-      let d = placed (recordAt b k) (getD ws k (pos 0)) in
+      let L = leftTo (delegationAt b) ws k in
+      let d = placed (delegationAt b k) (getD ws k (pos 0)) in
       let X = concatMap recordBytes d in
       let x : length X ≡ 8 * m = length-written recordBytes 8 record-wide d ∙ ap (λ (i : ℕ). 8 * i) e in
       let a : 132 + 8 * n + length X ≡ 132 + 8 * (n + m) = omega (arith, x) in
@@ -147,16 +147,16 @@ module _ (b : List ℕ) (ws : List ℤ) (k n : ℕ) (c : List ℕ) (s : Left b w
       )
 
   module _ (c′ : List ℕ) (room : 132 + 8 * k + 8 ≤ length b) (h : mag (getD ws k (pos 0)) < 32768)
-      (q : c′ ≡ sets c (132 + 8 * n) (concatMap recordBytes (placed (recordAt c k) (kept (getD ws k (pos 0)))))) where
+      (q : c′ ≡ sets c (132 + 8 * n) (concatMap recordBytes (placed (delegationAt c k) (kept (getD ws k (pos 0)))))) where
     -- record k was written
     pub left-one : true ≡ ltb 0 (code (kept (getD ws k (pos 0)))) → Left b ws (k + 1) (n + 1) c′
-    left-one t = rw (add-one k) (next 1 c′ (omega arith) room (placed-one (recordAt b k) (getD ws k (pos 0)) (rw (kept-is (getD ws k (pos 0)) h) at t)) (rw (kept-is (getD ws k (pos 0)) h) at q))
+    left-one t = rw (add-one k) (next 1 c′ (omega arith) room (placed-one (delegationAt b k) (getD ws k (pos 0)) (rw (kept-is (getD ws k (pos 0)) h) at t)) (rw (kept-is (getD ws k (pos 0)) h) at q))
 
     -- it was not
     pub left-same : false ≡ ltb 0 (code (kept (getD ws k (pos 0)))) → Left b ws (k + 1) n c′
     left-same t =
         let z : n + 0 ≡ n = omega arith in
-        rw (add-one k, ← z) (next 0 c′ (omega arith) room (placed-none (recordAt b k) (getD ws k (pos 0)) (rw (kept-is (getD ws k (pos 0)) h) at t)) (rw (kept-is (getD ws k (pos 0)) h) at q))
+        rw (add-one k, ← z) (next 0 c′ (omega arith) room (placed-none (delegationAt b k) (getD ws k (pos 0)) (rw (kept-is (getD ws k (pos 0)) h) at t)) (rw (kept-is (getD ws k (pos 0)) h) at q))
 
 -- ── the block of the register with other delegations ──
 encode-with : (R : Register) → WellFormed R → (ds : List Delegation) → sets (take 132 (encode R) ++ (concatMap recordBytes ds ++ replicate (2048 - 8 * length ds) 0)) 2 (twoBytes (length ds)) ≡ encode (withDelegations R ds)
@@ -185,18 +185,18 @@ module _ (b : List ℕ) (bytes : IsBytes b) (formed : wellFormed b ≡ true) (ws
         let e : length (midOf (132 + 8 * n) (length x - (132 + 8 * n)) x) ≡ 2048 - 8 * n = omega (arith, m, left-size) in
         zeros ∙ ap (λ (i : ℕ). replicate i 0) e
 
-    zeroed : putMid (132 + 8 * n) (length x - (132 + 8 * n)) x ys ≡ take 132 b ++ (concatMap recordBytes (leftTo (recordAt b) ws k) ++ replicate (2048 - 8 * n) 0)
+    zeroed : putMid (132 + 8 * n) (length x - (132 + 8 * n)) x ys ≡ take 132 b ++ (concatMap recordBytes (leftTo (delegationAt b) ws k) ++ replicate (2048 - 8 * n) 0)
     zeroed =
-        let D = concatMap recordBytes (leftTo (recordAt b) ws k) in
+        let D = concatMap recordBytes (leftTo (delegationAt b) ws k) in
         let last : drop (length x - (132 + 8 * n)) (drop (132 + 8 * n) x) ≡ [] = drop-of-length-le (drop (132 + 8 * n) x) {i = length x - (132 + 8 * n)} (omega (arith, length-drop (132 + 8 * n) x)) in
         (λ i. front-taken b ws k n x s within i ++ (zeros-all i ++ last i))
         ∙ ap (λ (z : List ℕ). (take 132 b ++ D) ++ z) (append-nil (replicate (2048 - 8 * n) 0))
         ∙ append-assoc (take 132 b) D (replicate (2048 - 8 * n) 0)
 
-    pub left-encoded : sets (putMid (132 + 8 * n) (length x - (132 + 8 * n)) x ys) 2 (twoBytes n) ≡ encode (withDelegations (decode b) (leftTo (recordAt b) ws (countIn b)))
+    pub left-encoded : sets (putMid (132 + 8 * n) (length x - (132 + 8 * n)) x ys) 2 (twoBytes n) ≡ encode (withDelegations (decode b) (leftTo (delegationAt b) ws (countIn b)))
     left-encoded =
-        let ds = leftTo (recordAt b) ws k in
+        let ds = leftTo (delegationAt b) ws k in
         ap (λ (z : List ℕ). sets z 2 (twoBytes n)) zeroed
         ∙ (λ i. sets (take 132 (held-written b bytes formed i) ++ (concatMap recordBytes ds ++ replicate (2048 - 8 * s .0 i) 0)) 2 (twoBytes (s .0 i)))
         ∙ encode-with (decode b) (held-formed b bytes formed) ds
-        ∙ ap (λ (i : ℕ). encode (withDelegations (decode b) (leftTo (recordAt b) ws i))) all
+        ∙ ap (λ (i : ℕ). encode (withDelegations (decode b) (leftTo (delegationAt b) ws i))) all

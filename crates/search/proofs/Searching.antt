@@ -22,6 +22,7 @@ use Rattle.block.specs.Bytes.{IsBytes}
 use Rattle.block.specs.Block.{marksIn, delegationIn, subjectsIn, countIn, recordsIn, decode}
 use Rattle.block.specs.WellFormed.{wellFormed}
 use Rattle.block.proofs.Held.{held-formed, size-held, count-most, delegations-held}
+use Rattle.block.specs.Records.{delegationAt, recordFrom}
 use Rattle.search.specs.Search.{delegationsOf, underMarks, Lent, parentIn}
 use Rattle.search.specs.Found.{delegationsIn, Searched}
 
@@ -48,10 +49,10 @@ module _ (b : List ℕ) (bytes : IsBytes b) (formed : wellFormed b ≡ true) whe
   pub records-count : length (recordsIn b) / 8 ≡ countIn b
   records-count = ap (λ (n : ℕ). n / 8) length-records ∙ mul-div-right (countIn b) (omega arith)
 
-  field : (k j : ℕ) → k < countIn b → j < 8 → getD (drop (8 * k) (recordsIn b)) j 0 ≡ getD (drop (8 * k) (drop 132 b)) j 0
+  field : (k j : ℕ) → k < countIn b → j < 8 → getD (drop (8 * k) (recordsIn b)) j 0 ≡ getD (recordFrom b k) j 0
   field k j l m = getD-drop (8 * k) (recordsIn b) j 0 ∙ getD-take (8 * countIn b) (drop 132 b) (8 * k + j) 0 (omega arith) ∙ sym (getD-drop (8 * k) (drop 132 b) j 0)
 
-  same-record : (k : ℕ) → k < countIn b → delegationIn (drop (8 * k) (recordsIn b)) ≡ delegationIn (drop (8 * k) (drop 132 b))
+  same-record : (k : ℕ) → k < countIn b → delegationIn (drop (8 * k) (recordsIn b)) ≡ delegationAt b k
   same-record k l = λ i. record {
     giver = field k 0 l (omega arith) i;
     receiver = field k 1 l (omega arith) i;
@@ -64,8 +65,8 @@ module _ (b : List ℕ) (bytes : IsBytes b) (formed : wellFormed b ≡ true) whe
   pub records-held : delegationsIn (recordsIn b) ≡ decode b .delegations
   records-held =
       ap (delegationsOf (recordsIn b)) records-count
-      ∙ tabulate-below (λ k. delegationIn (drop (8 * k) (recordsIn b))) (λ k. delegationIn (drop (8 * k) (drop 132 b))) 0 (countIn b)
-      (λ k l. subst (λ (m : ℕ). delegationIn (drop (8 * m) (recordsIn b)) ≡ delegationIn (drop (8 * m) (drop 132 b))) (sym (zero-add k)) (same-record k l))
+      ∙ tabulate-below (λ k. delegationIn (drop (8 * k) (recordsIn b))) (delegationAt b) 0 (countIn b)
+      (λ k l. subst (λ (m : ℕ). delegationIn (drop (8 * m) (recordsIn b)) ≡ delegationAt b m) (sym (zero-add k)) (same-record k l))
       ∙ sym (delegations-held b bytes formed)
 
   pub lent-held : (t : List ℤ) → TableRule t → Lent t (recordsIn b) (length (recordsIn b) / 8)

@@ -10,7 +10,7 @@ use Rattle.block.specs.Bytes.{IsBytes}
 use Rattle.block.specs.Block.{countIn}
 use Rattle.block.specs.WellFormed.{wellFormed}
 use Rattle.block.proofs.Bytes.{fits-bytes}
-use Rattle.block.proofs.Fields.{recordAt}
+use Rattle.block.specs.Records.{delegationAt}
 use Rattle.block.proofs.Held.{size-held, count-most}
 use Rattle.rounds.specs.Rounded.{Decoded, lowerOne, WeightsRead}
 use Rattle.rounds.proofs.Rounding.{reckoned}
@@ -66,8 +66,8 @@ returns c =
     let k = n .before .before .before .before in
     let b = k .before .args .block .now in
     let e : n .count .result ≡ countIn b = n .count .ensures in
-    let dec : Decoded (recordAt b) (countIn b) (d .result) = rw (← e) (d .ensures) in
-    let read : WeightsRead (recordAt b) (map (lowerOne (f .last .1 .1 .0)) (take (countIn b) (d .result)) ++ drop (countIn b) (d .result)) (countIn b) (r .result) (r .last .1 .1 .1 .0) = rw (← e, ← o .ensures) (r .ensures) in
+    let dec : Decoded (delegationAt b) (countIn b) (d .result) = rw (← e) (d .ensures) in
+    let read : WeightsRead (delegationAt b) (map (lowerOne (f .last .1 .1 .0)) (take (countIn b) (d .result)) ++ drop (countIn b) (d .result)) (countIn b) (r .result) (r .last .1 .1 .1 .0) = rw (← e, ← o .ensures) (r .ensures) in
     reckoned (k .before .args .table .now) b (fits-bytes b (k .shared-slice-known .given)) (k .before .pre .0) (f .last .1 .1 .0) (f .kept .1 .1 .0) (f .ensures) (d .result) (d .ok .1 .0 .1) dec (r .result) (r .last .1 .1 .1 .0) read
 
 pub reckon-spec : {M : Type 1} → statement M

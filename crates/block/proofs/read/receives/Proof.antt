@@ -5,13 +5,13 @@ use native.Mathlib.Omega.{arith}
 use borrow.Author.Tests.{eq-eqb, ne-eqb}
 use Rattle.rules.specs.List.{tabulate}
 use Rattle.rules.specs.Pair.{receives}
-use Rattle.block.proofs.Fields.{recordAt}
 use Rattle.block.proofs.Loops.{rest-all, some-end, some-stop, some-on}
 use Rattle.block.proofs.read.receives.Statement.{statement}
 use Rattle.block.proofs.read.receives.Tie as tie
+use Rattle.block.specs.Records.{delegationAt}
 
 abbrev Inv-loop : tie.InvT-loop
-Inv-loop b count receiver k₀ k = receives receiver (tabulate (recordAt b) 0 count) ≡ receives receiver (tabulate (recordAt b) k (count - k))
+Inv-loop b count receiver k₀ k = receives receiver (tabulate (delegationAt b) 0 count) ≡ receives receiver (tabulate (delegationAt b) k (count - k))
 
 abbrev μ-loop : tie.MeasureT-loop
 μ-loop b count receiver k₀ k = count - k
@@ -19,7 +19,7 @@ abbrev μ-loop : tie.MeasureT-loop
 loop-holds : tie.Need-loop-holds Inv-loop μ-loop
 loop-holds c =
     let a = c .before .args in
-    ap (receives (a .receiver)) (rest-all (recordAt (a .b .now)) (a .count))
+    ap (receives (a .receiver)) (rest-all (delegationAt (a .b .now)) (a .count))
 
 receiver-requires : tie.Need-receiver-requires Inv-loop μ-loop
 receiver-requires c κs = omega arith
@@ -28,7 +28,7 @@ returns : tie.Need-returns Inv-loop μ-loop
 returns c =
     let a = c .before .before .before .before .before .args in
     let l = c .before .before .before .loop in
-    some-stop (a .receiver) (recordAt (a .b .now)) (l .k) (a .count) (l .inv) (omega arith) (rw (← c .before .receiver .ensures) (eq-eqb _ _ (c .if1 .taken)))
+    some-stop (a .receiver) (delegationAt (a .b .now)) (l .k) (a .count) (l .inv) (omega arith) (rw (← c .before .receiver .ensures) (eq-eqb _ _ (c .if1 .taken)))
 
 add-k : tie.Need-add-k Inv-loop μ-loop
 add-k c = omega arith
@@ -40,13 +40,13 @@ loop-again : tie.Need-loop-again Inv-loop μ-loop
 loop-again c =
     let a = c .before .before .before .before .before .args in
     let l = c .before .before .before .loop in
-    some-on (a .receiver) (recordAt (a .b .now)) (l .k) (a .count) (l .inv) (omega arith) (rw (← c .before .receiver .ensures) (ne-eqb _ _ (c .if1 .left)))
+    some-on (a .receiver) (delegationAt (a .b .now)) (l .k) (a .count) (l .inv) (omega arith) (rw (← c .before .receiver .ensures) (ne-eqb _ _ (c .if1 .left)))
 
 returns-2 : tie.Need-returns-2 Inv-loop μ-loop
 returns-2 c =
     let a = c .before .before .before .args in
     let l = c .before .loop in
-    some-end (a .receiver) (recordAt (a .b .now)) (l .k) (a .count) (l .inv) (omega arith)
+    some-end (a .receiver) (delegationAt (a .b .now)) (l .k) (a .count) (l .inv) (omega arith)
 
 pub receives-spec : {M : Type 1} → statement M
 receives-spec =

@@ -2,19 +2,19 @@
 use mathlib.Core.Path.{_≡_, sym, _∙_}
 use mathlib.Core.Bool.{Bool}
 use mathlib.Core.List.{List}
-use Prim.Native.Nat.{ℕ, _*_, _-_}
+use Prim.Native.Nat.{ℕ, _-_}
 use native.Mathlib.Omega.{arith}
 use borrow.Author.Tests.{not-true, not-false}
-use lib.ListN.{drop}
 use lib.Seq.{drop-drop}
 use Rattle.block.specs.Bytes.{allFrom}
 use Rattle.block.specs.WellFormed.{recordFormed}
 use Rattle.block.proofs.Loops.{all-end, all-stop, all-on}
 use Rattle.block.proofs.read.records_formed.Statement.{statement}
 use Rattle.block.proofs.read.records_formed.Tie as tie
+use Rattle.block.specs.Records.{recordFrom}
 
 abbrev test : List ℕ → ℕ → ℕ → Bool
-test b n k = recordFormed n (drop (8 * k) (drop 132 b))
+test b n k = recordFormed n (recordFrom b k)
 
 abbrev Inv-loop : tie.InvT-loop
 Inv-loop b count subjects k₀ k = allFrom (test b subjects) 0 count ≡ allFrom (test b subjects) k (count - k)

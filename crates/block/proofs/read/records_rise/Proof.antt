@@ -6,13 +6,13 @@ use borrow.Author.Tests.{not-true, not-false}
 use Rattle.rules.specs.List.{tabulate}
 use Rattle.rules.specs.CallStep.{before}
 use Rattle.block.specs.WellFormed.{rises}
-use Rattle.block.proofs.Fields.{recordAt}
 use Rattle.block.proofs.Loops.{rest-all, rise-end, rise-stop, rise-on}
 use Rattle.block.proofs.read.records_rise.Statement.{statement}
 use Rattle.block.proofs.read.records_rise.Tie as tie
+use Rattle.block.specs.Records.{delegationAt}
 
 abbrev Inv-loop : tie.InvT-loop
-Inv-loop b count k₀ k = (k ≤ count) × (rises (tabulate (recordAt b) 0 count) ≡ rises (tabulate (recordAt b) k (count - k)))
+Inv-loop b count k₀ k = (k ≤ count) × (rises (tabulate (delegationAt b) 0 count) ≡ rises (tabulate (delegationAt b) k (count - k)))
 
 abbrev μ-loop : tie.MeasureT-loop
 μ-loop b count k₀ k = count - k
@@ -20,7 +20,7 @@ abbrev μ-loop : tie.MeasureT-loop
 loop-holds : tie.Need-loop-holds Inv-loop μ-loop
 loop-holds c =
     let a = c .before .args in
-    (omega arith, ap rises (rest-all (recordAt (a .b .now)) (a .count)))
+    (omega arith, ap rises (rest-all (delegationAt (a .b .now)) (a .count)))
 
 add-loop : tie.Need-add-loop Inv-loop μ-loop
 add-loop c = omega (arith, c .before .before .fits .count)
@@ -39,7 +39,7 @@ is-before-requires c κs = omega arith
 
 -- record k before the next
 before-is : (c : tie.After-is-before Inv-loop μ-loop)
-    → let f = recordAt (c .before .before .before .before .before .before .args .b .now) in
+    → let f = delegationAt (c .before .before .before .before .before .before .args .b .now) in
     let l = c .before .before .before .before .loop in
     c .is-before .result ≡ before (f (l .k)) (f (l .k + 1))
 before-is c = c .is-before .ensures ∙ rw (c .before .before .giver .ensures, c .before .receiver .ensures)
@@ -48,7 +48,7 @@ returns : tie.Need-returns Inv-loop μ-loop
 returns c =
     let a = c .before .before .before .before .before .before .before .args in
     let l = c .before .before .before .before .before .loop in
-    rise-stop (recordAt (a .b .now)) (l .k) (a .count) (l .inv .1) (omega arith) (sym (before-is (c .before)) ∙ not-true (c .before .is-before .result) (c .if1 .taken))
+    rise-stop (delegationAt (a .b .now)) (l .k) (a .count) (l .inv .1) (omega arith) (sym (before-is (c .before)) ∙ not-true (c .before .is-before .result) (c .if1 .taken))
 
 add-k : tie.Need-add-k Inv-loop μ-loop
 add-k c = omega arith
@@ -60,13 +60,13 @@ loop-again : tie.Need-loop-again Inv-loop μ-loop
 loop-again c =
     let a = c .before .before .before .before .before .before .before .args in
     let l = c .before .before .before .before .before .loop in
-    (omega arith, rise-on (recordAt (a .b .now)) (l .k) (a .count) (l .inv .1) (omega arith) (sym (before-is (c .before)) ∙ not-false (c .before .is-before .result) (c .if1 .left)))
+    (omega arith, rise-on (delegationAt (a .b .now)) (l .k) (a .count) (l .inv .1) (omega arith) (sym (before-is (c .before)) ∙ not-false (c .before .is-before .result) (c .if1 .left)))
 
 returns-2 : tie.Need-returns-2 Inv-loop μ-loop
 returns-2 c =
     let a = c .before .before .before .args in
     let l = c .before .loop in
-    rise-end (recordAt (a .b .now)) (l .k) (a .count) (l .inv .1) (omega arith)
+    rise-end (delegationAt (a .b .now)) (l .k) (a .count) (l .inv .1) (omega arith)
 
 pub records-rise-spec : {M : Type 1} → statement M
 records-rise-spec =

@@ -3,14 +3,14 @@ use mathlib.Core.Path.{_≡_, refl}
 use Prim.Native.Nat.{_-_, _≤_}
 use native.Mathlib.Omega.{arith}
 use lib.ListN.{length, length-set}
-use Rattle.block.proofs.Fields.{recordAt}
+use Rattle.block.specs.Records.{delegationAt}
 use Rattle.rounds.specs.Rounded.{decodedAs, noEntry, Decoded}
 use Rattle.rounds.proofs.Lowering.{filled}
 use Rattle.rounds.proofs.lower.decoded.Statement.{statement}
 use Rattle.rounds.proofs.lower.decoded.Tie as tie
 
 abbrev Inv-loop : tie.InvT-loop
-Inv-loop block n ds₀ k₀ ds k = (k ≤ n) × (length ds ≡ 256) × Decoded (recordAt block) k ds
+Inv-loop block n ds₀ k₀ ds k = (k ≤ n) × (length ds ≡ 256) × Decoded (delegationAt block) k ds
 
 abbrev μ-loop : tie.MeasureT-loop
 μ-loop block n ds₀ k₀ ds k = n - k
@@ -37,7 +37,7 @@ loop-again : tie.Need-loop-again Inv-loop μ-loop
 loop-again c =
     let l = c .before .before .loop in
     let s = c .before .before .before .before in
-    (omega arith, simp length-set (l .inv .1), filled (l .ds) (l .k) noEntry _ (λ j. decodedAs (recordAt (s .args .block .now) j)) (omega arith) (l .inv .2) (c .decoded-at .ensures))
+    (omega arith, simp length-set (l .inv .1), filled (l .ds) (l .k) noEntry _ (λ j. decodedAs (delegationAt (s .args .block .now) j)) (omega arith) (l .inv .2) (c .decoded-at .ensures))
 
 returns : tie.Need-returns Inv-loop μ-loop
 returns c =

@@ -8,7 +8,7 @@ use mir.Facts.{toZ-ofZ, toZ-pos}
 use lib.IntN.{pos}
 use lib.Signed.{ltZ}
 use lib.ListN.{length, getD, length-set}
-use Rattle.block.proofs.Fields.{recordAt}
+use Rattle.block.specs.Records.{delegationAt}
 use Rattle.search.proofs.Signed.{kept}
 use Rattle.rounds.specs.Rounded.{noEntry, WeightsRead}
 use Rattle.rounds.proofs.Lowering.{read-none, read-less, read-same}
@@ -16,7 +16,7 @@ use Rattle.rounds.proofs.lower.read_weights.Statement.{statement}
 use Rattle.rounds.proofs.lower.read_weights.Tie as tie
 
 abbrev Inv-loop : tie.InvT-loop
-Inv-loop block n weights₀ ds changed₀ k₀ weights changed k = (k ≤ n) × (length weights ≡ 256) × WeightsRead (recordAt block) ds k changed weights
+Inv-loop block n weights₀ ds changed₀ k₀ weights changed k = (k ≤ n) × (length weights ≡ 256) × WeightsRead (delegationAt block) ds k changed weights
 
 abbrev μ-loop : tie.MeasureT-loop
 μ-loop block n weights₀ ds changed₀ k₀ weights changed k = n - k
@@ -24,7 +24,7 @@ abbrev μ-loop : tie.MeasureT-loop
 loop-holds : tie.Need-loop-holds Inv-loop μ-loop
 loop-holds c =
     let s = c .before in
-    (omega arith, s .pre .2, read-none (recordAt (s .args .block .now)) (s .args .t2) (s .args .weights .now))
+    (omega arith, s .pre .2, read-none (delegationAt (s .args .block .now)) (s .args .t2) (s .args .weights .now))
 
 mul-d : tie.Need-mul-d Inv-loop μ-loop
 mul-d c = omega arith
@@ -54,7 +54,7 @@ loop-again : tie.Need-loop-again Inv-loop μ-loop
 loop-again c =
     let l = c .before .before .before .before .before .loop in
     let s = c .before .before .before .before .before .before .before in
-    let f = recordAt (s .args .block .now) in
+    let f = delegationAt (s .args .block .now) in
     let v = getD (s .args .t2) (l .k) noEntry .weight in
     let e = toZ-ofZ {w = w16} {z = v} record { sfits = c .before .before .struct-told .given .1 .1 .0 .1 } in
     let room : l .k < length (l .weights) = omega arith in

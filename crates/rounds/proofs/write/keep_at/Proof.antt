@@ -1,6 +1,6 @@
 -- `rounds::write::keep_at` writes a record at its new place and weight. Assumes nothing.
 use borrow.Author.Needs.{needs}
-use Rattle.block.proofs.Fields.{recordAt}
+use Rattle.block.specs.Records.{delegationAt}
 use Rattle.rounds.proofs.Writing.{none-written, weight-fits, one-written}
 use Rattle.rounds.proofs.write.keep_at.Statement.{statement}
 use Rattle.rounds.proofs.write.keep_at.Tie as tie
@@ -8,7 +8,7 @@ use Rattle.rounds.proofs.write.keep_at.Tie as tie
 returns : tie.Need-returns
 returns c =
     let s = c .before .before in
-    none-written (s .args .weight) (s .fits .weight) (c .if1 .taken) (s .args .block .now) _ (recordAt (s .args .block .now) (s .args .from))
+    none-written (s .args .weight) (s .fits .weight) (c .if1 .taken) (s .args .block .now) _ (delegationAt (s .args .block .now) (s .args .from))
 
 giver-requires : tie.Need-giver-requires
 giver-requires c κs = search needs
@@ -45,7 +45,7 @@ returns-2 c =
     let p = c .before .before in
     let e = p .before .before .before .before .before .before .before .before .before .before in
     let s = e .before .before in
-    one-written (s .args .weight) (s .fits .weight) (e .if1 .left) (s .pre .2) (s .args .block .now) _ _ _ _ _ _ (recordAt (s .args .block .now) (s .args .from))
+    one-written (s .args .weight) (s .fits .weight) (e .if1 .left) (s .pre .2) (s .args .block .now) _ _ _ _ _ _ (delegationAt (s .args .block .now) (s .args .from))
     (p .before .before .before .before .before .before .before .before .giver .ensures) (p .before .before .before .before .before .before .receiver .ensures) (p .before .before .before .before .need .ensures) (p .before .before .bar .ensures) (p .put-record .ensures)
 
 pub keep-at-spec : {M : Type 1} → statement M
