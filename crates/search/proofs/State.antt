@@ -1,4 +1,4 @@
--- The state of a search over limits, places of parents and ranks held in lists, and the steps that keep it: the invariant of the rules' search, with the sizes
+-- The state of a search over limits, places of parents and a queue, and the steps that keep it: the invariant of the rules' search, with the sizes
 -- of the lists. Assumes nothing.
 use mathlib.Core.Path.{_≡_, refl, sym, ap, subst, _∙_}
 use mathlib.Core.Logic.{_≢_, _⊎_, inl, inr}

@@ -1,4 +1,4 @@
--- A whole search: its start, the settling of one subject, its end, and how many subjects are left to settle. Assumes nothing.
+-- A whole search: its start, its turns, its end, and what falls with every turn. Assumes nothing.
 use mathlib.Core.Path.{_≡_, refl, sym, ap, subst, _∙_}
 use mathlib.Core.Logic.{_≢_, _⊎_, inl, inr}
 use mathlib.Core.Bool.{Bool, true, false, not}
@@ -33,7 +33,7 @@ use Rattle.search.proofs.Buckets.{left, left-same, left-falls, members,
 abbrev pub unsettled : List ℤ → List ℕ → ℕ
 unsettled l q = left (isSettled l q) 64
 
--- what falls with every turn: the open subjects, then the level, then how many wait there
+-- what falls with every turn: the open subjects, then the level, then how many wait there; at most 64 wait at a level, and there are 256 levels
 abbrev pub measure : List ℤ → List ℕ → ℕ → ℕ
 measure l q past = 16705 * unsettled l q + 65 * past + members (getD q (past - 1) 0)
 
