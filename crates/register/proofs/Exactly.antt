@@ -57,9 +57,6 @@ module _ (t : List ℤ) (b : List ℕ) (c : Call) where
           let n : firstOf (passed c) ≢ 0 = λ z. T-not (eqb (firstOf (passed c)) 0) q (subst T (sym (eq-eqb (firstOf (passed c)) 0 z)) tt) in
           absurd (n (sym (firstOf-some (passed c) ((8, not (wellFormed b)) ∷ []) (firstOf (passed c)) (passed-numbered c) refl n) ∙ r))
 
-  written-refusal : (o : Outcome) → written b o .refusal ≡ o .refusal
-  written-refusal o = refl
-
   step-refusal : callStep t (decode b) c .refusal ≡ refusalOf t (decode b) c
   step-refusal = callStep-cases t (decode b) c (λ (o : Outcome). o .refusal ≡ refusalOf t (decode b) c) (λ z p. accepted-refusal t (decode b) c ∙ sym z) (λ n. refl)
 
@@ -133,7 +130,7 @@ module _ (t : List ℤ) (rule : TableRule t) (b : List ℕ) (g r w n m : ℕ) wh
 -- ── reach ──
 module _ (t : List ℤ) (b : List ℕ) (g r : ℕ) (e : callOn t b (askReach g r) .refusal ≡ 0) where
   -- what is answered is the reach of the definition
-  pub answer-reach : callOn t b (askReach g r) .first ≡ reach t (decode b) g r
+  answer-reach : callOn t b (askReach g r) .first ≡ reach t (decode b) g r
   unfolding accepted
   answer-reach = ap (λ (x : Result). x .first) (through-on t b (askReach g r) (through t b (askReach g r) e))
 

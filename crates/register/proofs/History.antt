@@ -19,7 +19,6 @@ use Rattle.rules.specs.WellFormed.{WellFormed}
 use Rattle.rules.specs.Call.{Call, fresh, IsCut}
 use Rattle.rules.specs.Refusal.{firstOf, passed, held, refusalOf}
 use Rattle.rules.specs.CallStep.{Outcome, accepted, refused, callStep}
-use Rattle.rules.specs.Trace.{registerFrom}
 use Rattle.rules.proofs.Lists.{either, T-true}
 use Rattle.rules.proofs.Refusals.{Passes, passed-numbered}
 use Rattle.rules.proofs.Table.{steps-rule}
@@ -90,13 +89,6 @@ open-written b o after q z = go (eqb (length b) 2180) q
 
 -- ── down a list ──
 module _ (t : List ℤ) (rule : TableRule t) where
-  -- the blocks that the definitions lead to are the registers that they lead to, written
-  pub blockFrom-encode : (R : Register) → WellFormed R → (cs : List Call) (i : ℕ) → blockFrom t (encode R) cs i ≡ encode (registerFrom t R cs i)
-  blockFrom-encode R f cs zero = refl
-  blockFrom-encode R f [] (suc i) = refl
-  blockFrom-encode R f (c ∷ cs) (suc i) =
-      ap (λ (r : Result). blockFrom t (r .bytes) cs i) (callOn-encode t R f c) ∙ blockFrom-encode (callStep t R c .left) (callStep-formed t R c f) cs i
-
   -- one call on a well-formed register written
   pub place-right : (R : Register) → WellFormed R → (e : Entry) → result (e .answer) (e .after) ≡ callOn t (encode R) (e .call) → PlaceRight t (encode R) e
   place-right R f e q = record { result = q; cut = λ k i z. cut-left k i z }

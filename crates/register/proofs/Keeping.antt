@@ -34,7 +34,7 @@ module _ (t : List ℤ) (b : List ℕ) (c : Call) where
   written-same o n = ap (λ (x : Bool). cond x (encode (o .left)) b) (ne-eqb (o .refusal) 0 n)
 
   -- a refused call changes no byte
-  pub refused-same : callOn t b c .refusal ≢ 0 → callOn t b c .bytes ≡ b
+  refused-same : callOn t b c .refusal ≢ 0 → callOn t b c .bytes ≡ b
   unfolding callOn
   refused-same n = go (eqb (firstOf (early b c)) 0) n
     where
@@ -48,7 +48,7 @@ module _ (t : List ℤ) (b : List ℕ) (c : Call) where
   accepted-step e = let q = callOn-late t c b (early-through t b c (through t b c e)) in (q, sym (ap (λ (r : Result). r .refusal) q) ∙ e)
 
   -- an accepted call leaves the register that the definitions leave, written
-  pub accepted-left : callOn t b c .refusal ≡ 0 → callOn t b c .bytes ≡ encode (callStep t (decode b) c .left)
+  accepted-left : callOn t b c .refusal ≡ 0 → callOn t b c .bytes ≡ encode (callStep t (decode b) c .left)
   accepted-left e =
       let (q, z) = accepted-step e in
       ap (λ (r : Result). r .bytes) q ∙ ap (λ (x : Bool). cond x (encode (callStep t (decode b) c .left)) b) (eq-eqb (callStep t (decode b) c .refusal) 0 z)
