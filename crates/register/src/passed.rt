@@ -1,9 +1,29 @@
 // Refusals by what was passed: the number of the first that applies, or 0.
 ghost use mathlib.Core.Path.{_≡_};
-ghost use Rattle.rules.specs.Call.{grant, revoke, downgrade, askReach};
+ghost use Rattle.rules.specs.Call.{enrol, grant, revoke, downgrade, askReach, askUse};
 ghost use Rattle.rules.specs.Refusal.{firstOf, passed};
 use rules::most;
 use rules::refusal;
+
+// Of an enrolment.
+pub fn enrol_passed(marks: u32) -> u32
+    ensures { λ r. ⌜ r ≡ firstOf (passed (enrol marks)) ⌝ }
+{
+    if marks > most::MARKS {
+        return refusal::NO_MARKS;
+    }
+    0
+}
+
+// Of a use.
+pub fn use_passed(subject: u32) -> u32
+    ensures { λ r. ⌜ r ≡ firstOf (passed (askUse subject)) ⌝ }
+{
+    if subject > most::SUBJECT {
+        return refusal::NO_SUBJECT;
+    }
+    0
+}
 
 // Of a call that names a pair: reach, and the chain call.
 pub fn pair_passed(giver: u32, receiver: u32) -> u32
