@@ -15,7 +15,8 @@ use Rattle.rules.specs.Call.{Call, revoke, downgrade, IsCut}
 use Rattle.rules.specs.Refusal.{firstOf, passed, held}
 use Rattle.rules.specs.CallStep.{cut, accepted}
 use Rattle.rules.proofs.Calls.{removed-formed, lowered-formed}
-use Rattle.rules.proofs.Ranges.{both-few, settle-most}
+use Rattle.rules.proofs.Bound.{rounds-most}
+use Rattle.rules.proofs.Ranges.{both-few}
 use Rattle.rules.proofs.Lists.{T-true}
 use Rattle.block.specs.Bytes.{IsBytes}
 use Rattle.block.specs.Block.{decode, encode}
@@ -40,10 +41,10 @@ unfolding cut
 settled-cut t b C o after s = λ i. record { refusal = 0; first = pos (s .dropped i); second = pos (s .lowered i); third = pos (s .rounds i); bytes = s .left i }
 
 -- its counts fit
-pub settled-few : (t : List ℤ) (C : Register) → WellFormed C → (o : Answers) (after : List ℕ) → SettledMade t C o after → (o .dropped ≤ 256) × (o .lowered ≤ 256) × (o .rounds ≤ 65537)
-settled-few t C f o after s =
+pub settled-few : (t : List ℤ) → TableRule t → (C : Register) → WellFormed C → (o : Answers) (after : List ℕ) → SettledMade t C o after → (o .dropped ≤ 256) × (o .lowered ≤ 256) × (o .rounds ≤ 512)
+settled-few t rule C f o after s =
     let k = both-few C (settle t C .left) in
-    (omega (arith, s .dropped, k, f .few), omega (arith, s .lowered, k, f .few), omega (arith, s .rounds, settle-most t C f))
+    (omega (arith, s .dropped, k, f .few), omega (arith, s .lowered, k, f .few), omega (arith, s .rounds, rounds-most t rule C f .1))
 
 -- an accepted cut leaves its register, whatever block it was made on
 written-cut : (t : List ℤ) (b d : List ℕ) (C : Register) → written b (cut t C) ≡ written d (cut t C)
