@@ -78,7 +78,7 @@ module _ (t : List ℤ) (b : List ℕ) (bytes : IsBytes b) (formed : wellFormed 
   module _ (early : Early b (askReach g r)) where
     pub reach-unenrolled : not (leb (subjectsIn b) g || leb (subjectsIn b) r) ≡ false → Made t (askReach g r) b (refusedBy 9) b
     unfolding held
-    reach-unenrolled e = made-held t (askReach g r) b early 9 (ap (λ (x : Bool). cond x 9 0) (enrolled-test ∙ not-false (leb (subjectsIn b) g || leb (subjectsIn b) r) e)) (λ q. omega arith)
+    reach-unenrolled e = made-held t (askReach g r) b early 9 (ap (λ (x : Bool). cond x 9 0) (sym (enrolled-test ∙ not-false (leb (subjectsIn b) g || leb (subjectsIn b) r) e))) (λ q. omega arith)
 
     pub reach-done : not (leb (subjectsIn b) g || leb (subjectsIn b) r) ≡ true → (k : ℤ) → k ≡ reach t (decode b) g r → Made t (askReach g r) b (answeredBy k (pos 0) (pos 0)) b
     unfolding held accepted

@@ -107,13 +107,13 @@ module _ (t : List ℤ) (c : Call) (b : List ℕ) where
     unfolding refusalOf
     refusal-held = firstOf-none (passed c) (held t (decode b) c) (passed-numbered c) (h .passed)
 
-    pub made-held : (n : ℕ) → firstOf (held t (decode b) c) ≡ n → n ≢ 0 → Made t c b (refusedBy n) b
+    pub made-held : (n : ℕ) → n ≡ firstOf (held t (decode b) c) → n ≢ 0 → Made t c b (refusedBy n) b
     unfolding callStep
-    made-held n e k = sym (callOn-late ∙ go (eqb (refusalOf t (decode b) c) 0) (ap (λ (m : ℕ). eqb m 0) (refusal-held ∙ e) ∙ ne-eqb n 0 k))
+    made-held n e k = sym (callOn-late ∙ go (eqb (refusalOf t (decode b) c) 0) (ap (λ (m : ℕ). eqb m 0) (refusal-held ∙ sym e) ∙ ne-eqb n 0 k))
       where
         go : (x : Bool) → x ≡ false → let o : Outcome = elim x [ true ↦ accepted t (decode b) c | false ↦ refused (refusalOf t (decode b) c) (decode b) ] in written b o ≡ turned n b
         go true q = absurd (subst T q tt)
-        go false q = ap (λ (m : ℕ). written b (refused m (decode b))) (refusal-held ∙ e) ∙ rw (ne-eqb n 0 k)
+        go false q = ap (λ (m : ℕ). written b (refused m (decode b))) (refusal-held ∙ sym e) ∙ rw (ne-eqb n 0 k)
 
     module _ (e : firstOf (held t (decode b) c) ≡ 0) where
       pub callOn-accepted : callOn t b c ≡ written b (accepted t (decode b) c)

@@ -80,7 +80,7 @@ returns-2 c =
     let e = c .before .before .before .before in
     let s = start e in
     let b = s .args .block .now in
-    rw (c .refused2 .ensures) (cut-refused steps (call s) (change s) b (m .result) (c .before .if2 .taken) (made-held steps (call s) b (past e) (m .result) (sym (m .ensures)) (c .before .if2 .taken)))
+    rw (c .refused2 .ensures) (cut-refused steps (call s) (change s) b (m .result) (c .before .if2 .taken) (made-held steps (call s) b (past e) (m .result) (m .ensures) (c .before .if2 .taken)))
 
 cast-set-weight : tie.Need-cast-set-weight
 cast-set-weight c = omega (arith, inside (c .before .before .before .before) .0 .1 .0)

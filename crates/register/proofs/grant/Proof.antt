@@ -81,7 +81,7 @@ returns-2 c =
     let m = c .before .before .grant-held in
     let e = c .before .before .before .before in
     let s = start e in
-    rw (c .refused2 .ensures) (made-held steps (call s) (s .args .block .now) (past e) (m .result) (sym (m .ensures)) (c .before .if2 .taken))
+    rw (c .refused2 .ensures) (made-held steps (call s) (s .args .block .now) (past e) (m .result) (m .ensures) (c .before .if2 .taken))
 
 count-requires : tie.Need-count-requires
 count-requires c κs = omega (arith, past (c .before .before .before .before) .size)

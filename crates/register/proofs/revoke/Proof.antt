@@ -80,7 +80,7 @@ returns-2 c =
     let e = c .before .before .before .before in
     let s = start e in
     let b = s .args .block .now in
-    rw (c .refused2 .ensures) (cut-refused steps (call s) (change s) b (m .result) (c .before .if2 .taken) (made-held steps (call s) b (past e) (m .result) (sym (m .ensures)) (c .before .if2 .taken)))
+    rw (c .refused2 .ensures) (cut-refused steps (call s) (change s) b (m .result) (c .before .if2 .taken) (made-held steps (call s) b (past e) (m .result) (m .ensures) (c .before .if2 .taken)))
 
 cast-remove : tie.Need-cast-remove
 cast-remove c = omega (arith, inside (c .before .before .before .before) .1 .0)
