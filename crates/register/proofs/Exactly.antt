@@ -55,7 +55,7 @@ module _ (t : List ℤ) (rule : TableRule t) (b : List ℕ) (g r w n m : ℕ) wh
   light e = allowed-carried t rule (decode b) (granted g r w n m) (go (ltb (code (allowed t (decode b) (granted g r w n m))) (suc w)) e (nltb→le (code (allowed t (decode b) (granted g r w n m))) (suc w)))
     where
       go : (x : Bool) → (x || false) ≡ false → (T (not x) → suc w ≤ code (allowed t (decode b) (granted g r w n m))) → pos w ≼ allowed t (decode b) (granted g r w n m)
-      go true q h = let z : _≡_ {A = ℕ} 0 1 = cc in absurd (omega arith)
+      go true q h = absurd (subst T q tt)
       go false q h = h tt
 
   heavy-not : Carried t (decode b) (granted g r w n m) → (ltb (code (allowed t (decode b) (granted g r w n m))) (suc w) || false) ≡ false

@@ -44,8 +44,8 @@ ltb-leb m n = go (either (leb n m))
     go (inr q) = let h = nleb→lt n m q in rw (lt-ltb m n h, lt-leb n m h)
 
 not-or : (x y : Bool) → not (x || y) ≡ true → (x ≡ false) × (y ≡ false)
-not-or true y e = let z : _≡_ {A = ℕ} 0 1 = cc in absurd (omega arith)
-not-or false true e = let z : _≡_ {A = ℕ} 0 1 = cc in absurd (omega arith)
+not-or true y e = absurd (subst T (sym e) tt)
+not-or false true e = absurd (subst T (sym e) tt)
 not-or false false e = (refl, refl)
 
 -- both are enrolled

@@ -13,12 +13,6 @@ use Rattle.block.specs.Bytes.{IsBytes}
 use Rattle.block.proofs.Bytes.{bytes-append}
 use Rattle.seatreg.specs.Answers.{bits, fourBytes, answerBytes, signed, answerIn}
 
-pub add-two : (i : ℕ) → i + 2 ≡ suc (suc i)
-add-two i = omega arith
-
-pub add-three : (i : ℕ) → i + 3 ≡ suc (suc (suc i))
-add-three i = omega arith
-
 whole : (s vs : List ℕ) → length vs ≡ length s → sets s 0 vs ≡ vs ++ []
 whole s vs e =
     let h : 0 + length vs ≤ length s = omega arith in

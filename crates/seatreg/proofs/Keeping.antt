@@ -58,7 +58,7 @@ all-fit (askUse r) a b c (k, y, z) = (range-fits (omega arith) k, unused-fits y,
 
 -- ── what is handed out, of a library call's result r that is kept ──
 apart : (n : ℕ) → eqb n 0 ≡ false → n ≢ 0
-apart n q e = let z : true ≡ false = sym (eq-eqb n 0 e) ∙ q in let y : _≡_ {A = ℕ} 0 1 = cc in omega arith
+apart n q e = subst T (sym (eq-eqb n 0 e) ∙ q) tt
 
 record ResultKept (Range : ℤ → ℤ → ℤ → Type 0) (b : List ℕ) (r : Result) : Type 0 where
   refused : r .refusal ≢ 0 → r .bytes ≡ b
