@@ -7,7 +7,7 @@ use Prim.Native.Nat.{ℕ, zero, suc, _*_, _≤_, _<_}
 use native.Mathlib.Nat.{le-of-suc-le-suc, not-suc-le-zero}
 use native.Mathlib.Omega.{arith}
 use borrow.Author.Tests.{lt-ltb, le-ltb, ltb-false}
-use lib.Dec.{T, eqb, ltb, leb, not-T}
+use lib.Dec.{T, eqb, ltb, leb}
 use lib.ListN.{length, getD, take, drop, length-append}
 use lib.Seq.{take-at}
 use lib.IntN.{ℤ, pos}
@@ -25,13 +25,12 @@ use Rattle.rules.specs.Call.{askReach, granted}
 use Rattle.rules.specs.Refusal.{firstOf, passed, chainPassed, chainHeld}
 use Rattle.rules.proofs.Lists.{eqOr}
 use Rattle.rules.proofs.Refusals.{numbered}
-use Rattle.rules.proofs.WellFormed.{Before-irrefl}
 use Rattle.rules.proofs.Pairs.{test-pair}
 use Rattle.block.specs.Bytes.{IsBytes, readAll, leading}
 use Rattle.block.specs.Block.{delegationIn, subjectsIn, countIn, recordsIn, decode}
 use Rattle.block.specs.WellFormed.{wellFormed}
 use Rattle.block.proofs.Held.{held-formed, stands-found, stands-missing}
-use Rattle.block.proofs.Splice.{pairPlace}
+use Rattle.block.proofs.Splice.{pairPlace, others}
 use Rattle.search.specs.Search.{underMarks}
 use Rattle.search.specs.Found.{linkBytes, linksOf, Searched, Traceable}
 use Rattle.search.proofs.Signed.{below-weight}
@@ -95,12 +94,6 @@ module _ (g r : ℕ) where
       go true n e = absurd n
       go false n e = e
 
-  later : (d : Delegation) (ds : List Delegation) → Rising (d ∷ ds) → T (isPair g r d) → (e : Delegation) → e ∈ ds → T (not (isPair g r e))
-  later d ds s h e m = not-T (isPair g r e) (λ q.
-      let a = test-pair g r d h in
-      let b = test-pair g r e q in
-      Before-irrefl d e (a .0 ∙ sym (b .0)) (a .1 ∙ sym (b .1)) (s .0 e m))
-
   -- in a rising list only the delegation at its place is of the pair
   one-pair : (ds : List Delegation) (z : Delegation) → Rising ds → pairPlace g r ds < length ds
       → (filter (isPair g r) ds ≡ getD ds (pairPlace g r ds) z ∷ []) × T (isPair g r (getD ds (pairPlace g r ds) z))
@@ -111,7 +104,7 @@ module _ (g r : ℕ) where
           → (pairPlace g r ds < length ds → (filter (isPair g r) ds ≡ getD ds (pairPlace g r ds) z ∷ []) × T (isPair g r (getD ds (pairPlace g r ds) z)))
           → cond (not x) (suc (pairPlace g r ds)) zero < suc (length ds)
           → let k = cond (not x) (suc (pairPlace g r ds)) zero in (keep x d (filter (isPair g r) ds) ≡ getD (d ∷ ds) k z ∷ []) × T (isPair g r (getD (d ∷ ds) k z))
-      go true q ih m = let h = subst T (sym q) tt in (ap (λ (xs : List Delegation). d ∷ xs) (none-pair ds (later d ds s h)), h)
+      go true q ih m = let h = subst T (sym q) tt in (ap (λ (xs : List Delegation). d ∷ xs) (none-pair ds (others g r d ds s h)), h)
       go false q ih m = ih (le-of-suc-le-suc m)
 
 -- ── refused by what the register holds ──
