@@ -48,11 +48,12 @@ pub record Early (b : List ℕ) (c : Call) : Type 0 where
   pub formed : wellFormed b ≡ true
 
 -- as the code finds them: the refusal by what was passed is one number, or 0
-abbrev earlyOf : List ℕ → ℕ → List (ℕ × Bool)
+abbrev pub earlyOf : List ℕ → ℕ → List (ℕ × Bool)
 earlyOf b n = wrongLength b ∷ (n, not (eqb n 0)) ∷ notWellFormed b ∷ []
 
 module _ (b : List ℕ) (c : Call) where
-  early-one : firstOf (early b c) ≡ firstOf (earlyOf b (firstOf (passed c)))
+  -- the refusals by what was passed, as one number
+  pub early-one : firstOf (early b c) ≡ firstOf (earlyOf b (firstOf (passed c)))
   early-one =
       ap (λ (n : ℕ). cond (not (eqb (length b) 2180)) 1 n) (firstOf-append (passed c) (notWellFormed b ∷ []) (passed-numbered c) ∙ turn (eqb (firstOf (passed c)) 0) (cond (not (wellFormed b)) 8 0) (firstOf (passed c)))
     where
