@@ -110,7 +110,7 @@ module _ (g r : ℕ) where
   pairPlace ds = leading (λ d. not (isPair g r d)) ds
 
   -- after its delegation in a rising list no other is of the pair
-  others : (d : Delegation) (ds : List Delegation) → Rising (d ∷ ds) → T (isPair g r d) → (e : Delegation) → e ∈ ds → T (not (isPair g r e))
+  pub others : (d : Delegation) (ds : List Delegation) → Rising (d ∷ ds) → T (isPair g r d) → (e : Delegation) → e ∈ ds → T (not (isPair g r e))
   others d ds s t e m = not-T (isPair g r e) (λ q.
       let a = test-pair g r d t in
       let b = test-pair g r e q in
@@ -126,9 +126,6 @@ module _ (g r : ℕ) where
       go false q h = λ j. d ∷ h j
 
   module _ (w : ℕ) where
-    setTo : Delegation → Delegation
-    setTo d = cond (isPair g r d) (reweigh d w) d
-
     untouched : (d : Delegation) → T (not (isPair g r d)) → cond (isPair g r d) (reweigh d w) d ≡ d
     untouched d h = go (isPair g r d) h
       where

@@ -21,7 +21,7 @@ use Rattle.callfile.specs.CallFile.{answerLine}
 use Rattle.callfile.specs.Row.{Answered}
 
 -- a line of allowed values fits where there are 12 bytes a value
-pub line-room : (at : ℕ) (zs : List ℤ) (out : List ℕ) → AllAllowed true zs → at + 12 * length zs ≤ length out → Room at (line zs) out
+line-room : (at : ℕ) (zs : List ℤ) (out : List ℕ) → AllAllowed true zs → at + 12 * length zs ≤ length out → Room at (line zs) out
 line-room at zs out a h = omega (arith, line-short zs a)
 
 -- ── values as the machine holds them ──

@@ -44,7 +44,7 @@ ranges-join [] c a h = (h, tt)
 ranges-join (d ∷ cs) c a h = (a .0, ranges-join cs c (a .1) h)
 
 -- a call's line has at least 14 bytes
-pub line-min : (c : Call) → 14 ≤ length (callLine c)
+line-min : (c : Call) → 14 ≤ length (callLine c)
 line-min c = omega (arith, line-long (values c), seven-values c)
 
 pub no-call-end : NoCall []

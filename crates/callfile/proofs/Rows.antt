@@ -15,40 +15,30 @@ use Rattle.replay.specs.Replay.{isCall, callOf}
 use Rattle.callfile.specs.CallFile.{row, values}
 use Rattle.callfile.specs.Row.{zeros, isRow}
 
--- ── a call's values pass the test ──
+-- ── a call's values pass the test, and are its own ──
 abbrev column : List ℤ → ℕ → ℕ
 column zs i = natAbs (getD zs i (pos 0))
 
 abbrev test : List ℤ → Bool
 test zs = isRow (column zs 0) (column zs 1) (column zs 2) (column zs 3) (column zs 4) (column zs 5) (column zs 6)
 
-test-call : (c : Call) → test (values c) ≡ true
-unfolding isRow
-test-call (enrol m) = refl
-test-call (grant g r w n b) = refl
-test-call (revoke y g r) = refl
-test-call (downgrade y g r w) = refl
-test-call (askReach g r) = refl
-test-call (askUse r) = refl
-
-pub row-none : (number by giver receiver weight need bar : ℕ) → isRow number by giver receiver weight need bar ≡ false → (c : Call) → row number by giver receiver weight need bar ≢ values c
-row-none number by giver receiver weight need bar e c q = clash (sym e ∙ ap test q ∙ test-call c)
-
--- the call of a call's values is that call
 abbrev callIn : List ℤ → Call
 callIn zs = callOf (column zs 0) (column zs 1) (column zs 2) (column zs 3) (column zs 4) (column zs 5) (column zs 6)
 
-call-in : (c : Call) → callIn (values c) ≡ c
-unfolding callOf
-call-in (enrol m) = refl
-call-in (grant g r w n b) = refl
-call-in (revoke y g r) = refl
-call-in (downgrade y g r w) = refl
-call-in (askReach g r) = refl
-call-in (askUse r) = refl
+read-back : (c : Call) → (test (values c) ≡ true) × (callIn (values c) ≡ c)
+unfolding isRow callOf
+read-back (enrol m) = (refl, refl)
+read-back (grant g r w n b) = (refl, refl)
+read-back (revoke y g r) = (refl, refl)
+read-back (downgrade y g r w) = (refl, refl)
+read-back (askReach g r) = (refl, refl)
+read-back (askUse r) = (refl, refl)
+
+pub row-none : (number by giver receiver weight need bar : ℕ) → isRow number by giver receiver weight need bar ≡ false → (c : Call) → row number by giver receiver weight need bar ≢ values c
+row-none number by giver receiver weight need bar e c q = clash (sym e ∙ ap test q ∙ read-back c .0)
 
 pub values-inj : (c d : Call) → values c ≡ values d → c ≡ d
-values-inj c d e = sym (call-in c) ∙ ap callIn e ∙ call-in d
+values-inj c d e = sym (read-back c .1) ∙ ap callIn e ∙ read-back d .1
 
 -- ── what passes the test is a call's values ──
 zeros-true : (a b c d e : ℕ) → zeros a b c d e ≡ true → (a ≡ 0) × (b ≡ 0) × (c ≡ 0) × (d ≡ 0) × (e ≡ 0)

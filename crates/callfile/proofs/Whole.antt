@@ -32,7 +32,7 @@ pub names-length : length callNames ≡ 39
 unfolding callNames
 names-length = refl
 
-pub answer-names-length : length answerNames ≡ 27
+answer-names-length : length answerNames ≡ 27
 unfolding answerNames
 answer-names-length = refl
 

@@ -37,13 +37,13 @@ module _ {A B C : Type 0} (g : A → B) (f : B → C) where
 
 module _ (t : List ℤ) where
   -- ── the trace on bytes is the trace on registers, written ──
-  pub traceOnFrom-encode : (R : Register) → WellFormed R → (cs : List Call) → traceOnFrom t (encode R) cs ≡ map onBytes (traceFrom t R cs)
+  traceOnFrom-encode : (R : Register) → WellFormed R → (cs : List Call) → traceOnFrom t (encode R) cs ≡ map onBytes (traceFrom t R cs)
   traceOnFrom-encode R f [] = refl
   traceOnFrom-encode R f (c ∷ cs) =
       ap (λ (r : Result). r ∷ traceOnFrom t (r .bytes) cs) (callOn-encode t R f c)
       ∙ ap (λ (rs : List Result). onBytes (callStep t R c) ∷ rs) (traceOnFrom-encode (callStep t R c .left) (callStep-formed t R c f) cs)
 
-  pub traceOn-encode : (cs : List Call) → traceOn t cs ≡ map onBytes (trace t cs)
+  traceOn-encode : (cs : List Call) → traceOn t cs ≡ map onBytes (trace t cs)
   traceOn-encode cs = traceOnFrom-encode fresh fresh-formed cs
 
   last-block : (R : Register) → WellFormed R → (c : Call) (cs : List Call) → decode (blockFrom t (encode R) (c ∷ cs) (suc (length cs))) .delegations ≡ lastLeft (traceFrom t R (c ∷ cs))
@@ -55,7 +55,7 @@ module _ (t : List ℤ) where
       ∙ last-block (callStep t R c .left) (callStep-formed t R c f) d ds
 
   -- the last block holds the delegations that the last call left
-  pub blockAt-last : (cs : List Call) → decode (blockAt t cs (length cs)) .delegations ≡ lastLeft (trace t cs)
+  blockAt-last : (cs : List Call) → decode (blockAt t cs (length cs)) .delegations ≡ lastLeft (trace t cs)
   blockAt-last [] = ap (λ (S : Register). S .delegations) (decode-encode fresh fresh-formed)
   blockAt-last (c ∷ cs) = last-block fresh fresh-formed c cs
 
@@ -65,18 +65,9 @@ module _ (t : List ℤ) where
   result-at b (c ∷ cs) zero r a = (c, refl, sym a)
   result-at b (c ∷ cs) (suc i) r a = result-at (callOn t b c .bytes) cs i r a
 
-  call-at : (b : List ℕ) (cs : List Call) (i : ℕ) (c : Call) → At cs i c → At (traceOnFrom t b cs) i (callOn t (blockFrom t b cs i) c)
-  call-at b [] i c a = absurd a
-  call-at b (x ∷ xs) zero c a = ap (λ (y : Call). callOn t b y) a
-  call-at b (x ∷ xs) (suc i) c a = call-at (callOn t b x .bytes) xs i c a
-
   -- the result at place i is that of the call at place i on the block S i
   pub trace-blocks : (cs : List Call) (i : ℕ) (r : Result) → At (traceOn t cs) i r → (c : Call) × At cs i c × (r ≡ callOn t (blockAt t cs i) c)
   trace-blocks cs i r a = result-at (encode fresh) cs i r a
-
-  -- and every call has its result there
-  pub trace-calls : (cs : List Call) (i : ℕ) (c : Call) → At cs i c → At (traceOn t cs) i (callOn t (blockAt t cs i) c)
-  trace-calls cs i c a = call-at (encode fresh) cs i c a
 
   history-from : (b : List ℕ) (es : List Entry) → History t b es → map (λ e. result (e .answer) (e .after)) es ≡ traceOnFrom t b (calls es)
   history-from b [] h = refl
@@ -91,7 +82,7 @@ module _ (t : List ℤ) where
 -- ── the examples ──
 
 -- the calls on bytes make of an example what the definitions make of it
-pub computed-on : (e : Example) → computedOn e ≡ computed e
+computed-on : (e : Example) → computedOn e ≡ computed e
 computed-on e = λ i. record { refusals = refusals i; printed = printed i; standing = blockAt-last steps (e .given ++ e .calls) i }
   where
     refusals : computedOn e .refusals ≡ computed e .refusals

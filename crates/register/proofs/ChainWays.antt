@@ -6,8 +6,8 @@ use mathlib.Core.List.{List, [], _∷_, _++_, List·Memᴰ·head, List·Memᴰ·
 use Prim.Native.Nat.{ℕ, zero, suc, _*_, _≤_, _<_}
 use native.Mathlib.Nat.{le-of-suc-le-suc, not-suc-le-zero}
 use native.Mathlib.Omega.{arith}
-use borrow.Author.Tests.{eq-eqb, ne-eqb, lt-ltb, le-ltb, ltb-false}
-use lib.Dec.{T, ltb, leb, not-T, nltb→le}
+use borrow.Author.Tests.{lt-ltb, le-ltb, ltb-false}
+use lib.Dec.{T, eqb, ltb, leb}
 use lib.ListN.{length, getD, take, drop, length-append}
 use lib.Seq.{take-at}
 use lib.IntN.{ℤ, pos}
@@ -22,22 +22,22 @@ use Rattle.rules.specs.Support.{ChainFor, allowed}
 use Rattle.rules.specs.Pair.{isPair, weightAt, stands}
 use Rattle.rules.specs.WellFormed.{Rising}
 use Rattle.rules.specs.Call.{askReach, granted}
-use Rattle.rules.specs.Refusal.{firstOf, passed, chainHeld}
-use Rattle.rules.proofs.Lists.{eqOr, not-or-left, not-or-right}
-use Rattle.rules.proofs.Refusals.{firstOf-passes, passed-numbered}
-use Rattle.rules.proofs.WellFormed.{Before-irrefl}
+use Rattle.rules.specs.Refusal.{firstOf, passed, chainPassed, chainHeld}
+use Rattle.rules.proofs.Lists.{eqOr}
+use Rattle.rules.proofs.Refusals.{numbered}
 use Rattle.rules.proofs.Pairs.{test-pair}
 use Rattle.block.specs.Bytes.{IsBytes, readAll, leading}
 use Rattle.block.specs.Block.{delegationIn, subjectsIn, countIn, recordsIn, decode}
 use Rattle.block.specs.WellFormed.{wellFormed}
 use Rattle.block.proofs.Held.{held-formed, stands-found, stands-missing}
-use Rattle.block.proofs.Splice.{pairPlace}
+use Rattle.block.proofs.Splice.{pairPlace, others}
 use Rattle.search.specs.Search.{underMarks}
 use Rattle.search.specs.Found.{linkBytes, linksOf, Searched, Traceable}
 use Rattle.search.proofs.Signed.{below-weight}
 use Rattle.search.proofs.Written.{bytes-length}
 use Rattle.search.proofs.Ready.{limit-reach, traceable}
 use Rattle.search.proofs.Searching.{reach-marks, records-held, lent-held, reach-found, chain-found}
+use Rattle.register.specs.CallOn.{notWellFormed, early}
 use Rattle.register.specs.ChainOn.{chainRefusalOn, unwrittenBy, ChainLeft, ChainMade, ChainFront}
 use Rattle.register.specs.declared.Written.{Written}
 use Rattle.register.proofs.Made.{firstOf-none, firstOf-some}
@@ -94,12 +94,6 @@ module _ (g r : ℕ) where
       go true n e = absurd n
       go false n e = e
 
-  later : (d : Delegation) (ds : List Delegation) → Rising (d ∷ ds) → T (isPair g r d) → (e : Delegation) → e ∈ ds → T (not (isPair g r e))
-  later d ds s h e m = not-T (isPair g r e) (λ q.
-      let a = test-pair g r d h in
-      let b = test-pair g r e q in
-      Before-irrefl d e (a .0 ∙ sym (b .0)) (a .1 ∙ sym (b .1)) (s .0 e m))
-
   -- in a rising list only the delegation at its place is of the pair
   one-pair : (ds : List Delegation) (z : Delegation) → Rising ds → pairPlace g r ds < length ds
       → (filter (isPair g r) ds ≡ getD ds (pairPlace g r ds) z ∷ []) × T (isPair g r (getD ds (pairPlace g r ds) z))
@@ -110,7 +104,7 @@ module _ (g r : ℕ) where
           → (pairPlace g r ds < length ds → (filter (isPair g r) ds ≡ getD ds (pairPlace g r ds) z ∷ []) × T (isPair g r (getD ds (pairPlace g r ds) z)))
           → cond (not x) (suc (pairPlace g r ds)) zero < suc (length ds)
           → let k = cond (not x) (suc (pairPlace g r ds)) zero in (keep x d (filter (isPair g r) ds) ≡ getD (d ∷ ds) k z ∷ []) × T (isPair g r (getD (d ∷ ds) k z))
-      go true q ih m = let h = subst T (sym q) tt in (ap (λ (xs : List Delegation). d ∷ xs) (none-pair ds (later d ds s h)), h)
+      go true q ih m = let h = subst T (sym q) tt in (ap (λ (xs : List Delegation). d ∷ xs) (none-pair ds (others g r d ds s h)), h)
       go false q ih m = ih (le-of-suc-le-suc m)
 
 -- ── refused by what the register holds ──
@@ -158,52 +152,38 @@ module _ (t : List ℤ) (b : List ℕ) (bytes : IsBytes b) (formed : wellFormed 
           subst (λ (x : ℕ). ChainLeft t (decode b) g r (weightAt (decode b .delegations) g r) x buf o after) n
           (subst (λ (x : ℤ). ChainLeft t (decode b) g r x (cond (ltZ (reach t (decode b) g r) (pos w)) 16 0) buf o after) v q)
 
--- ── what a call that passed may rely on ──
-pub pair-through : (g r : ℕ) → firstOf (passed (askReach g r)) ≡ 0 → (g ≤ 63) × (r ≤ 63)
-unfolding passed
-pair-through g r e =
-    let p = firstOf-passes (passed (askReach g r)) (passed-numbered (askReach g r)) e in (
-      nltb→le 63 g (not-or-left (ltb 63 g) (ltb 63 r || false) (p .0)),
-      nltb→le 63 r (not-or-left (ltb 63 r) false (not-or-right (ltb 63 g) (ltb 63 r || false) (p .0))),
-    )
-
--- ── refused by the lengths, by what was passed, by the form of the block ──
+-- ── refused by the buffer's length, by 1, by what was passed, by 8 ──
 module _ (t : List ℤ) (b : List ℕ) (g r : ℕ) (buf : List ℕ) where
   chain-refused : (n : ℕ) → chainRefusalOn t b g r buf ≡ n → n ≢ 0 → ChainMade t b g r buf (unwrittenBy n) buf
   chain-refused n e k = left-refused t (decode b) g r (weightAt (decode b .delegations) g r) (chainRefusalOn t b g r buf) n buf e k
 
-  pub chain-block : length b ≢ 2180 → ChainMade t b g r buf (unwrittenBy 1) buf
+  pub chain-buffer : length buf < 126 → ChainMade t b g r buf (unwrittenBy 1) buf
   unfolding chainRefusalOn
-  chain-block h = chain-refused 1 (rw (ne-eqb (length b) 2180 h)) (λ z. omega arith)
+  chain-buffer h = chain-refused 1 (rw (lt-ltb (length buf) 126 h) (or-true (not (eqb (length b) 2180)))) (λ z. omega arith)
+    where
+      or-true : (x : Bool) → cond (x || true) 1 (firstOf (chainPassed g r ++ (notWellFormed b ∷ chainHeld t (decode b) g r))) ≡ 1
+      or-true true = refl
+      or-true false = refl
 
-  module _ (size : length b ≡ 2180) where
-    pub chain-buffer : length buf < 126 → ChainMade t b g r buf (unwrittenBy 1) buf
-    unfolding chainRefusalOn
-    chain-buffer h = chain-refused 1 (rw (eq-eqb (length b) 2180 size, lt-ltb (length buf) 126 h)) (λ z. omega arith)
+  early-numbered : T (numbered (early b (askReach g r)))
+  unfolding passed
+  early-numbered = tt
 
-    module _ (room : 126 ≤ length buf) where
-      past-lengths : chainRefusalOn t b g r buf ≡ firstOf (passed (askReach g r) ++ ((8, not (wellFormed b)) ∷ chainHeld t (decode b) g r))
-      unfolding chainRefusalOn passed
-      past-lengths = rw (eq-eqb (length b) 2180 size, le-ltb (length buf) 126 room)
+  module _ (room : 126 ≤ length buf) where
+    -- with room in the buffer, the refusals of a reach before those by what the register holds
+    past-buffer : chainRefusalOn t b g r buf ≡ firstOf (early b (askReach g r) ++ chainHeld t (decode b) g r)
+    unfolding chainRefusalOn passed
+    past-buffer = rw (le-ltb (length buf) 126 room, or-false (not (eqb (length b) 2180)))
 
-      pub chain-passed : (n : ℕ) → firstOf (passed (askReach g r)) ≡ n → n ≢ 0 → ChainMade t b g r buf (unwrittenBy n) buf
-      chain-passed n e k =
-          chain-refused n (past-lengths ∙ firstOf-some (passed (askReach g r)) ((8, not (wellFormed b)) ∷ chainHeld t (decode b) g r) n (passed-numbered (askReach g r)) e k) k
+    pub chain-early : (n : ℕ) → firstOf (early b (askReach g r)) ≡ n → n ≢ 0 → ChainMade t b g r buf (unwrittenBy n) buf
+    chain-early n e k = chain-refused n (past-buffer ∙ firstOf-some (early b (askReach g r)) (chainHeld t (decode b) g r) n early-numbered e k) k
 
-      module _ (through : firstOf (passed (askReach g r)) ≡ 0) where
-        past-passed : (x : Bool) → wellFormed b ≡ x → chainRefusalOn t b g r buf ≡ cond (not x) 8 (firstOf (chainHeld t (decode b) g r))
-        past-passed x q =
-            past-lengths
-            ∙ firstOf-none (passed (askReach g r)) ((8, not (wellFormed b)) ∷ chainHeld t (decode b) g r) (passed-numbered (askReach g r)) through
-            ∙ ap (λ (y : Bool). cond (not y) 8 (firstOf (chainHeld t (decode b) g r))) q
-
-        pub chain-form : wellFormed b ≡ false → ChainMade t b g r buf (unwrittenBy 8) buf
-        chain-form q = chain-refused 8 (past-passed false q) (λ z. omega arith)
-
-        -- past these what is left is what the register allows
-        pub chain-made : wellFormed b ≡ true → (o : Written) (after : List ℕ)
-            → ChainLeft t (decode b) g r (weightAt (decode b .delegations) g r) (firstOf (chainHeld t (decode b) g r)) buf o after → ChainMade t b g r buf o after
-        chain-made q o after h = subst (λ (x : ℕ). ChainLeft t (decode b) g r (weightAt (decode b .delegations) g r) x buf o after) (sym (past-passed true q)) h
+    -- past these what is left is what the register allows
+    pub chain-made : firstOf (early b (askReach g r)) ≡ 0 → (o : Written) (after : List ℕ)
+        → ChainLeft t (decode b) g r (weightAt (decode b .delegations) g r) (firstOf (chainHeld t (decode b) g r)) buf o after → ChainMade t b g r buf o after
+    chain-made e o after h =
+        subst (λ (x : ℕ). ChainLeft t (decode b) g r (weightAt (decode b .delegations) g r) x buf o after)
+        (sym (past-buffer ∙ firstOf-none (early b (askReach g r)) (chainHeld t (decode b) g r) early-numbered e)) h
 
 -- ── the front handed back ──
 module _ (t : List ℤ) (b : List ℕ) (g r : ℕ) (buf : List ℕ) (o : Written) (after : List ℕ) (made : ChainMade t b g r buf o after) where

@@ -1,20 +1,19 @@
 -- Refusals of a cut by what the register holds, test by test as the code makes them; and what a cut that is not refused may rely on. Assumes nothing.
 use mathlib.Core.Path.{_≡_, refl, sym, ap, _∙_}
 use mathlib.Core.Logic.{_≢_}
-use mathlib.Core.Bool.{Bool, true, false, cond, not, _||_}
+use mathlib.Core.Bool.{Bool, true, cond, not, _||_}
 use mathlib.Core.List.{List, [], _∷_, _++_}
-use Prim.Native.Nat.{ℕ, suc, _*_, _≤_, _<_}
-use lib.Dec.{T, leb, leb·suc-suc, ltb, eqb, nltb→le}
+use Prim.Native.Nat.{ℕ, suc, _*_, _<_}
+use lib.Dec.{T, leb, leb·suc-suc, eqb}
 use lib.ListN.{drop}
 use lib.IntN.{ℤ}
-use Rattle.rules.specs.List.{any}
 use Rattle.rules.specs.Limit.{code}
 use Rattle.rules.specs.Register.{Register}
 use Rattle.rules.specs.Pair.{isPair, weightAt, stands}
 use Rattle.rules.specs.Call.{revoke, downgrade}
-use Rattle.rules.specs.Refusal.{firstOf, passed, held, notBelow}
-use Rattle.rules.proofs.Lists.{not-or-left, not-or-right, not-not, T-true}
-use Rattle.rules.proofs.Refusals.{numbered, firstOf-passes, passed-numbered}
+use Rattle.rules.specs.Refusal.{firstOf, held, notBelow}
+use Rattle.rules.proofs.Lists.{not-not, T-true}
+use Rattle.rules.proofs.Refusals.{numbered, firstOf-passes}
 use Rattle.block.specs.Bytes.{IsBytes, readAll, leading}
 use Rattle.block.specs.Block.{delegationIn, subjectsIn, countIn, decode}
 use Rattle.block.specs.WellFormed.{wellFormed}
@@ -69,23 +68,3 @@ module _ (t : List ℤ) (b : List ℕ) (bytes : IsBytes b) (formed : wellFormed 
     downgrade-last w v e x q =
         let s : code (weightAt (decode b .delegations) g r) ≡ suc v = ap code (weight-stands b bytes formed g r k place revoke-found) ∙ ap suc (sym e) in
         downgrade-weighed t (decode b) y g r w through ∙ ap (λ (n : ℕ). cond (leb n (suc w)) 15 0) s ∙ ap (λ (c : Bool). cond c 15 0) (leb·suc-suc v w ∙ q)
-
--- ── what a cut that passed may rely on ──
-subjects-within : (y g r : ℕ) → T (not (any (λ x. ltb 63 x) (y ∷ g ∷ r ∷ []))) → (y ≤ 63) × (g ≤ 63) × (r ≤ 63)
-subjects-within y g r h =
-    let pair = not-or-right (ltb 63 y) (ltb 63 g || (ltb 63 r || false)) h in (
-      nltb→le 63 y (not-or-left (ltb 63 y) (ltb 63 g || (ltb 63 r || false)) h),
-      nltb→le 63 g (not-or-left (ltb 63 g) (ltb 63 r || false) pair),
-      nltb→le 63 r (not-or-left (ltb 63 r) false (not-or-right (ltb 63 g) (ltb 63 r || false) pair)),
-    )
-
-pub revoke-through : (y g r : ℕ) → firstOf (passed (revoke y g r)) ≡ 0 → (y ≤ 63) × (g ≤ 63) × (r ≤ 63)
-unfolding passed
-revoke-through y g r e = subjects-within y g r (firstOf-passes (passed (revoke y g r)) (passed-numbered (revoke y g r)) e .0)
-
-pub downgrade-through : (y g r w : ℕ) → firstOf (passed (downgrade y g r w)) ≡ 0 → (y ≤ 63) × (g ≤ 63) × (r ≤ 63) × (w ≤ 255)
-unfolding passed
-downgrade-through y g r w e =
-    let p = firstOf-passes (passed (downgrade y g r w)) (passed-numbered (downgrade y g r w)) e in
-    let (a, b, c) = subjects-within y g r (p .0) in
-    (a, b, c, nltb→le 255 w (p .1 .0))

@@ -2,12 +2,11 @@
 use mathlib.Core.Path.{_≡_, refl, sym, ap, subst, _∙_}
 use mathlib.Core.Logic.{_≢_, _⊎_, inl, inr}
 use mathlib.Core.Bool.{Bool, true, false, cond, not, _||_}
-use mathlib.Core.List.{List, [], _∷_, _++_}
+use mathlib.Core.List.{List, [], _∷_}
 use Prim.Native.Nat.{ℕ, suc, _≤_}
 use native.Mathlib.Omega.{arith}
 use borrow.Author.Tests.{eq-eqb, le-ltb}
-use lib.Dec.{T, eqb, ltb, eqb→eq, nltb→le, T-not}
-use lib.ListN.{length}
+use lib.Dec.{T, eqb, ltb, eqb→eq, nltb→le}
 use lib.IntN.{ℤ, pos}
 use Rattle.rules.specs.Limit.{none, code, _≼_}
 use Rattle.rules.specs.Table.{TableRule}
@@ -17,17 +16,14 @@ use Rattle.rules.specs.Reach.{IsReach, reach}
 use Rattle.rules.specs.Support.{allowed, Carried}
 use Rattle.rules.specs.Call.{Call, grant, askReach, granted}
 use Rattle.rules.specs.Refusal.{firstOf, passed, held, notEnrolled, pairStands, allStand, overweight, refusalOf}
-use Rattle.rules.specs.CallStep.{Outcome, accepted, refused, callStep}
-use Rattle.rules.proofs.Lists.{either, not-false}
-use Rattle.rules.proofs.Refusals.{passed-numbered}
+use Rattle.rules.specs.CallStep.{Outcome, accepted, callStep}
 use Rattle.rules.proofs.Reach.{reach-is, reach-only}
 use Rattle.rules.proofs.Support.{allowed-carried, carried-allowed}
 use Rattle.rules.proofs.Calls.{accepted-refusal, callStep-cases}
 use Rattle.block.specs.Block.{decode}
-use Rattle.block.specs.WellFormed.{wellFormed}
 use Rattle.register.specs.CallOn.{Result, early, turned, written, callOn}
 use Rattle.register.specs.Exactly.{Grantable, GrantExactly, ReachAnswer, ReachExactly}
-use Rattle.register.proofs.Made.{firstOf-none, firstOf-some, refusal-held}
+use Rattle.register.proofs.Made.{Early, early-none, refusal-held, callOn-accepted}
 
 -- ── a list of refusals of which none applies ──
 firstOf-head : (n : ℕ) (x : Bool) (ps : List (ℕ × Bool)) → n ≢ 0 → firstOf ((n, x) ∷ ps) ≡ 0 → (x ≡ false) × (firstOf ps ≡ 0)
@@ -36,30 +32,10 @@ firstOf-head n false ps k e = (refl, e)
 
 -- a call that is accepted on bytes passed 1, what was passed, 8 and what the register holds
 pub record Through (t : List ℤ) (b : List ℕ) (c : Call) : Type 0 where
-  pub size : length b ≡ 2180
-  pub passed : firstOf (passed c) ≡ 0
-  pub formed : wellFormed b ≡ true
+  pub early : Early b c
   pub held : firstOf (held t (decode b) c) ≡ 0
 
 module _ (t : List ℤ) (b : List ℕ) (c : Call) where
-  early-none : firstOf (early b c) ≡ 0 → (length b ≡ 2180) × (firstOf (passed c) ≡ 0) × (wellFormed b ≡ true)
-  early-none e =
-      let (x, r) = firstOf-head 1 (not (eqb (length b) 2180)) (passed c ++ ((8, not (wellFormed b)) ∷ [])) (λ q. omega arith) e in
-      go x r (either (eqb (firstOf (passed c)) 0))
-    where
-      go : not (eqb (length b) 2180) ≡ false → firstOf (passed c ++ ((8, not (wellFormed b)) ∷ [])) ≡ 0 → T (eqb (firstOf (passed c)) 0) ⊎ T (not (eqb (firstOf (passed c)) 0))
-          → (length b ≡ 2180) × (firstOf (passed c) ≡ 0) × (wellFormed b ≡ true)
-      go x r (inl q) =
-          let z = eqb→eq (firstOf (passed c)) 0 q in
-          let y = firstOf-head 8 (not (wellFormed b)) [] (λ k. omega arith) (sym (firstOf-none (passed c) ((8, not (wellFormed b)) ∷ []) (passed-numbered c) z) ∙ r) in
-          (eqb→eq (length b) 2180 (subst T (sym (not-false (eqb (length b) 2180) x)) tt), z, not-false (wellFormed b) (y .0))
-      go x r (inr q) =
-          let n : firstOf (passed c) ≢ 0 = λ z. T-not (eqb (firstOf (passed c)) 0) q (subst T (sym (eq-eqb (firstOf (passed c)) 0 z)) tt) in
-          absurd (n (sym (firstOf-some (passed c) ((8, not (wellFormed b)) ∷ []) (firstOf (passed c)) (passed-numbered c) refl n) ∙ r))
-
-  written-refusal : (o : Outcome) → written b o .refusal ≡ o .refusal
-  written-refusal o = refl
-
   step-refusal : callStep t (decode b) c .refusal ≡ refusalOf t (decode b) c
   step-refusal = callStep-cases t (decode b) c (λ (o : Outcome). o .refusal ≡ refusalOf t (decode b) c) (λ z p. accepted-refusal t (decode b) c ∙ sym z) (λ n. refl)
 
@@ -69,25 +45,9 @@ module _ (t : List ℤ) (b : List ℕ) (c : Call) where
     where
       go : (x : Bool) → eqb (firstOf (early b c)) 0 ≡ x → (let r : Result = elim x [ true ↦ written b (callStep t (decode b) c) | false ↦ turned (firstOf (early b c)) b ] in r .refusal ≡ 0) → Through t b c
       go true q z =
-          let (s, p, f) = early-none (eqb→eq (firstOf (early b c)) 0 (subst T (sym q) tt)) in
-          record { size = s; passed = p; formed = f; held = sym (refusal-held t c b p) ∙ sym step-refusal ∙ z }
-      go false q z = let y = sym (eq-eqb (firstOf (early b c)) 0 z) ∙ q in let n : _≡_ {A = ℕ} 0 1 = cc in absurd (omega arith)
-
-  pub early-through : Through t b c → firstOf (early b c) ≡ 0
-  early-through h = rw (eq-eqb (length b) 2180 (h .size)) (firstOf-none (passed c) ((8, not (wellFormed b)) ∷ []) (passed-numbered c) (h .passed) ∙ ap (λ (x : Bool). cond (not x) 8 0) (h .formed))
-
-  -- and then it is the accepted call
-  pub through-on : Through t b c → callOn t b c ≡ written b (accepted t (decode b) c)
-  unfolding callOn callStep
-  through-on h = go (eqb (firstOf (early b c)) 0) (eq-eqb (firstOf (early b c)) 0 (early-through h))
-    where
-      step : (y : Bool) → y ≡ true → let o : Outcome = elim y [ true ↦ accepted t (decode b) c | false ↦ refused (refusalOf t (decode b) c) (decode b) ] in written b o ≡ written b (accepted t (decode b) c)
-      step true q = refl
-      step false q = let n : _≡_ {A = ℕ} 0 1 = cc in absurd (omega arith)
-
-      go : (x : Bool) → x ≡ true → let r : Result = elim x [ true ↦ written b (callStep t (decode b) c) | false ↦ turned (firstOf (early b c)) b ] in r ≡ written b (accepted t (decode b) c)
-      go true q = step (eqb (refusalOf t (decode b) c) 0) (eq-eqb (refusalOf t (decode b) c) 0 (refusal-held t c b (h .passed) ∙ h .held))
-      go false q = let n : _≡_ {A = ℕ} 0 1 = cc in absurd (omega arith)
+          let h = early-none b c (eqb→eq (firstOf (early b c)) 0 (subst T (sym q) tt)) in
+          record { early = h; held = sym (refusal-held t c b h) ∙ sym step-refusal ∙ z }
+      go false q z = absurd (subst T (sym (eq-eqb (firstOf (early b c)) 0 z) ∙ q) tt)
 
 -- ── grant ──
 module _ (t : List ℤ) (rule : TableRule t) (b : List ℕ) (g r w n m : ℕ) where
@@ -95,7 +55,7 @@ module _ (t : List ℤ) (rule : TableRule t) (b : List ℕ) (g r w n m : ℕ) wh
   light e = allowed-carried t rule (decode b) (granted g r w n m) (go (ltb (code (allowed t (decode b) (granted g r w n m))) (suc w)) e (nltb→le (code (allowed t (decode b) (granted g r w n m))) (suc w)))
     where
       go : (x : Bool) → (x || false) ≡ false → (T (not x) → suc w ≤ code (allowed t (decode b) (granted g r w n m))) → pos w ≼ allowed t (decode b) (granted g r w n m)
-      go true q h = let z : _≡_ {A = ℕ} 0 1 = cc in absurd (omega arith)
+      go true q h = absurd (subst T q tt)
       go false q h = h tt
 
   heavy-not : Carried t (decode b) (granted g r w n m) → (ltb (code (allowed t (decode b) (granted g r w n m))) (suc w) || false) ≡ false
@@ -110,9 +70,9 @@ module _ (t : List ℤ) (rule : TableRule t) (b : List ℕ) (g r w n m : ℕ) wh
       let (x3, r3) = firstOf-head 12 (allStand (decode b) .1) (overweight t (decode b) (granted g r w n m ∷ []) ∷ []) (λ q. omega arith) r2 in
       let (x4, r4) = firstOf-head 16 (overweight t (decode b) (granted g r w n m ∷ []) .1) [] (λ q. omega arith) r3 in
       record {
-        size = h .size;
-        passed = h .passed;
-        formed = h .formed;
+        size = h .early .size;
+        passed = h .early .passed;
+        formed = h .early .formed;
         held = λ j. cond (x1 j) 9 (cond (x2 j) 11 (cond (x3 j) 12 0));
         carried = light x4;
       }
@@ -125,7 +85,7 @@ module _ (t : List ℤ) (rule : TableRule t) (b : List ℕ) (g r w n m : ℕ) wh
       let (x3, r3) = firstOf-head 12 (allStand (decode b) .1) [] (λ q. omega arith) r2 in
       let x4 = heavy-not (k .carried) in
       let all : firstOf (held t (decode b) (grant g r w n m)) ≡ 0 = λ j. cond (x1 j) 9 (cond (x2 j) 11 (cond (x3 j) 12 (cond (x4 j) 16 0))) in
-      ap (λ (x : Result). x .refusal) (through-on t b (grant g r w n m) record { size = k .size; passed = k .passed; formed = k .formed; held = all }) ∙ accepted-refusal t (decode b) (grant g r w n m)
+      ap (λ (x : Result). x .refusal) (callOn-accepted t (grant g r w n m) b record { size = k .size; passed = k .passed; formed = k .formed } all) ∙ accepted-refusal t (decode b) (grant g r w n m)
 
   pub grant-exactly : GrantExactly t b g r w n m
   grant-exactly = record { only = grant-only; whenever = grant-whenever }
@@ -133,9 +93,9 @@ module _ (t : List ℤ) (rule : TableRule t) (b : List ℕ) (g r w n m : ℕ) wh
 -- ── reach ──
 module _ (t : List ℤ) (b : List ℕ) (g r : ℕ) (e : callOn t b (askReach g r) .refusal ≡ 0) where
   -- what is answered is the reach of the definition
-  pub answer-reach : callOn t b (askReach g r) .first ≡ reach t (decode b) g r
+  answer-reach : callOn t b (askReach g r) .first ≡ reach t (decode b) g r
   unfolding accepted
-  answer-reach = ap (λ (x : Result). x .first) (through-on t b (askReach g r) (through t b (askReach g r) e))
+  answer-reach = let h = through t b (askReach g r) e in ap (λ (x : Result). x .first) (callOn-accepted t (askReach g r) b (h .early) (h .held))
 
   answers-reach : ReachAnswer t b g r
   answers-reach = record {

@@ -1,6 +1,6 @@
 -- The history theorem: demand 3 in its byte form follows from the relation that every public call promises. Assumes nothing.
 use mathlib.Core.Path.{_≡_, refl, sym, ap, subst, _∙_}
-use mathlib.Core.Logic.{_≢_, _⊎_, inl, inr}
+use mathlib.Core.Logic.{_≢_}
 use mathlib.Core.Bool.{Bool, true, false, cond, not}
 use mathlib.Core.List.{List, [], _∷_, _++_}
 use Prim.Native.Nat.{ℕ, zero, suc}
@@ -19,8 +19,7 @@ use Rattle.rules.specs.WellFormed.{WellFormed}
 use Rattle.rules.specs.Call.{Call, fresh, IsCut}
 use Rattle.rules.specs.Refusal.{firstOf, passed, held, refusalOf}
 use Rattle.rules.specs.CallStep.{Outcome, accepted, refused, callStep}
-use Rattle.rules.specs.Trace.{registerFrom}
-use Rattle.rules.proofs.Lists.{either, T-true}
+use Rattle.rules.proofs.Lists.{T-true}
 use Rattle.rules.proofs.Refusals.{Passes, passed-numbered}
 use Rattle.rules.proofs.Table.{steps-rule}
 use Rattle.rules.proofs.Calls.{fresh-formed, accepted-refusal, callStep-cases, callStep-formed, callStep-refused}
@@ -34,7 +33,7 @@ use Rattle.register.specs.Made.{result, MadeOpen}
 use Rattle.register.specs.Cuts.{CutLeft}
 use Rattle.register.specs.History.{Entry, calls, History, blockFrom, PlaceRight, Demand3}
 use Rattle.register.specs.declared.Answer.{Answer}
-use Rattle.register.proofs.Made.{firstOf-none, firstOf-some}
+use Rattle.register.proofs.Made.{firstOf-some, early-one}
 
 -- an outcome on a register, with its register written
 abbrev pub onBytes : Outcome → Result
@@ -55,13 +54,11 @@ written-onBytes t R c = callStep-cases t R c (λ (o : Outcome). written (encode 
 
 module _ (t : List ℤ) (R : Register) (f : WellFormed R) (c : Call) where
   early-encode : firstOf (early (encode R) c) ≡ firstOf (passed c)
-  early-encode = rw (eq-eqb (length (encode R)) 2180 (length-encode R f)) (go (either (eqb (firstOf (passed c)) 0)))
+  early-encode = early-one (encode R) c ∙ rw (eq-eqb (length (encode R)) 2180 (length-encode R f), T-true (wellFormed (encode R)) (encode-formed R f)) (go (eqb (firstOf (passed c)) 0) refl)
     where
-      go : T (eqb (firstOf (passed c)) 0) ⊎ T (not (eqb (firstOf (passed c)) 0)) → firstOf (passed c ++ ((8, not (wellFormed (encode R))) ∷ [])) ≡ firstOf (passed c)
-      go (inl q) =
-          let e = eqb→eq (firstOf (passed c)) 0 q in
-          firstOf-none (passed c) ((8, not (wellFormed (encode R))) ∷ []) (passed-numbered c) e ∙ rw (T-true (wellFormed (encode R)) (encode-formed R f)) (sym e)
-      go (inr q) = firstOf-some (passed c) ((8, not (wellFormed (encode R))) ∷ []) (firstOf (passed c)) (passed-numbered c) refl (λ e. T-not (eqb (firstOf (passed c)) 0) q (subst T (sym (eq-eqb (firstOf (passed c)) 0 e)) tt))
+      go : (x : Bool) → eqb (firstOf (passed c)) 0 ≡ x → cond (not x) (firstOf (passed c)) 0 ≡ firstOf (passed c)
+      go true q = sym (eqb→eq (firstOf (passed c)) 0 (subst T (sym q) tt))
+      go false q = refl
 
   refusal-of : firstOf (passed c) ≢ 0 → refusalOf t R c ≡ firstOf (passed c)
   unfolding refusalOf
@@ -90,13 +87,6 @@ open-written b o after q z = go (eqb (length b) 2180) q
 
 -- ── down a list ──
 module _ (t : List ℤ) (rule : TableRule t) where
-  -- the blocks that the definitions lead to are the registers that they lead to, written
-  pub blockFrom-encode : (R : Register) → WellFormed R → (cs : List Call) (i : ℕ) → blockFrom t (encode R) cs i ≡ encode (registerFrom t R cs i)
-  blockFrom-encode R f cs zero = refl
-  blockFrom-encode R f [] (suc i) = refl
-  blockFrom-encode R f (c ∷ cs) (suc i) =
-      ap (λ (r : Result). blockFrom t (r .bytes) cs i) (callOn-encode t R f c) ∙ blockFrom-encode (callStep t R c .left) (callStep-formed t R c f) cs i
-
   -- one call on a well-formed register written
   pub place-right : (R : Register) → WellFormed R → (e : Entry) → result (e .answer) (e .after) ≡ callOn t (encode R) (e .call) → PlaceRight t (encode R) e
   place-right R f e q = record { result = q; cut = λ k i z. cut-left k i z }

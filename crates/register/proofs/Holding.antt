@@ -3,12 +3,11 @@ use mathlib.Core.Path.{_≡_, refl, sym, ap, subst, _∙_}
 use mathlib.Core.Logic.{_⊎_, inl, inr}
 use mathlib.Core.Bool.{Bool, true, false, cond, not, _||_}
 use mathlib.Core.List.{List}
-use Prim.Native.Nat.{ℕ, suc, _+_, _*_, _≤_, _<_}
+use Prim.Native.Nat.{ℕ, suc, _+_, _*_, _<_}
 use native.Mathlib.Nat.{zero-add}
 use native.Mathlib.Omega.{arith}
 use borrow.Author.Tests.{leb-false, lt-ltb, le-ltb, le-leb, lt-leb}
-use lib.Bits.{bitAnd}
-use lib.Dec.{T, eqb, leb, ltb, leb→le, nleb→lt, nltb→le}
+use lib.Dec.{T, leb, ltb, leb→le, nleb→lt}
 use lib.ListN.{length, getD, drop}
 use lib.IntN.{ℤ, pos}
 use lib.Signed.{ltZ}
@@ -18,10 +17,10 @@ use Rattle.rules.specs.Reach.{reach}
 use Rattle.rules.specs.Support.{allowed}
 use Rattle.rules.specs.Pair.{isPair, weightAt, stands}
 use Rattle.rules.specs.Call.{grant, askReach, granted}
-use Rattle.rules.specs.Refusal.{firstOf, passed, held}
+use Rattle.rules.specs.Refusal.{firstOf, held}
 use Rattle.rules.specs.CallStep.{insert, accepted}
-use Rattle.rules.proofs.Lists.{either, getD-tabulate, not-or-left, not-or-right, not-true, not-false}
-use Rattle.rules.proofs.Refusals.{Passes, firstOf-passes, passed-numbered}
+use Rattle.rules.proofs.Lists.{either, getD-tabulate, not-true, not-false}
+use Rattle.rules.proofs.Refusals.{firstOf-passes}
 use Rattle.rules.proofs.Pairs.{insert-length}
 use Rattle.block.specs.Bytes.{IsBytes, readAll, leading}
 use Rattle.block.specs.Block.{delegationIn, subjectsIn, countIn, decode, encode}
@@ -30,7 +29,7 @@ use Rattle.block.proofs.Held.{held-written, subjects-held, delegations-held, co
 use Rattle.block.proofs.Splice.{pairPlace, weightAt-found}
 use Rattle.search.proofs.Signed.{below-weight}
 use Rattle.register.specs.Made.{refusedBy, answeredBy, Made}
-use Rattle.register.proofs.Made.{made-held, made-done}
+use Rattle.register.proofs.Made.{Early, made-held, made-done}
 
 pub or-false : (x : Bool) → (x || false) ≡ x
 or-false true = refl
@@ -45,8 +44,8 @@ ltb-leb m n = go (either (leb n m))
     go (inr q) = let h = nleb→lt n m q in rw (lt-ltb m n h, lt-leb n m h)
 
 not-or : (x y : Bool) → not (x || y) ≡ true → (x ≡ false) × (y ≡ false)
-not-or true y e = let z : _≡_ {A = ℕ} 0 1 = cc in absurd (omega arith)
-not-or false true e = let z : _≡_ {A = ℕ} 0 1 = cc in absurd (omega arith)
+not-or true y e = absurd (subst T (sym e) tt)
+not-or false true e = absurd (subst T (sym e) tt)
 not-or false false e = (refl, refl)
 
 -- both are enrolled
@@ -76,15 +75,15 @@ module _ (t : List ℤ) (b : List ℕ) (bytes : IsBytes b) (formed : wellFormed 
   enrolled-test = ap (λ (s : ℕ). leb s g || (leb s r || false)) (subjects-held b bytes formed) ∙ ap (λ (y : Bool). leb (subjectsIn b) g || y) (or-false (leb (subjectsIn b) r))
 
   -- ── reach ──
-  module _ (size : length b ≡ 2180) (through : firstOf (passed (askReach g r)) ≡ 0) where
+  module _ (early : Early b (askReach g r)) where
     pub reach-unenrolled : not (leb (subjectsIn b) g || leb (subjectsIn b) r) ≡ false → Made t (askReach g r) b (refusedBy 9) b
     unfolding held
-    reach-unenrolled e = made-held t (askReach g r) b size through formed 9 (ap (λ (x : Bool). cond x 9 0) (enrolled-test ∙ not-false (leb (subjectsIn b) g || leb (subjectsIn b) r) e)) (λ q. omega arith)
+    reach-unenrolled e = made-held t (askReach g r) b early 9 (ap (λ (x : Bool). cond x 9 0) (sym (enrolled-test ∙ not-false (leb (subjectsIn b) g || leb (subjectsIn b) r) e))) (λ q. omega arith)
 
     pub reach-done : not (leb (subjectsIn b) g || leb (subjectsIn b) r) ≡ true → (k : ℤ) → k ≡ reach t (decode b) g r → Made t (askReach g r) b (answeredBy k (pos 0) (pos 0)) b
     unfolding held accepted
     reach-done e k q =
-        made-done t (askReach g r) b size through formed (ap (λ (x : Bool). cond x 9 0) (enrolled-test ∙ not-true (leb (subjectsIn b) g || leb (subjectsIn b) r) e)) (answeredBy k (pos 0) (pos 0)) b
+        made-done t (askReach g r) b early (ap (λ (x : Bool). cond x 9 0) (enrolled-test ∙ not-true (leb (subjectsIn b) g || leb (subjectsIn b) r) e)) (answeredBy k (pos 0) (pos 0)) b
         (λ j. record { refusal = 0; first = q j; second = pos 0; third = pos 0; bytes = held-written b bytes formed j })
 
   -- ── grant ──
@@ -103,33 +102,17 @@ module _ (t : List ℤ) (b : List ℕ) (bytes : IsBytes b) (formed : wellFormed 
         let p4 = heavy-test ∙ e4 in
         λ j. cond (p1 j) 9 (cond (e2 j) 11 (cond (p3 j) 12 (cond (p4 j) 16 0)))
 
-    pub grant-done : (size : length b ≡ 2180) → firstOf (passed (grant g r w n m)) ≡ 0 → firstOf (held t (decode b) (grant g r w n m)) ≡ 0 → (after : List ℕ)
+    pub grant-done : Early b (grant g r w n m) → firstOf (held t (decode b) (grant g r w n m)) ≡ 0 → (after : List ℕ)
         → after ≡ encode (withDelegations (decode b) (insert (granted g r w n m) (decode b .delegations))) → Made t (grant g r w n m) b (answeredBy (pos (countIn b + 1)) (pos 0) (pos 0)) after
     unfolding accepted
-    grant-done size through light after e =
-        made-done t (grant g r w n m) b size through formed light (answeredBy (pos (countIn b + 1)) (pos 0) (pos 0)) after
+    grant-done early light after e =
+        made-done t (grant g r w n m) b early light (answeredBy (pos (countIn b + 1)) (pos 0) (pos 0)) after
         (λ j. record { refusal = 0; first = pos (c j); second = pos 0; third = pos 0; bytes = e j })
       where
         c : countIn b + 1 ≡ length (insert (granted g r w n m) (decode b .delegations))
         c = omega (arith, insert-length (granted g r w n m) (decode b .delegations), count-held b bytes formed)
 
--- ── what a grant that passed may rely on ──
-module _ (g r w n m : ℕ) (e : firstOf (passed (grant g r w n m)) ≡ 0) where
-  grant-passes : Passes (passed (grant g r w n m))
-  grant-passes = firstOf-passes (passed (grant g r w n m)) (passed-numbered (grant g r w n m)) e
-
-  pub grant-through : (g ≤ 63) × (r ≤ 63) × (w ≤ 255) × (n ≤ 65535) × (m ≤ 65535)
-  unfolding passed
-  grant-through =
-      let p = grant-passes in
-      let masks = not-or-left (ltb 65535 n || ltb 65535 m) (not (eqb (bitAnd n m) 0)) (p .1 .1 .0) in (
-        nltb→le 63 g (not-or-left (ltb 63 g) (ltb 63 r || false) (p .0)),
-        nltb→le 63 r (not-or-left (ltb 63 r) false (not-or-right (ltb 63 g) (ltb 63 r || false) (p .0))),
-        nltb→le 255 w (p .1 .0),
-        nltb→le 65535 n (not-or-left (ltb 65535 n) (ltb 65535 m) masks),
-        nltb→le 65535 m (not-or-right (ltb 65535 n) (ltb 65535 m) masks),
-      )
-
+-- room is left for a grant that is not refused
 pub grant-room : (t : List ℤ) (b : List ℕ) (bytes : IsBytes b) (formed : wellFormed b ≡ true) (g r w n m : ℕ) → firstOf (held t (decode b) (grant g r w n m)) ≡ 0 → countIn b < 256
 unfolding held
 grant-room t b bytes formed g r w n m e =

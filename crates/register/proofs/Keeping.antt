@@ -27,14 +27,14 @@ use Rattle.block.proofs.Held.{held-formed}
 use Rattle.register.specs.CallOn.{Result, early, turned, written, callOn, openOn}
 use Rattle.register.specs.Kept.{Kept, KeptOpen}
 use Rattle.register.proofs.Made.{callOn-late}
-use Rattle.register.proofs.Exactly.{through, early-through}
+use Rattle.register.proofs.Exactly.{through}
 
 module _ (t : List ℤ) (b : List ℕ) (c : Call) where
   written-same : (o : Outcome) → o .refusal ≢ 0 → written b o .bytes ≡ b
   written-same o n = ap (λ (x : Bool). cond x (encode (o .left)) b) (ne-eqb (o .refusal) 0 n)
 
   -- a refused call changes no byte
-  pub refused-same : callOn t b c .refusal ≢ 0 → callOn t b c .bytes ≡ b
+  refused-same : callOn t b c .refusal ≢ 0 → callOn t b c .bytes ≡ b
   unfolding callOn
   refused-same n = go (eqb (firstOf (early b c)) 0) n
     where
@@ -45,10 +45,10 @@ module _ (t : List ℤ) (b : List ℕ) (c : Call) where
 
   -- an accepted call on bytes is the accepted call on the register that the block holds
   accepted-step : callOn t b c .refusal ≡ 0 → (callOn t b c ≡ written b (callStep t (decode b) c)) × (callStep t (decode b) c .refusal ≡ 0)
-  accepted-step e = let q = callOn-late t c b (early-through t b c (through t b c e)) in (q, sym (ap (λ (r : Result). r .refusal) q) ∙ e)
+  accepted-step e = let q = callOn-late t c b (through t b c e .early) in (q, sym (ap (λ (r : Result). r .refusal) q) ∙ e)
 
   -- an accepted call leaves the register that the definitions leave, written
-  pub accepted-left : callOn t b c .refusal ≡ 0 → callOn t b c .bytes ≡ encode (callStep t (decode b) c .left)
+  accepted-left : callOn t b c .refusal ≡ 0 → callOn t b c .bytes ≡ encode (callStep t (decode b) c .left)
   accepted-left e =
       let (q, z) = accepted-step e in
       ap (λ (r : Result). r .bytes) q ∙ ap (λ (x : Bool). cond x (encode (callStep t (decode b) c .left)) b) (eq-eqb (callStep t (decode b) c .refusal) 0 z)
@@ -62,7 +62,7 @@ module _ (t : List ℤ) (b : List ℕ) (c : Call) where
   }
     where
       found-formed : callOn t b c .refusal ≡ 0 → WellFormed (decode b)
-      found-formed e = held-formed b bytes (through t b c e .formed)
+      found-formed e = held-formed b bytes (through t b c e .early .formed)
 
       left-formed : callOn t b c .refusal ≡ 0 → WellFormed (callStep t (decode b) c .left)
       left-formed e = callStep-formed t (decode b) c (found-formed e)

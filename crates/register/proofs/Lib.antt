@@ -1,3 +1,4 @@
+pub mod Within
 pub mod Made
 pub mod Enrolling
 pub mod Using

@@ -1,12 +1,12 @@
--- The ways of a public call: refused by the length, by what was passed, by the form of the block, by what the register holds; or done. Assumes nothing.
-use mathlib.Core.Path.{_≡_, refl, sym, ap, _∙_}
+-- The ways of a public call: refused by 1, by what was passed, by 8, by what the register holds; or done. Assumes nothing.
+use mathlib.Core.Path.{_≡_, refl, sym, ap, subst, _∙_}
 use mathlib.Core.Logic.{_≢_}
 use mathlib.Core.Bool.{Bool, true, false, not, cond}
 use mathlib.Core.List.{List, [], _∷_, _++_}
 use Prim.Native.Nat.{ℕ}
 use native.Mathlib.Omega.{arith}
 use borrow.Author.Tests.{eq-eqb, ne-eqb}
-use lib.Dec.{T, ltb, eqb, ltb→lt}
+use lib.Dec.{T, ltb, eqb, ltb→lt, eqb→eq}
 use lib.ListN.{length}
 use lib.IntN.{ℤ, pos}
 use Rattle.rules.specs.Call.{Call, fresh}
@@ -16,7 +16,7 @@ use Rattle.rules.proofs.Lists.{T-left, T-right}
 use Rattle.rules.proofs.Refusals.{numbered, passed-numbered}
 use Rattle.block.specs.Block.{decode, encode}
 use Rattle.block.specs.WellFormed.{wellFormed}
-use Rattle.register.specs.CallOn.{Result, early, turned, written, callOn, openOn}
+use Rattle.register.specs.CallOn.{Result, wrongLength, notWellFormed, early, turned, written, callOn, openOn}
 use Rattle.register.specs.Made.{refusedBy, answeredBy, result, Made, MadeOpen}
 use Rattle.register.specs.declared.Answer.{Answer}
 
@@ -39,62 +39,95 @@ firstOf-none ps qs h e = firstOf-append ps qs h ∙ rw (eq-eqb (firstOf ps) 0 e)
 pub firstOf-some : (ps qs : List (ℕ × Bool)) (n : ℕ) → T (numbered ps) → firstOf ps ≡ n → n ≢ 0 → firstOf (ps ++ qs) ≡ n
 firstOf-some ps qs n h e k = firstOf-append ps qs h ∙ rw (e, ne-eqb n 0 k)
 
+-- ── 1, what was passed, 8 ──
+
+-- none of them applies
+pub record Early (b : List ℕ) (c : Call) : Type 0 where
+  pub size : length b ≡ 2180
+  pub passed : firstOf (passed c) ≡ 0
+  pub formed : wellFormed b ≡ true
+
+-- as the code finds them: the refusal by what was passed is one number, or 0
+abbrev pub earlyOf : List ℕ → ℕ → List (ℕ × Bool)
+earlyOf b n = wrongLength b ∷ (n, not (eqb n 0)) ∷ notWellFormed b ∷ []
+
+module _ (b : List ℕ) (c : Call) where
+  -- the refusals by what was passed, as one number
+  pub early-one : firstOf (early b c) ≡ firstOf (earlyOf b (firstOf (passed c)))
+  early-one =
+      ap (λ (n : ℕ). cond (not (eqb (length b) 2180)) 1 n) (firstOf-append (passed c) (notWellFormed b ∷ []) (passed-numbered c) ∙ turn (eqb (firstOf (passed c)) 0) (cond (not (wellFormed b)) 8 0) (firstOf (passed c)))
+    where
+      turn : (x : Bool) (m n : ℕ) → cond x m n ≡ cond (not x) n m
+      turn true m n = refl
+      turn false m n = refl
+
+  pub early-none : firstOf (early b c) ≡ 0 → Early b c
+  early-none e = go (eqb (length b) 2180) (eqb (firstOf (passed c)) 0) (wellFormed b) refl refl refl (sym early-one ∙ e)
+    where
+      go : (x y z : Bool) → eqb (length b) 2180 ≡ x → eqb (firstOf (passed c)) 0 ≡ y → wellFormed b ≡ z → cond (not x) 1 (cond (not y) (firstOf (passed c)) (cond (not z) 8 0)) ≡ 0 → Early b c
+      go true true true p q f h = record { size = eqb→eq (length b) 2180 (subst T (sym p) tt); passed = eqb→eq (firstOf (passed c)) 0 (subst T (sym q) tt); formed = f }
+      go true true false p q f h = absurd (omega arith)
+      go true false z p q f h = absurd (subst T (sym (eq-eqb (firstOf (passed c)) 0 h) ∙ q) tt)
+      go false y z p q f h = absurd (omega arith)
+
+  pub none-early : Early b c → firstOf (early b c) ≡ 0
+  none-early h =
+      let s = eq-eqb (length b) 2180 (h .size) in
+      let p = eq-eqb (firstOf (passed c)) 0 (h .passed) in
+      early-one ∙ (λ j. cond (not (s j)) 1 (cond (not (p j)) (firstOf (passed c)) (cond (not (h .formed j)) 8 0)))
+
+  -- p and n are what the code finds
+  module _ (p n : ℕ) (e : p ≡ firstOf (passed c)) (q : n ≡ firstOf (earlyOf b p)) where
+    pub early-found : firstOf (early b c) ≡ n
+    early-found = early-one ∙ ap (λ (m : ℕ). firstOf (earlyOf b m)) (sym e) ∙ sym q
+
+    pub past-early : n ≡ 0 → Early b c
+    past-early z = early-none (early-found ∙ z)
+
+-- ── the ways ──
 module _ (t : List ℤ) (c : Call) (b : List ℕ) where
-  made-early : (n : ℕ) → firstOf (early b c) ≡ n → n ≢ 0 → Made t c b (refusedBy n) b
+  -- refused by 1, by what was passed or by 8
+  pub made-early : (p n : ℕ) → p ≡ firstOf (passed c) → n ≡ firstOf (earlyOf b p) → n ≢ 0 → Made t c b (refusedBy n) b
   unfolding callOn
-  made-early n e k = go (eqb (firstOf (early b c)) 0) (ap (λ (m : ℕ). eqb m 0) e ∙ ne-eqb n 0 k)
+  made-early p n e q k = let f = early-found b c p n e q in go f (eqb (firstOf (early b c)) 0) (ap (λ (m : ℕ). eqb m 0) f ∙ ne-eqb n 0 k)
     where
-      go : (x : Bool) → x ≡ false → let r : Result = elim x [ true ↦ written b (callStep t (decode b) c) | false ↦ turned (firstOf (early b c)) b ] in result (refusedBy n) b ≡ r
-      go true q = let z : _≡_ {A = ℕ} 0 1 = cc in absurd (omega arith)
-      go false q = ap (λ (m : ℕ). turned m b) (sym e)
+      go : firstOf (early b c) ≡ n → (x : Bool) → x ≡ false → let r : Result = elim x [ true ↦ written b (callStep t (decode b) c) | false ↦ turned (firstOf (early b c)) b ] in result (refusedBy n) b ≡ r
+      go f true z = absurd (subst T z tt)
+      go f false z = ap (λ (m : ℕ). turned m b) (sym f)
 
-  -- past 1, what was passed, and 8
-  pub callOn-late : firstOf (early b c) ≡ 0 → callOn t b c ≡ written b (callStep t (decode b) c)
-  unfolding callOn
-  callOn-late e = go (eqb (firstOf (early b c)) 0) (eq-eqb (firstOf (early b c)) 0 e)
-    where
-      go : (x : Bool) → x ≡ true → let r : Result = elim x [ true ↦ written b (callStep t (decode b) c) | false ↦ turned (firstOf (early b c)) b ] in r ≡ written b (callStep t (decode b) c)
-      go true q = refl
-      go false q = let z : _≡_ {A = ℕ} 0 1 = cc in absurd (omega arith)
+  module _ (h : Early b c) where
+    pub callOn-late : callOn t b c ≡ written b (callStep t (decode b) c)
+    unfolding callOn
+    callOn-late = go (eqb (firstOf (early b c)) 0) (eq-eqb (firstOf (early b c)) 0 (none-early b c h))
+      where
+        go : (x : Bool) → x ≡ true → let r : Result = elim x [ true ↦ written b (callStep t (decode b) c) | false ↦ turned (firstOf (early b c)) b ] in r ≡ written b (callStep t (decode b) c)
+        go true q = refl
+        go false q = absurd (subst T (sym q) tt)
 
-  pub refusal-held : firstOf (passed c) ≡ 0 → refusalOf t (decode b) c ≡ firstOf (held t (decode b) c)
-  unfolding refusalOf
-  refusal-held z = firstOf-none (passed c) (held t (decode b) c) (passed-numbered c) z
+    pub refusal-held : refusalOf t (decode b) c ≡ firstOf (held t (decode b) c)
+    unfolding refusalOf
+    refusal-held = firstOf-none (passed c) (held t (decode b) c) (passed-numbered c) (h .passed)
 
-  pub made-length : length b ≢ 2180 → Made t c b (refusedBy 1) b
-  made-length h = made-early 1 (rw (ne-eqb (length b) 2180 h)) (λ e. omega arith)
+    pub made-held : (n : ℕ) → n ≡ firstOf (held t (decode b) c) → n ≢ 0 → Made t c b (refusedBy n) b
+    unfolding callStep
+    made-held n e k = sym (callOn-late ∙ go (eqb (refusalOf t (decode b) c) 0) (ap (λ (m : ℕ). eqb m 0) (refusal-held ∙ sym e) ∙ ne-eqb n 0 k))
+      where
+        go : (x : Bool) → x ≡ false → let o : Outcome = elim x [ true ↦ accepted t (decode b) c | false ↦ refused (refusalOf t (decode b) c) (decode b) ] in written b o ≡ turned n b
+        go true q = absurd (subst T q tt)
+        go false q = ap (λ (m : ℕ). written b (refused m (decode b))) (refusal-held ∙ sym e) ∙ rw (ne-eqb n 0 k)
 
-  module _ (size : length b ≡ 2180) where
-    pub made-passed : (n : ℕ) → firstOf (passed c) ≡ n → n ≢ 0 → Made t c b (refusedBy n) b
-    made-passed n e k = made-early n (rw (eq-eqb (length b) 2180 size) (firstOf-some (passed c) ((8, not (wellFormed b)) ∷ []) n (passed-numbered c) e k)) k
+    module _ (e : firstOf (held t (decode b) c) ≡ 0) where
+      pub callOn-accepted : callOn t b c ≡ written b (accepted t (decode b) c)
+      unfolding callStep
+      callOn-accepted = callOn-late ∙ go (eqb (refusalOf t (decode b) c) 0) (eq-eqb (refusalOf t (decode b) c) 0 (refusal-held ∙ e))
+        where
+          go : (x : Bool) → x ≡ true → let o : Outcome = elim x [ true ↦ accepted t (decode b) c | false ↦ refused (refusalOf t (decode b) c) (decode b) ] in written b o ≡ written b (accepted t (decode b) c)
+          go true q = refl
+          go false q = absurd (subst T (sym q) tt)
 
-    module _ (through : firstOf (passed c) ≡ 0) where
-      early-form : (x : Bool) → wellFormed b ≡ x → firstOf (early b c) ≡ cond (not x) 8 0
-      early-form x q = rw (eq-eqb (length b) 2180 size) (firstOf-none (passed c) ((8, not (wellFormed b)) ∷ []) (passed-numbered c) through ∙ ap (λ (y : Bool). cond (not y) 8 0) q)
-
-      pub made-form : wellFormed b ≡ false → Made t c b (refusedBy 8) b
-      made-form q = made-early 8 (early-form false q) (λ e. omega arith)
-
-      module _ (formed : wellFormed b ≡ true) where
-        late : callOn t b c ≡ written b (callStep t (decode b) c)
-        late = callOn-late (early-form true formed)
-
-        pub made-held : (n : ℕ) → firstOf (held t (decode b) c) ≡ n → n ≢ 0 → Made t c b (refusedBy n) b
-        unfolding callStep
-        made-held n e k = sym (late ∙ go (eqb (refusalOf t (decode b) c) 0) (ap (λ (m : ℕ). eqb m 0) (refusal-held through ∙ e) ∙ ne-eqb n 0 k))
-          where
-            go : (x : Bool) → x ≡ false → let o : Outcome = elim x [ true ↦ accepted t (decode b) c | false ↦ refused (refusalOf t (decode b) c) (decode b) ] in written b o ≡ turned n b
-            go true q = let z : _≡_ {A = ℕ} 0 1 = cc in absurd (omega arith)
-            go false q = ap (λ (m : ℕ). written b (refused m (decode b))) (refusal-held through ∙ e) ∙ rw (ne-eqb n 0 k)
-
-        -- accepted: the answers and the bytes are those of the definitions
-        pub made-done : firstOf (held t (decode b) c) ≡ 0 → (o : Answer) (after : List ℕ) → result o after ≡ written b (accepted t (decode b) c) → Made t c b o after
-        unfolding callStep
-        made-done e o after q = q ∙ sym (late ∙ go (eqb (refusalOf t (decode b) c) 0) (eq-eqb (refusalOf t (decode b) c) 0 (refusal-held through ∙ e)))
-          where
-            go : (x : Bool) → x ≡ true → let y : Outcome = elim x [ true ↦ accepted t (decode b) c | false ↦ refused (refusalOf t (decode b) c) (decode b) ] in written b y ≡ written b (accepted t (decode b) c)
-            go true k = refl
-            go false k = let n : _≡_ {A = ℕ} 0 1 = cc in absurd (omega arith)
+      -- accepted: the answers and the bytes are those of the definitions
+      pub made-done : (o : Answer) (after : List ℕ) → result o after ≡ written b (accepted t (decode b) c) → Made t c b o after
+      made-done o after q = q ∙ sym callOn-accepted
 
 -- ── open ──
 module _ (b : List ℕ) where

@@ -6,15 +6,19 @@ mod passed;
 mod reaching;
 
 ghost use mathlib.Core.Path.{_≡_};
+ghost use mathlib.Core.Bool.{not};
+ghost use mathlib.Core.List.{[], _∷_};
+ghost use lib.Dec.{eqb};
 ghost use denote.Ref.{ptr};
 ghost use Rattle.rules.specs.Table.{steps};
 ghost use Rattle.rules.specs.Cut.{removal, lowering};
 ghost use Rattle.rules.specs.Call.{enrol, grant, revoke, downgrade, askReach, askUse};
+ghost use Rattle.rules.specs.Refusal.{firstOf};
+ghost use Rattle.register.specs.CallOn.{wrongLength, notWellFormed};
 ghost use Rattle.register.specs.Made.{refusedBy, answeredBy, Made, MadeOpen};
 ghost use Rattle.register.specs.Cuts.{CutMade};
 ghost use Rattle.register.specs.ChainOn.{ChainMade, ChainFront};
 use block::layout;
-use rules::most;
 use rules::refusal;
 
 // The refusal number, 0 when accepted, and the three answers, 0 where unused.
@@ -53,6 +57,22 @@ fn answered(first: i32, second: i32, third: i32) -> Answer
     }
 }
 
+// The first that applies of 1, the refusal by what was passed, which is `number` or 0 where there is none, and 8; or 0.
+fn early(block: &[u8], number: u32) -> u32
+    ensures { λ r. ⌜ r ≡ firstOf (wrongLength (now (block .entry)) ∷ (number, not (eqb number 0)) ∷ notWellFormed (now (block .entry)) ∷ []) ⌝ }
+{
+    if block.len() != layout::BLOCK_SIZE {
+        return refusal::WRONG_LENGTH;
+    }
+    if number != 0 {
+        return number;
+    }
+    if !block::well_formed(block) {
+        return refusal::NOT_WELL_FORMED;
+    }
+    0
+}
+
 // Writes a fresh register: one subject, no delegation.
 pub fn open(block: &mut [u8]) -> Answer
     ensures { λ r. ⌜ MadeOpen (now (block .entry)) r (now (block .exit)) ⌝ }
@@ -68,35 +88,25 @@ pub fn open(block: &mut [u8]) -> Answer
 pub fn enrol(block: &mut [u8], marks: u32) -> Answer
     ensures { λ r. ⌜ Made steps (enrol marks) (now (block .entry)) r (now (block .exit)) ⌝ }
 {
-    if block.len() != layout::BLOCK_SIZE {
-        return refused(refusal::WRONG_LENGTH);
+    let n = early(block, passed::enrol_passed(marks));
+    if n != 0 {
+        return refused(n);
     }
-    if marks > most::MARKS {
-        return refused(refusal::NO_MARKS);
-    }
-    if !block::well_formed(block) {
-        return refused(refusal::NOT_WELL_FORMED);
-    }
-    let n = block::subjects(block);
-    if n >= layout::MOST_SUBJECTS {
+    let subject = block::subjects(block);
+    if subject >= layout::MOST_SUBJECTS {
         return refused(refusal::ALL_ENROLLED);
     }
     block::add_subject(block, marks as u16);
-    answered(n as i32, 0, 0)
+    answered(subject as i32, 0, 0)
 }
 
 // Document 01's call use: 1 if the receiver is the owner or some delegation to it stands, else 0.
 pub fn use_right(block: &[u8], receiver: u32) -> Answer
     ensures { λ r. ⌜ Made steps (askUse receiver) (now (block .entry)) r (now (block .entry)) ⌝ }
 {
-    if block.len() != layout::BLOCK_SIZE {
-        return refused(refusal::WRONG_LENGTH);
-    }
-    if receiver > most::SUBJECT {
-        return refused(refusal::NO_SUBJECT);
-    }
-    if !block::well_formed(block) {
-        return refused(refusal::NOT_WELL_FORMED);
+    let n = early(block, passed::use_passed(receiver));
+    if n != 0 {
+        return refused(n);
     }
     if receiver >= block::subjects(block) as u32 {
         return refused(refusal::NOT_ENROLLED);
@@ -114,15 +124,9 @@ pub fn use_right(block: &[u8], receiver: u32) -> Answer
 pub fn reach(block: &[u8], giver: u32, receiver: u32) -> Answer
     ensures { λ r. ⌜ Made steps (askReach giver receiver) (now (block .entry)) r (now (block .entry)) ⌝ }
 {
-    if block.len() != layout::BLOCK_SIZE {
-        return refused(refusal::WRONG_LENGTH);
-    }
-    let n = passed::pair_passed(giver, receiver);
+    let n = early(block, passed::pair_passed(giver, receiver));
     if n != 0 {
         return refused(n);
-    }
-    if !block::well_formed(block) {
-        return refused(refusal::NOT_WELL_FORMED);
     }
     if !held::both_enrolled(block, giver, receiver) {
         return refused(refusal::NOT_ENROLLED);
@@ -142,15 +146,12 @@ pub fn grant(
 ) -> Answer
     ensures { λ r. ⌜ Made steps (grant giver receiver weight need bar) (now (block .entry)) r (now (block .exit)) ⌝ }
 {
-    if block.len() != layout::BLOCK_SIZE {
-        return refused(refusal::WRONG_LENGTH);
-    }
-    let n = passed::grant_passed(giver, receiver, weight, need, bar);
+    let n = early(
+        block,
+        passed::grant_passed(giver, receiver, weight, need, bar),
+    );
     if n != 0 {
         return refused(n);
-    }
-    if !block::well_formed(block) {
-        return refused(refusal::NOT_WELL_FORMED);
     }
     let m = held::grant_held(block, giver, receiver, weight, need, bar);
     if m != 0 {
@@ -172,15 +173,9 @@ pub fn grant(
 pub fn revoke(block: &mut [u8], by: u32, giver: u32, receiver: u32) -> Answer
     ensures { λ r. ⌜ CutMade steps (revoke by giver receiver) (removal giver receiver) (now (block .entry)) r (now (block .exit)) ⌝ }
 {
-    if block.len() != layout::BLOCK_SIZE {
-        return refused(refusal::WRONG_LENGTH);
-    }
-    let n = passed::revoke_passed(by, giver, receiver);
+    let n = early(block, passed::revoke_passed(by, giver, receiver));
     if n != 0 {
         return refused(n);
-    }
-    if !block::well_formed(block) {
-        return refused(refusal::NOT_WELL_FORMED);
     }
     let m = cutting::revoke_held(block, by, giver, receiver);
     if m != 0 {
@@ -194,15 +189,9 @@ pub fn revoke(block: &mut [u8], by: u32, giver: u32, receiver: u32) -> Answer
 pub fn downgrade(block: &mut [u8], by: u32, giver: u32, receiver: u32, weight: u32) -> Answer
     ensures { λ r. ⌜ CutMade steps (downgrade by giver receiver weight) (lowering giver receiver weight) (now (block .entry)) r (now (block .exit)) ⌝ }
 {
-    if block.len() != layout::BLOCK_SIZE {
-        return refused(refusal::WRONG_LENGTH);
-    }
-    let n = passed::downgrade_passed(by, giver, receiver, weight);
+    let n = early(block, passed::downgrade_passed(by, giver, receiver, weight));
     if n != 0 {
         return refused(n);
-    }
-    if !block::well_formed(block) {
-        return refused(refusal::NOT_WELL_FORMED);
     }
     let m = cutting::downgrade_held(block, by, giver, receiver, weight);
     if m != 0 {
@@ -216,18 +205,12 @@ pub fn downgrade(block: &mut [u8], by: u32, giver: u32, receiver: u32, weight: u
 pub fn write_chain(block: &[u8], giver: u32, receiver: u32, buf: &mut [u8]) -> Written
     ensures { λ r. ⌜ ChainMade steps (now (block .entry)) giver receiver (now (buf .entry)) r (now (buf .exit)) ⌝ }
 {
-    if block.len() != layout::BLOCK_SIZE {
-        return chaining::unwritten(refusal::WRONG_LENGTH);
-    }
     if buf.len() < chaining::CHAIN_SIZE {
         return chaining::unwritten(refusal::WRONG_LENGTH);
     }
-    let n = passed::pair_passed(giver, receiver);
+    let n = early(block, passed::pair_passed(giver, receiver));
     if n != 0 {
         return chaining::unwritten(n);
-    }
-    if !block::well_formed(block) {
-        return chaining::unwritten(refusal::NOT_WELL_FORMED);
     }
     chaining::write_held(block, giver, receiver, buf)
 }

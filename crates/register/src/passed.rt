@@ -1,9 +1,43 @@
 // Refusals by what was passed: the number of the first that applies, or 0.
 ghost use mathlib.Core.Path.{_≡_};
-ghost use Rattle.rules.specs.Call.{grant, revoke, downgrade, askReach};
-ghost use Rattle.rules.specs.Refusal.{firstOf, passed};
+ghost use mathlib.Core.List.{[], _∷_};
+ghost use Rattle.rules.specs.Call.{enrol, grant, revoke, downgrade, askReach, askUse};
+ghost use Rattle.rules.specs.Refusal.{firstOf, equalPair, toOwner, passed};
 use rules::most;
 use rules::refusal;
+
+// Of an enrolment.
+pub fn enrol_passed(marks: u32) -> u32
+    ensures { λ r. ⌜ r ≡ firstOf (passed (enrol marks)) ⌝ }
+{
+    if marks > most::MARKS {
+        return refusal::NO_MARKS;
+    }
+    0
+}
+
+// Of a use.
+pub fn use_passed(subject: u32) -> u32
+    ensures { λ r. ⌜ r ≡ firstOf (passed (askUse subject)) ⌝ }
+{
+    if subject > most::SUBJECT {
+        return refusal::NO_SUBJECT;
+    }
+    0
+}
+
+// The last two of a call that names a pair: giver and receiver are equal, the receiver is the owner.
+fn ends_passed(giver: u32, receiver: u32) -> u32
+    ensures { λ r. ⌜ r ≡ firstOf (equalPair giver receiver ∷ toOwner receiver ∷ []) ⌝ }
+{
+    if giver == receiver {
+        return refusal::EQUAL_PAIR;
+    }
+    if receiver == 0 {
+        return refusal::TO_OWNER;
+    }
+    0
+}
 
 // Of a call that names a pair: reach, and the chain call.
 pub fn pair_passed(giver: u32, receiver: u32) -> u32
@@ -15,13 +49,7 @@ pub fn pair_passed(giver: u32, receiver: u32) -> u32
     if receiver > most::SUBJECT {
         return refusal::NO_SUBJECT;
     }
-    if giver == receiver {
-        return refusal::EQUAL_PAIR;
-    }
-    if receiver == 0 {
-        return refusal::TO_OWNER;
-    }
-    0
+    ends_passed(giver, receiver)
 }
 
 // Of a grant.
@@ -46,13 +74,7 @@ pub fn grant_passed(giver: u32, receiver: u32, weight: u32, need: u32, bar: u32)
     if need & bar != 0 {
         return refusal::NO_MARKS;
     }
-    if giver == receiver {
-        return refusal::EQUAL_PAIR;
-    }
-    if receiver == 0 {
-        return refusal::TO_OWNER;
-    }
-    0
+    ends_passed(giver, receiver)
 }
 
 // Of a revocation.
@@ -81,11 +103,5 @@ pub fn downgrade_passed(by: u32, giver: u32, receiver: u32, weight: u32) -> u32
     if weight > most::WEIGHT {
         return refusal::NO_WEIGHT;
     }
-    if giver == receiver {
-        return refusal::EQUAL_PAIR;
-    }
-    if receiver == 0 {
-        return refusal::TO_OWNER;
-    }
-    0
+    ends_passed(giver, receiver)
 }

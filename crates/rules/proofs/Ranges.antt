@@ -3,7 +3,7 @@ use mathlib.Core.Path.{_≡_, refl, sym, subst}
 use mathlib.Core.Logic.{_⊎_, inl, inr}
 use mathlib.Core.Bool.{Bool, true, false, not, cond, _&&_, _||_}
 use mathlib.Core.List.{List, [], _∷_, _++_, List·Memᴰ·head, List·Memᴰ·tail}
-use Prim.Native.Nat.{ℕ, zero, suc, _+_, _*_, _≤_, zero-le, _<_}
+use Prim.Native.Nat.{ℕ, suc, _+_, _*_, _≤_, zero-le, _<_}
 use native.Mathlib.Nat.{le-refl}
 use native.Mathlib.Omega.{arith}
 use lib.Dec.{T, leb, eqb, nleb→lt, nltb→le}
@@ -16,7 +16,7 @@ use Rattle.rules.specs.Register.{Delegation, Register}
 use Rattle.rules.specs.Chain.{limit, IsChain}
 use Rattle.rules.specs.Reach.{reach}
 use Rattle.rules.specs.Pair.{weightAt, stands, receives}
-use Rattle.rules.specs.Round.{round, total, settle, SettlesIn, rounds}
+use Rattle.rules.specs.Round.{total, settle, rounds}
 use Rattle.rules.specs.Cut.{removal, lowering, named, isDropped, isLowered, dropped, lowered}
 use Rattle.rules.specs.WellFormed.{WellFormed}
 use Rattle.rules.specs.Call.{Call, enrol, grant, revoke, downgrade, askReach, askUse, granted}
@@ -25,7 +25,6 @@ use Rattle.rules.specs.CallStep.{Outcome, cut, accepted, callStep}
 use Rattle.rules.specs.Ranges.{FromTo, CutInRange, InRange}
 use Rattle.rules.proofs.Chains.{limitFrom-top}
 use Rattle.rules.proofs.Reach.{reach-attained}
-use Rattle.rules.proofs.Rounds.{round-falls, settle-right}
 use Rattle.rules.proofs.Refusals.{Passes}
 use Rattle.rules.proofs.Pairs.{insert-length}
 use Rattle.rules.proofs.Calls.{removed-formed, lowered-formed, callStep-cases}
@@ -55,12 +54,7 @@ dropped-lowered F d = go (stands F (d .giver) (d .receiver)) (leb (code (weightA
 pub both-few : (C F : Register) → dropped C F + lowered C F ≤ length (C .delegations)
 both-few C F = filter-apart (isDropped F) (isLowered F) (dropped-lowered F) (C .delegations)
 
--- ── rounds ──
-
--- each round that changes something lowers the total
-pub settles-most : (t : List ℤ) (n : ℕ) (C F : Register) → SettlesIn t n C F → n ≤ total (C .delegations)
-settles-most t zero C F s = zero-le
-settles-most t (suc n) C F s = omega (arith, round-falls t C (s .0), settles-most t n (round t C) F (s .1))
+-- ── the sum of all weights ──
 
 weights-most : (ds : List Delegation) → ((d : Delegation) → d ∈ ds → d .weight ≤ 255) → total ds ≤ 256 * length ds
 weights-most [] h = zero-le
@@ -68,9 +62,6 @@ weights-most (d ∷ ds) h = omega (arith, h d (List·Memᴰ·head refl), weights
 
 pub total-most : (R : Register) → WellFormed R → total (R .delegations) ≤ 65536
 total-most R f = omega (arith, weights-most (R .delegations) (λ d m. f .each d m .weight), f .few)
-
-pub settle-most : (t : List ℤ) (C : Register) → WellFormed C → settle t C .changed ≤ 65536
-settle-most t C f = omega (arith, settles-most t (settle t C .changed) C (settle t C .left) (settle-right t C), total-most C f)
 
 -- ── each call ──
 cut-range : (t : List ℤ) (C : Register) → WellFormed C → rounds (settle t C) < 512 → let o = cut t C in CutInRange (o .first) (o .second) (o .third)

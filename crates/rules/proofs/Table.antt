@@ -1,5 +1,5 @@
 -- A step table keeps the rule where one computed test over its entries passes. Document 01's own table passes it. Assumes nothing.
-use mathlib.Core.Path.{_≡_, refl, sym, ap, subst, _∙_}
+use mathlib.Core.Path.{_≡_, refl, sym, subst, _∙_}
 use mathlib.Core.Bool.{Bool, true, false, cond, _&&_}
 use mathlib.Core.List.{List, [], _∷_}
 use Prim.Native.Nat.{ℕ, zero, suc, _+_, _-_, _≤_, _<_}
@@ -7,10 +7,10 @@ use native.Mathlib.Nat.{le-refl, add-zero, zero-add, add-suc, suc-add, le-of-suc
 use native.Mathlib.Omega.{arith}
 use lib.Dec.{T, leb, eqb, leb→le, eqb→eq}
 use lib.ListN.{length, getD}
-use lib.IntN.{ℤ, pos}
+use lib.IntN.{ℤ}
 use Rattle.rules.specs.Limit.{none, code, fromNone}
-use Rattle.rules.specs.Table.{entry, next, TableRule, step, steps}
-use Rattle.rules.proofs.Lists.{getD-tabulate, T-left, T-right}
+use Rattle.rules.specs.Table.{entry, TableRule, step, steps}
+use Rattle.rules.proofs.Lists.{T-left, T-right}
 
 -- x may stand at place i after p
 abbrev pub fits : ℕ → ℤ → ℤ → Bool
@@ -68,14 +68,3 @@ module _ (t : List ℤ) (h : T (tableTest t)) where
 pub steps-rule : TableRule steps
 unfolding steps step fromNone
 steps-rule = tableRule steps tt
-
--- the entry for a weight is what the document's text says
-pub steps-entry : (w : ℕ) → w < 256 → entry steps w ≡ step w
-unfolding steps
-steps-entry w l = getD-tabulate step none 0 256 w l ∙ ap step (zero-add w)
-
--- the step at -1, 0 and 255, and beside them
-pub steps-edges : (next steps none 0 ∷ next steps none 255 ∷ next steps (pos 0) 255 ∷ next steps (pos 255) 0 ∷ next steps (pos 1) 255 ∷ next steps (pos 255) 254 ∷ next steps (pos 254) 255 ∷ next steps (pos 255) 255 ∷ [])
-    ≡ (none ∷ none ∷ none ∷ none ∷ pos 0 ∷ pos 253 ∷ pos 253 ∷ pos 255 ∷ [])
-unfolding next step steps
-steps-edges = refl

@@ -1,6 +1,6 @@
 -- Twelve bytes stored four by four are the answers, and read back they are the same answers. Assumes nothing.
 use mathlib.Core.Path.{_≡_, refl, sym, ap, _∙_}
-use mathlib.Core.List.{List, [], _∷_, _++_}
+use mathlib.Core.List.{List, [], _++_}
 use Prim.Native.Nat.{ℕ, zero, suc, _+_, _*_, _-_, _/_, _%_, _≤_, _<_}
 use native.Mathlib.Nat.{div-div-eq-div-mul, mod-eq-of-lt}
 use native.Mathlib.Omega.{arith}
@@ -12,12 +12,6 @@ use lib.Seq.{sets, sets-eq}
 use Rattle.block.specs.Bytes.{IsBytes}
 use Rattle.block.proofs.Bytes.{bytes-append}
 use Rattle.seatreg.specs.Answers.{bits, fourBytes, answerBytes, signed, answerIn}
-
-pub add-two : (i : ℕ) → i + 2 ≡ suc (suc i)
-add-two i = omega arith
-
-pub add-three : (i : ℕ) → i + 3 ≡ suc (suc (suc i))
-add-three i = omega arith
 
 whole : (s vs : List ℕ) → length vs ≡ length s → sets s 0 vs ≡ vs ++ []
 whole s vs e =
@@ -34,15 +28,6 @@ stored s s1 s2 s3 first second third x y z n ex e1 ey e2 ez e3 =
     rw (e3, e2, e1, ex, ey, ez) (whole s (fourBytes (bits first) ++ fourBytes (bits second) ++ fourBytes (bits third)) (sym n))
 
 -- ── what the twelve bytes are ──
--- a reach of none, and a cut that dropped 2, lowered 256 and took 65537 rounds
-none-bytes : answerBytes (negsuc 0) (pos 0) (pos 0) ≡ (255 ∷ 255 ∷ 255 ∷ 255 ∷ 0 ∷ 0 ∷ 0 ∷ 0 ∷ 0 ∷ 0 ∷ 0 ∷ 0 ∷ [])
-unfolding answerBytes
-none-bytes = refl
-
-cut-bytes : answerBytes (pos 2) (pos 256) (pos 65537) ≡ (2 ∷ 0 ∷ 0 ∷ 0 ∷ 0 ∷ 1 ∷ 0 ∷ 0 ∷ 1 ∷ 0 ∷ 1 ∷ 0 ∷ [])
-unfolding answerBytes
-cut-bytes = refl
-
 four-bytes : (n : ℕ) → IsBytes (fourBytes n)
 four-bytes n zero = omega arith
 four-bytes n (suc zero) = omega arith

@@ -63,7 +63,7 @@ module _ (t : List ℤ) (rule : TableRule t) where
       go false = bytes
 
   -- from any block of bytes on
-  pub history-places : (b : List ℕ) → IsBytes b → (es : List EntryCall) → EntryHistory t b es → (i : ℕ) (e : EntryCall) → At es i e → EntryPlaceRight t (entryBlockFrom t b (calls es) i) e
+  history-places : (b : List ℕ) → IsBytes b → (es : List EntryCall) → EntryHistory t b es → (i : ℕ) (e : EntryCall) → At es i e → EntryPlaceRight t (entryBlockFrom t b (calls es) i) e
   history-places b bytes [] h i e a = absurd a
   history-places b bytes (x ∷ xs) h zero e a =
       subst (λ (y : EntryCall). EntryPlaceRight t b y) a

@@ -10,10 +10,9 @@ use lib.Dec.{T, eqb, eqb→eq}
 use lib.ListN.{length}
 use lib.IntN.{ℤ, pos, negsuc}
 use Rattle.rules.specs.Limit.{_≼_, fromNone}
-use Rattle.rules.specs.Table.{TableRule, steps}
+use Rattle.rules.specs.Table.{TableRule}
 use Rattle.rules.specs.Call.{Call, enrol, grant, revoke, downgrade, askReach, askUse, fresh}
 use Rattle.rules.specs.Ranges.{FromTo, Unused, CutInRange, InRange}
-use Rattle.rules.proofs.Table.{steps-rule}
 use Rattle.rules.proofs.Calls.{fresh-formed}
 use Rattle.block.specs.Bytes.{IsBytes}
 use Rattle.block.specs.Block.{encode}
@@ -28,7 +27,7 @@ use Rattle.seatreg.proofs.AnswerBytes.{Fits32, length-answers, bytes-an
 
 -- ── answers in range have 32 bits ──
 module _ {a : ℤ} where
-  range-fits : {low high : ℕ} → high < 65538 → FromTo low high a → Fits32 a
+  range-fits : {low high : ℕ} → high < 512 → FromTo low high a → Fits32 a
   range-fits m (n, e, l, h) = rw e (omega arith)
 
   unused-fits : Unused a → Fits32 a
@@ -59,7 +58,7 @@ all-fit (askUse r) a b c (k, y, z) = (range-fits (omega arith) k, unused-fits y,
 
 -- ── what is handed out, of a library call's result r that is kept ──
 apart : (n : ℕ) → eqb n 0 ≡ false → n ≢ 0
-apart n q e = let z : true ≡ false = sym (eq-eqb n 0 e) ∙ q in let y : _≡_ {A = ℕ} 0 1 = cc in omega arith
+apart n q e = subst T (sym (eq-eqb n 0 e) ∙ q) tt
 
 record ResultKept (Range : ℤ → ℤ → ℤ → Type 0) (b : List ℕ) (r : Result) : Type 0 where
   refused : r .refusal ≢ 0 → r .bytes ≡ b
@@ -130,9 +129,6 @@ entry-kept t rule c b a found lent =
       fits = λ e. all-fit c (callOn t b c .first) (callOn t b c .second) (callOn t b c .third) (k .range e);
       bytes = k .bytes;
     }
-
-pub entry-kept-steps : (c : Call) (b a : List ℕ) → IsBytes b → IsBytes a → EntryKept steps c b a
-entry-kept-steps = entry-kept steps steps-rule
 
 open-bytes : (b : List ℕ) → IsBytes b → IsBytes (openOn b .bytes)
 unfolding openOn

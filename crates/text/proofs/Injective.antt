@@ -24,7 +24,7 @@ module _ (end : ℕ) (low : end < 48) where
       let b : readFrom end (45 ∷ t) 0 .found ≡ false = ap (λ (x : Number). x .found) (from-other end 45 t 0 (digit-low 45 (omega arith))) in
       clash (sym b ∙ a)
 
-  pub number-inj : (y z : ℤ) (s t : List ℕ) → Allowed true y → Allowed true z → number y ++ (end ∷ s) ≡ number z ++ (end ∷ t) → (y ≡ z) × (s ≡ t)
+  number-inj : (y z : ℤ) (s t : List ℕ) → Allowed true y → Allowed true z → number y ++ (end ∷ s) ≡ number z ++ (end ∷ t) → (y ≡ z) × (s ≡ t)
   number-inj (pos n) (pos m) s t h l e = let r = digits-inj n m s t h l e in (ap pos (r .0), r .1)
   number-inj (pos n) (negsuc m) s t h l e = absurd (sign-apart n s (digits (suc m) ++ (end ∷ t)) h e)
   number-inj (negsuc n) (pos m) s t h l e = absurd (sign-apart m t (digits (suc n) ++ (end ∷ s)) l (sym e))

@@ -18,7 +18,7 @@ use Rattle.text.specs.declared.Line.{Line}
 use Rattle.text.proofs.Reading.{clash}
 
 -- ── allowed values ──
-pub allowed-join : (s : Bool) (xs : List ℤ) (z : ℤ) → AllAllowed s xs → Allowed s z → AllAllowed s (xs ++ (z ∷ []))
+allowed-join : (s : Bool) (xs : List ℤ) (z : ℤ) → AllAllowed s xs → Allowed s z → AllAllowed s (xs ++ (z ∷ []))
 allowed-join s [] z h l = (l, tt)
 allowed-join s (x ∷ xs) z h l = (h .0, allowed-join s xs z (h .1) l)
 

@@ -33,7 +33,7 @@ readFrom end [] at = noNumber
 readFrom end (b ∷ s) at = cond (isDigit b) (readOn end (b - 48) s (suc at)) noNumber
 
 -- ── the tests of one turn ──
-pub digit-yes : (b : ℕ) → 48 ≤ b → b ≤ 57 → isDigit b ≡ true
+digit-yes : (b : ℕ) → 48 ≤ b → b ≤ 57 → isDigit b ≡ true
 digit-yes b h l = rw (le-leb 48 b h, le-leb b 57 l)
 
 pub digit-low : (b : ℕ) → b < 48 → isDigit b ≡ false
@@ -51,29 +51,29 @@ digit-range b e = go (leb 48 b) refl (leb b 57) refl e
     go false p y q t = clash (sym (rw p) ∙ t)
 
 module _ (end v b : ℕ) (s : List ℕ) (at : ℕ) where
-  pub on-zero : isDigit b ≡ true → v ≡ 0 → readOn end v (b ∷ s) at ≡ noNumber
+  on-zero : isDigit b ≡ true → v ≡ 0 → readOn end v (b ∷ s) at ≡ noNumber
   on-zero e z = rw (e, eq-eqb v 0 z)
 
-  pub on-large : isDigit b ≡ true → most < grown v b → readOn end v (b ∷ s) at ≡ noNumber
+  on-large : isDigit b ≡ true → most < grown v b → readOn end v (b ∷ s) at ≡ noNumber
   on-large e l = go (eqb v 0) refl
     where
       go : (x : Bool) → eqb v 0 ≡ x → readOn end v (b ∷ s) at ≡ noNumber
       go true q = rw (e, q)
       go false q = rw (e, q, lt-ltb most (grown v b) l)
 
-  pub on-more : isDigit b ≡ true → v ≢ 0 → grown v b ≤ most → readOn end v (b ∷ s) at ≡ readOn end (grown v b) s (suc at)
+  on-more : isDigit b ≡ true → v ≢ 0 → grown v b ≤ most → readOn end v (b ∷ s) at ≡ readOn end (grown v b) s (suc at)
   on-more e n l = rw (e, ne-eqb v 0 n, le-ltb most (grown v b) l)
 
-  pub on-end : isDigit b ≡ false → b ≡ end → readOn end v (b ∷ s) at ≡ numberAt v (suc at)
+  on-end : isDigit b ≡ false → b ≡ end → readOn end v (b ∷ s) at ≡ numberAt v (suc at)
   on-end e q = rw (e, eq-eqb b end q)
 
-  pub on-other : isDigit b ≡ false → b ≢ end → readOn end v (b ∷ s) at ≡ noNumber
+  on-other : isDigit b ≡ false → b ≢ end → readOn end v (b ∷ s) at ≡ noNumber
   on-other e q = rw (e, ne-eqb b end q)
 
 pub from-other : (end b : ℕ) (s : List ℕ) (at : ℕ) → isDigit b ≡ false → readFrom end (b ∷ s) at ≡ noNumber
 from-other end b s at e = rw e
 
-pub from-digit : (end b : ℕ) (s : List ℕ) (at : ℕ) → isDigit b ≡ true → readFrom end (b ∷ s) at ≡ readOn end (b - 48) s (suc at)
+from-digit : (end b : ℕ) (s : List ℕ) (at : ℕ) → isDigit b ≡ true → readFrom end (b ∷ s) at ≡ readOn end (b - 48) s (suc at)
 from-digit end b s at e = rw e
 
 -- ── what is read is a rendering ──

@@ -28,10 +28,10 @@ digits-below (suc k) n h = go (ltb n 10) refl (λ m. digits-below k (n / 10) m)
         let q : length (digits n) ≡ length (digits (n / 10)) + 1 = ap length (digits-more n l) ∙ length-append (digits (n / 10)) ((48 + n % 10) ∷ []) in
         omega (arith, ih m)
 
-pub digits-short : (n : ℕ) → n ≤ most → length (digits n) ≤ 10
+digits-short : (n : ℕ) → n ≤ most → length (digits n) ≤ 10
 digits-short n h = digits-below 9 n (omega arith)
 
-pub number-short : (z : ℤ) → Allowed true z → length (number z) ≤ 11
+number-short : (z : ℤ) → Allowed true z → length (number z) ≤ 11
 number-short (pos n) h = omega (arith, digits-short n h)
 number-short (negsuc n) h = omega (arith, digits-short (suc n) h)
 

@@ -29,7 +29,7 @@ module _ (text : List ℕ) (at : ℕ) where
       let b = and-true (ltb at (length text)) _ (a .1) in
       (a .0, ltb-true at (length text) (b .0), eqb-true (getD text at 0) 45 (b .1))
 
-  pub sign-seen : (rest : List ℕ) → drop at text ≡ 45 ∷ rest → hasSign text at true ≡ true
+  sign-seen : (rest : List ℕ) → drop at text ≡ 45 ∷ rest → hasSign text at true ≡ true
   sign-seen rest e =
       let l : at < length text = below (ltb at (length text)) refl in
       let q : getD text at 0 ≡ 45 = head (drop-cons text at 0 l) in

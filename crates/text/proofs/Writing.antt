@@ -18,7 +18,7 @@ pub put-nil : (at : ℕ) (buf : List ℕ) → put at [] buf ≡ buf
 unfolding put
 put-nil at buf = rw add-zero (take-append-drop at buf)
 
-pub put-one : (at b : ℕ) (buf : List ℕ) → at < length buf → set buf at b ≡ put at (b ∷ []) buf
+put-one : (at b : ℕ) (buf : List ℕ) → at < length buf → set buf at b ≡ put at (b ∷ []) buf
 unfolding put
 put-one at b buf h = rw add-one (set-split buf at b h)
 
@@ -26,7 +26,7 @@ pub put-length : (at : ℕ) (xs buf : List ℕ) → Room at xs buf → length (p
 unfolding put
 put-length at xs buf h = simp (length-append, length-take, length-drop) (omega arith)
 
-pub put-put : (at : ℕ) (xs ys buf : List ℕ) → Room at (xs ++ ys) buf → put (at + length xs) ys (put at xs buf) ≡ put at (xs ++ ys) buf
+put-put : (at : ℕ) (xs ys buf : List ℕ) → Room at (xs ++ ys) buf → put (at + length xs) ys (put at xs buf) ≡ put at (xs ++ ys) buf
 unfolding put
 put-put at xs ys buf h =
     let m : at + (length xs + length ys) ≤ length buf = rw length-append at h in

@@ -1,178 +1,133 @@
 -- `register::revoke` makes a cut. Assumes nothing.
 use borrow.Author.Needs.{needs}
-use mathlib.Core.Path.{_≡_, refl, sym, _∙_}
-use mathlib.Core.Bool.{true}
+use mathlib.Core.Path.{_≡_, sym, _∙_}
 use native.Mathlib.Omega.{arith}
 use Rattle.rules.specs.Table.{steps}
-use Rattle.rules.specs.Cut.{removal}
-use Rattle.rules.specs.Call.{revoke}
-use Rattle.rules.specs.Refusal.{firstOf, passed, held}
-use Rattle.rules.proofs.Lists.{not-true, not-false}
+use Rattle.rules.specs.Cut.{Cut, removal}
+use Rattle.rules.specs.Call.{Call, revoke}
+use Rattle.rules.specs.Refusal.{firstOf, held}
 use Rattle.rules.proofs.Table.{steps-rule}
+use Rattle.block.specs.Bytes.{IsBytes}
 use Rattle.block.specs.Block.{decode}
-use Rattle.block.specs.WellFormed.{wellFormed}
 use Rattle.block.proofs.Bytes.{fits-bytes}
-use Rattle.register.specs.Made.{refusedBy}
-use Rattle.register.proofs.Made.{made-length, made-passed, made-form, made-held}
-use Rattle.register.proofs.CutHolding.{revoke-stands, revoke-through}
-use Rattle.register.proofs.CutWays.{removed-block, revoke-done, cut-made}
+use Rattle.register.proofs.Within.{Within, within}
+use Rattle.register.proofs.Made.{Early, past-early, made-early, made-held}
+use Rattle.register.proofs.CutHolding.{revoke-stands}
+use Rattle.register.proofs.CutWays.{cut-refused, named-block, cut-done}
 use Rattle.register.proofs.revoke.Statement.{statement}
 use Rattle.register.proofs.revoke.Tie as tie
+
+abbrev call : tie.Start → Call
+call s = revoke (s .args .by) (s .args .giver) (s .args .receiver)
+
+abbrev change : tie.Start → Cut
+change s = removal (s .args .giver) (s .args .receiver)
+
+-- ── past the tests ──
+abbrev start : tie.Else1 → tie.Start
+start c = c .before .before .before .before .before
+
+bytes : (c : tie.Else1) → IsBytes (start c .args .block .now)
+bytes c = fits-bytes (start c .args .block .now) (c .before .before .before .before .slice-known .given)
+
+past : (c : tie.Else1) → Early (start c .args .block .now) (call (start c))
+past c =
+    let p = c .before .before .revoke-passed in
+    let n = c .before .early in
+    past-early (start c .args .block .now) (call (start c)) (p .result) (n .result) (p .ensures) (n .ensures) (c .if1 .left)
+
+inside : (c : tie.Else1) → Within (call (start c))
+inside c = within (call (start c)) (past c .passed)
+
+unheld : (c : tie.Else2) → firstOf (held steps (decode (start (c .before .before .before) .args .block .now)) (call (start (c .before .before .before)))) ≡ 0
+unheld c = sym (c .before .revoke-held .ensures) ∙ c .if2 .left
+
+-- ── the needs ──
+revoke-passed-requires : tie.Need-revoke-passed-requires
+revoke-passed-requires c κs = search needs
+
+early-requires : tie.Need-early-requires
+early-requires c κs = search needs
 
 refused-requires : tie.Need-refused-requires
 refused-requires c κs = search needs
 
+same-length : tie.Need-same-length
+same-length c = search needs
+
 returns : tie.Need-returns
 returns c =
-    let s = c .before .before .before in
-    let a = s .args in
-    let b = a .block .now in
-    let bytes = fits-bytes b (c .before .before .slice-known .given) in
-    rw (c .refused .ensures) (cut-made steps steps-rule (revoke (a .by) (a .giver) (a .receiver)) (removal (a .giver) (a .receiver)) refl b bytes (refusedBy 1) b (made-length steps (revoke (a .by) (a .giver) (a .receiver)) b (c .before .if1 .taken)))
+    let n = c .before .before .early in
+    let p = c .before .before .before .revoke-passed in
+    let s = c .before .before .before .before .before .before in
+    let b = s .args .block .now in
+    rw (c .refused .ensures) (cut-refused steps (call s) (change s) b (n .result) (c .before .if1 .taken) (made-early steps (call s) b (p .result) (n .result) (p .ensures) (n .ensures) (c .before .if1 .taken)))
 
-revoke-passed-requires : tie.Need-revoke-passed-requires
-revoke-passed-requires c κs = search needs
+revoke-held-requires : tie.Need-revoke-held-requires
+revoke-held-requires c κs =
+    let w = inside (c .before) in
+    (past (c .before) .formed, w .0, w .1 .0, w .1 .1 .0)
 
 refused-requires-2 : tie.Need-refused-requires-2
 refused-requires-2 c κs = search needs
 
-returns-2 : tie.Need-returns-2
-returns-2 c =
-    let s = c .before .before .before .before .before in
-    let a = s .args in
-    let b = a .block .now in
-    let bytes = fits-bytes b (c .before .before .before .before .slice-known .given) in
-    let size = c .before .before .before .if1 .left in
-    let o = c .before .before .revoke-passed in
-    rw (c .refused2 .ensures) (cut-made steps steps-rule (revoke (a .by) (a .giver) (a .receiver)) (removal (a .giver) (a .receiver)) refl b bytes (refusedBy (o .result)) b (made-passed steps (revoke (a .by) (a .giver) (a .receiver)) b size (o .result) (sym (o .ensures)) (c .before .if2 .taken)))
-
-well-formed-requires : tie.Need-well-formed-requires
-well-formed-requires c κs = search needs
-
-refused-requires-3 : tie.Need-refused-requires-3
-refused-requires-3 c κs = search needs
-
-same-length : tie.Need-same-length
-same-length c = search needs
-
-returns-3 : tie.Need-returns-3
-returns-3 c =
-    let s = c .before .before .before .before .before .before .before .before in
-    let a = s .args in
-    let b = a .block .now in
-    let bytes = fits-bytes b (c .before .before .before .before .before .before .before .slice-known .given) in
-    let size = c .before .before .before .before .before .before .if1 .left in
-    let through : firstOf (passed (revoke (a .by) (a .giver) (a .receiver))) ≡ 0 = sym (c .before .before .before .before .before .revoke-passed .ensures) ∙ c .before .before .before .before .if2 .left in
-    rw (c .refused3 .ensures) (cut-made steps steps-rule (revoke (a .by) (a .giver) (a .receiver)) (removal (a .giver) (a .receiver)) refl b bytes (refusedBy 8) b (made-form steps (revoke (a .by) (a .giver) (a .receiver)) b size through (sym (c .before .before .well-formed .ensures) ∙ not-true _ (c .before .if3 .taken))))
-
-revoke-held-requires : tie.Need-revoke-held-requires
-revoke-held-requires c κs =
-    let s = c .before .before .before .before .before .before .before .before in
-    let a = s .args in
-    let b = a .block .now in
-    let bytes = fits-bytes b (c .before .before .before .before .before .before .before .slice-known .given) in
-    let through : firstOf (passed (revoke (a .by) (a .giver) (a .receiver))) ≡ 0 = sym (c .before .before .before .before .before .revoke-passed .ensures) ∙ c .before .before .before .before .if2 .left in
-    let formed : wellFormed b ≡ true = sym (c .before .before .well-formed .ensures) ∙ not-false _ (c .before .if3 .left) in
-    let (y, g, r) = revoke-through (a .by) (a .giver) (a .receiver) through in
-    (formed, y, g, r)
-
-refused-requires-4 : tie.Need-refused-requires-4
-refused-requires-4 c κs = search needs
-
 same-length-2 : tie.Need-same-length-2
 same-length-2 c = search needs
 
-returns-4 : tie.Need-returns-4
-returns-4 c =
-    let s = c .before .before .before .before .before .before .before .before .before .before .before in
-    let a = s .args in
-    let b = a .block .now in
-    let bytes = fits-bytes b (c .before .before .before .before .before .before .before .before .before .before .slice-known .given) in
-    let size = c .before .before .before .before .before .before .before .before .before .if1 .left in
-    let through : firstOf (passed (revoke (a .by) (a .giver) (a .receiver))) ≡ 0 = sym (c .before .before .before .before .before .before .before .before .revoke-passed .ensures) ∙ c .before .before .before .before .before .before .before .if2 .left in
-    let formed : wellFormed b ≡ true = sym (c .before .before .before .before .before .well-formed .ensures) ∙ not-false _ (c .before .before .before .before .if3 .left) in
-    let o = c .before .before .revoke-held in
-    rw (c .refused4 .ensures) (cut-made steps steps-rule (revoke (a .by) (a .giver) (a .receiver)) (removal (a .giver) (a .receiver)) refl b bytes (refusedBy (o .result)) b (made-held steps (revoke (a .by) (a .giver) (a .receiver)) b size through formed (o .result) (sym (o .ensures)) (c .before .if4 .taken)))
+returns-2 : tie.Need-returns-2
+returns-2 c =
+    let m = c .before .before .revoke-held in
+    let e = c .before .before .before .before in
+    let s = start e in
+    let b = s .args .block .now in
+    rw (c .refused2 .ensures) (cut-refused steps (call s) (change s) b (m .result) (c .before .if2 .taken) (made-held steps (call s) b (past e) (m .result) (m .ensures) (c .before .if2 .taken)))
 
 cast-remove : tie.Need-cast-remove
-cast-remove c =
-    let s = c .before .before .before .before .before .before .before .before .before .before .before in
-    let a = s .args in
-    let b = a .block .now in
-    let bytes = fits-bytes b (c .before .before .before .before .before .before .before .before .before .before .slice-known .given) in
-    let through : firstOf (passed (revoke (a .by) (a .giver) (a .receiver))) ≡ 0 = sym (c .before .before .before .before .before .before .before .before .revoke-passed .ensures) ∙ c .before .before .before .before .before .before .before .if2 .left in
-    let (y, g, r) = revoke-through (a .by) (a .giver) (a .receiver) through in
-    omega arith
+cast-remove c = omega (arith, inside (c .before .before .before .before) .1 .0)
 
 cast-remove-2 : tie.Need-cast-remove-2
-cast-remove-2 c =
-    let s = c .before .before .before .before .before .before .before .before .before .before .before in
-    let a = s .args in
-    let b = a .block .now in
-    let bytes = fits-bytes b (c .before .before .before .before .before .before .before .before .before .before .slice-known .given) in
-    let through : firstOf (passed (revoke (a .by) (a .giver) (a .receiver))) ≡ 0 = sym (c .before .before .before .before .before .before .before .before .revoke-passed .ensures) ∙ c .before .before .before .before .before .before .before .if2 .left in
-    let (y, g, r) = revoke-through (a .by) (a .giver) (a .receiver) through in
-    omega arith
+cast-remove-2 c = omega (arith, inside (c .before .before .before .before) .1 .1 .0)
 
 remove-requires : tie.Need-remove-requires
 remove-requires c κs =
-    let s = c .before .before .before .before .before .before .before .before .before .before .before in
-    let a = s .args in
-    let b = a .block .now in
-    let bytes = fits-bytes b (c .before .before .before .before .before .before .before .before .before .before .slice-known .given) in
-    let through : firstOf (passed (revoke (a .by) (a .giver) (a .receiver))) ≡ 0 = sym (c .before .before .before .before .before .before .before .before .revoke-passed .ensures) ∙ c .before .before .before .before .before .before .before .if2 .left in
-    let formed : wellFormed b ≡ true = sym (c .before .before .before .before .before .well-formed .ensures) ∙ not-false _ (c .before .before .before .before .if3 .left) in
-    let unheld : firstOf (held steps (decode b) (revoke (a .by) (a .giver) (a .receiver))) ≡ 0 = sym (c .before .before .revoke-held .ensures) ∙ c .before .if4 .left in
-    (formed, revoke-stands steps (decode b) (a .by) (a .giver) (a .receiver) unheld)
+    let e = c .before .before .before .before in
+    let a = start e .args in
+    (past e .formed, revoke-stands steps (decode (a .block .now)) (a .by) (a .giver) (a .receiver) (unheld (c .before)))
 
 settle-requires : tie.Need-settle-requires
 settle-requires c κs =
-    let s = c .before .before .before .before .before .before .before .before .before .before .before .before .before .before .before in
-    let a = s .args in
-    let b = a .block .now in
-    let bytes = fits-bytes b (c .before .before .before .before .before .before .before .before .before .before .before .before .before .before .slice-known .given) in
-    let size = c .before .before .before .before .before .before .before .before .before .before .before .before .before .if1 .left in
-    let through : firstOf (passed (revoke (a .by) (a .giver) (a .receiver))) ≡ 0 = sym (c .before .before .before .before .before .before .before .before .before .before .before .before .revoke-passed .ensures) ∙ c .before .before .before .before .before .before .before .before .before .before .before .if2 .left in
-    let formed : wellFormed b ≡ true = sym (c .before .before .before .before .before .before .before .before .before .well-formed .ensures) ∙ not-false _ (c .before .before .before .before .before .before .before .before .if3 .left) in
-    removed-block steps b bytes size formed (a .by) (a .giver) (a .receiver) (c .before .before .before .remove .last .0) (c .before .before .before .remove .ensures)
+    let d = c .before .before .before in
+    let e = d .before .before .before .before .before in
+    let s = start e in
+    named-block steps (s .args .block .now) (bytes e) (s .args .by) (change s) (past e) (d .remove .last .0) (d .remove .ensures)
 
 same-length-3 : tie.Need-same-length-3
 same-length-3 c = search needs
 
-returns-5 : tie.Need-returns-5
-returns-5 c =
-    let s = c .before .before .before .before .before .before .before .before .before .before .before .before .before .before .before .before .before .before in
-    let a = s .args in
-    let b = a .block .now in
-    let bytes = fits-bytes b (c .before .before .before .before .before .before .before .before .before .before .before .before .before .before .before .before .before .slice-known .given) in
-    let size = c .before .before .before .before .before .before .before .before .before .before .before .before .before .before .before .before .if1 .left in
-    let through : firstOf (passed (revoke (a .by) (a .giver) (a .receiver))) ≡ 0 = sym (c .before .before .before .before .before .before .before .before .before .before .before .before .before .before .before .revoke-passed .ensures) ∙ c .before .before .before .before .before .before .before .before .before .before .before .before .before .before .if2 .left in
-    let formed : wellFormed b ≡ true = sym (c .before .before .before .before .before .before .before .before .before .before .before .before .well-formed .ensures) ∙ not-false _ (c .before .before .before .before .before .before .before .before .before .before .before .if3 .left) in
-    let unheld : firstOf (held steps (decode b) (revoke (a .by) (a .giver) (a .receiver))) ≡ 0 = sym (c .before .before .before .before .before .before .before .before .before .revoke-held .ensures) ∙ c .before .before .before .before .before .before .before .before .if4 .left in
-    let d = c .before .before .before .before .before .before .remove in
+returns-3 : tie.Need-returns-3
+returns-3 c =
     let o = c .before .before .settle in
-    cut-made steps steps-rule (revoke (a .by) (a .giver) (a .receiver)) (removal (a .giver) (a .receiver)) refl b bytes (o .result) (o .last .0) (revoke-done steps b bytes size formed (a .by) (a .giver) (a .receiver) through unheld (d .last .0) (d .ensures) (o .result) (o .last .0) (o .ensures))
+    let d = c .before .before .before .before .before .before in
+    let e = d .before .before .before .before .before in
+    let s = start e in
+    cut-done steps (s .args .block .now) (bytes e) (s .args .by) (change s) (past e) (d .remove .last .0) (d .remove .ensures) steps-rule (unheld (d .before .before)) (o .result) (o .last .0) (o .ensures)
 
 pub revoke-spec : {M : Type 1} → statement M
 revoke-spec =
     tie.close
     (tie.spec
-    refused-requires
-    returns
     revoke-passed-requires
-    refused-requires-2
-    returns-2
-    well-formed-requires
-    refused-requires-3
+    early-requires
+    refused-requires
     same-length
-    returns-3
+    returns
     revoke-held-requires
-    refused-requires-4
+    refused-requires-2
     same-length-2
-    returns-4
+    returns-2
     cast-remove
     cast-remove-2
     remove-requires
     settle-requires
     same-length-3
-    returns-5)
+    returns-3)

@@ -1,164 +1,135 @@
 -- `register::use_right` answers or refuses. Assumes nothing.
 use borrow.Author.Needs.{needs}
-use mathlib.Core.Path.{sym, _∙_}
-use mathlib.Core.Bool.{true, false}
+use mathlib.Core.Path.{_≡_, sym, _∙_}
+use mathlib.Core.Bool.{Bool, true, false, cond, _||_}
 use native.Mathlib.Omega.{arith}
 use borrow.Author.Tests.{eq-eqb, ne-eqb}
+use lib.Dec.{eqb}
+use lib.ListN.{drop}
+use lib.IntN.{pos}
 use Rattle.rules.specs.Table.{steps}
-use Rattle.rules.specs.Call.{askUse}
-use Rattle.rules.proofs.Lists.{not-true, not-false}
+use Rattle.rules.specs.Pair.{receives}
+use Rattle.rules.specs.Call.{Call, askUse}
+use Rattle.block.specs.Bytes.{IsBytes, readAll}
+use Rattle.block.specs.Block.{delegationIn, countIn}
 use Rattle.block.proofs.Bytes.{fits-bytes}
 use Rattle.block.proofs.Held.{count-most}
-use Rattle.register.proofs.Made.{made-length, made-form}
-use Rattle.register.proofs.Using.{use-subject, use-through, use-enrolled, use-done}
+use Rattle.register.specs.Made.{answeredBy, Made}
+use Rattle.register.proofs.Within.{within}
+use Rattle.register.proofs.Made.{Early, past-early, made-early}
+use Rattle.register.proofs.Using.{use-enrolled, use-done}
 use Rattle.register.proofs.use_right.Statement.{statement}
 use Rattle.register.proofs.use_right.Tie as tie
+
+abbrev call : tie.Start → Call
+call s = askUse (s .args .receiver)
+
+-- ── past the tests ──
+abbrev start : tie.Else1 → tie.Start
+start c = c .before .before .before .before
+
+bytes : (c : tie.Else1) → IsBytes (start c .args .block .now)
+bytes c = fits-bytes (start c .args .block .now) (c .before .before .before .shared-slice-known .given)
+
+past : (c : tie.Else1) → Early (start c .args .block .now) (call (start c))
+past c =
+    let p = c .before .before .use-passed in
+    let n = c .before .early in
+    past-early (start c .args .block .now) (call (start c)) (p .result) (n .result) (p .ensures) (n .ensures) (c .if1 .left)
+
+-- the receiver is enrolled: x answers whether it may use
+done : (c : tie.Else2) (x : Bool) → let a = start (c .before .before) .args in x ≡ (eqb (a .receiver) 0 || receives (a .receiver) (readAll delegationIn 8 (drop 132 (a .block .now)) (countIn (a .block .now))))
+    → Made steps (askUse (a .receiver)) (a .block .now) (answeredBy (pos (cond x 1 0)) (pos 0) (pos 0)) (a .block .now)
+done c x q =
+    let e = c .before .before in
+    use-done steps (start e .args .receiver) (start e .args .block .now) (bytes e) (past e) (rw (← c .before .subjects .ensures) (c .if2 .left)) x q
+
+-- ── the needs ──
+use-passed-requires : tie.Need-use-passed-requires
+use-passed-requires c κs = search needs
+
+early-requires : tie.Need-early-requires
+early-requires c κs = search needs
 
 refused-requires : tie.Need-refused-requires
 refused-requires c κs = search needs
 
 returns : tie.Need-returns
-returns c = rw (c .refused .ensures) (made-length steps (askUse (c .before .before .before .args .receiver)) (c .before .before .before .args .block .now) (c .before .if1 .taken))
+returns c =
+    let n = c .before .before .early in
+    let p = c .before .before .before .use-passed in
+    let s = c .before .before .before .before .before in
+    rw (c .refused .ensures) (made-early steps (call s) (s .args .block .now) (p .result) (n .result) (p .ensures) (n .ensures) (c .before .if1 .taken))
+
+subjects-requires : tie.Need-subjects-requires
+subjects-requires c κs = omega (arith, past c .size)
+
+cast-if2 : tie.Need-cast-if2
+cast-if2 c = search needs
 
 refused-requires-2 : tie.Need-refused-requires-2
 refused-requires-2 c κs = search needs
 
 returns-2 : tie.Need-returns-2
-returns-2 c = rw (c .refused2 .ensures) (use-subject steps (c .before .before .before .before .args .receiver) (c .before .before .before .before .args .block .now) (c .before .before .if1 .left) (c .before .if2 .taken))
-
-well-formed-requires : tie.Need-well-formed-requires
-well-formed-requires c κs = search needs
-
-refused-requires-3 : tie.Need-refused-requires-3
-refused-requires-3 c κs = search needs
-
-returns-3 : tie.Need-returns-3
-returns-3 c =
-    let s = c .before .before .before .before .before .before in
-    let a = s .args in
-    let b = a .block .now in
-    let at-if1 = c .before .before .before .before .if1 in
-    let at-if2 = c .before .before .before .if2 in
-    let at-well-formed = c .before .before .well-formed in
-    rw (c .refused3 .ensures) (made-form steps (askUse (a .receiver)) b (at-if1 .left) (use-through steps (a .receiver) b (at-if1 .left) (at-if2 .left)) (sym (at-well-formed .ensures) ∙ not-true _ (c .before .if3 .taken)))
-
-subjects-requires : tie.Need-subjects-requires
-subjects-requires c κs = search needs
-
-cast-if4 : tie.Need-cast-if4
-cast-if4 c = search needs
-
-refused-requires-4 : tie.Need-refused-requires-4
-refused-requires-4 c κs = search needs
-
-returns-4 : tie.Need-returns-4
-returns-4 c =
-    let s = c .before .before .before .before .before .before .before .before in
-    let a = s .args in
-    let b = a .block .now in
-    let bytes = fits-bytes b (c .before .before .before .before .before .before .before .shared-slice-known .given) in
-    let at-if1 = c .before .before .before .before .before .before .if1 in
-    let at-if2 = c .before .before .before .before .before .if2 in
-    let at-well-formed = c .before .before .before .before .well-formed in
-    let at-if3 = c .before .before .before .if3 in
-    let at-subjects = c .before .before .subjects in
-    rw (c .refused4 .ensures) (use-enrolled steps (a .receiver) b (at-if1 .left) (at-if2 .left) bytes (sym (at-well-formed .ensures) ∙ not-false _ (at-if3 .left)) (rw (← at-subjects .ensures) (c .before .if4 .taken)))
+returns-2 c =
+    let k = c .before .before .subjects in
+    let e = c .before .before .before in
+    let a = start e .args in
+    rw (c .refused2 .ensures) (use-enrolled steps (a .receiver) (a .block .now) (bytes e) (past e) (rw (← k .ensures) (c .before .if2 .taken)))
 
 answered-requires : tie.Need-answered-requires
 answered-requires c κs = search needs
 
-returns-5 : tie.Need-returns-5
-returns-5 c =
-    let s = c .before .before .before .before .before .before .before .before .before in
-    let a = s .args in
-    let b = a .block .now in
-    let bytes = fits-bytes b (c .before .before .before .before .before .before .before .before .shared-slice-known .given) in
-    let at-if1 = c .before .before .before .before .before .before .before .if1 in
-    let at-if2 = c .before .before .before .before .before .before .if2 in
-    let at-well-formed = c .before .before .before .before .before .well-formed in
-    let at-if3 = c .before .before .before .before .if3 in
-    let at-subjects = c .before .before .before .subjects in
-    let at-if4 = c .before .before .if4 in
-    rw (c .answered .ensures) (use-done steps (a .receiver) b (at-if1 .left) (at-if2 .left) bytes (sym (at-well-formed .ensures) ∙ not-false _ (at-if3 .left)) (rw (← at-subjects .ensures) (at-if4 .left)) true (rw (eq-eqb (a .receiver) 0 (c .before .if5 .taken))))
+returns-3 : tie.Need-returns-3
+returns-3 c = rw (c .answered .ensures) (done (c .before .before) true (rw (eq-eqb _ _ (c .before .if3 .taken))))
 
 count-requires : tie.Need-count-requires
-count-requires c κs = search needs
+count-requires c κs = omega (arith, past (c .before .before .before) .size)
 
 cast-receives : tie.Need-cast-receives
-cast-receives c = search needs
+cast-receives c = let e = c .before .before .before .before in omega (arith, within (call (start e)) (past e .passed) .0)
 
 receives-requires : tie.Need-receives-requires
 receives-requires c κs =
-    let s = c .before .before .before .before .before .before .before .before .before in
-    let a = s .args in
-    let b = a .block .now in
-    let bytes = fits-bytes b (c .before .before .before .before .before .before .before .before .shared-slice-known .given) in
-    let at-if1 = c .before .before .before .before .before .before .before .if1 in
-    let at-well-formed = c .before .before .before .before .before .well-formed in
-    let at-if3 = c .before .before .before .before .if3 in
-    omega (arith, at-if1 .left, count-most b bytes (sym (at-well-formed .ensures) ∙ not-false _ (at-if3 .left)), c .count .ensures)
+    let e = c .before .before .before .before in
+    omega (arith, past e .size, count-most (start e .args .block .now) (bytes e) (past e .formed), c .count .ensures)
 
 answered-requires-2 : tie.Need-answered-requires-2
 answered-requires-2 c κs = search needs
 
-returns-6 : tie.Need-returns-6
-returns-6 c =
-    let s = c .before .before .before .before .before .before .before .before .before .before .before .before in
-    let a = s .args in
-    let b = a .block .now in
-    let bytes = fits-bytes b (c .before .before .before .before .before .before .before .before .before .before .before .shared-slice-known .given) in
-    let at-if1 = c .before .before .before .before .before .before .before .before .before .before .if1 in
-    let at-if2 = c .before .before .before .before .before .before .before .before .before .if2 in
-    let at-well-formed = c .before .before .before .before .before .before .before .before .well-formed in
-    let at-if3 = c .before .before .before .before .before .before .before .if3 in
-    let at-subjects = c .before .before .before .before .before .before .subjects in
-    let at-if4 = c .before .before .before .before .before .if4 in
-    let at-if5 = c .before .before .before .before .if5 in
-    let at-count = c .before .before .before .count in
-    let at-receives = c .before .before .receives in
-    rw (c .answered2 .ensures) (use-done steps (a .receiver) b (at-if1 .left) (at-if2 .left) bytes (sym (at-well-formed .ensures) ∙ not-false _ (at-if3 .left)) (rw (← at-subjects .ensures) (at-if4 .left)) true (rw (ne-eqb (a .receiver) 0 (at-if5 .left), ← at-count .ensures) (sym (c .before .if6 .taken) ∙ at-receives .ensures)))
+returns-4 : tie.Need-returns-4
+returns-4 c =
+    let r = c .before .before in
+    let k = r .before in
+    rw (c .answered2 .ensures) (done (k .before .before) true (rw (ne-eqb _ _ (k .before .if3 .left), ← k .count .ensures) (sym (c .before .if4 .taken) ∙ r .receives .ensures)))
 
 answered-requires-3 : tie.Need-answered-requires-3
 answered-requires-3 c κs = search needs
 
-returns-7 : tie.Need-returns-7
-returns-7 c =
-    let s = c .before .before .before .before .before .before .before .before .before .before .before .before in
-    let a = s .args in
-    let b = a .block .now in
-    let bytes = fits-bytes b (c .before .before .before .before .before .before .before .before .before .before .before .shared-slice-known .given) in
-    let at-if1 = c .before .before .before .before .before .before .before .before .before .before .if1 in
-    let at-if2 = c .before .before .before .before .before .before .before .before .before .if2 in
-    let at-well-formed = c .before .before .before .before .before .before .before .before .well-formed in
-    let at-if3 = c .before .before .before .before .before .before .before .if3 in
-    let at-subjects = c .before .before .before .before .before .before .subjects in
-    let at-if4 = c .before .before .before .before .before .if4 in
-    let at-if5 = c .before .before .before .before .if5 in
-    let at-count = c .before .before .before .count in
-    let at-receives = c .before .before .receives in
-    rw (c .answered3 .ensures) (use-done steps (a .receiver) b (at-if1 .left) (at-if2 .left) bytes (sym (at-well-formed .ensures) ∙ not-false _ (at-if3 .left)) (rw (← at-subjects .ensures) (at-if4 .left)) false (rw (ne-eqb (a .receiver) 0 (at-if5 .left), ← at-count .ensures) (sym (c .before .if6 .left) ∙ at-receives .ensures)))
+returns-5 : tie.Need-returns-5
+returns-5 c =
+    let r = c .before .before in
+    let k = r .before in
+    rw (c .answered3 .ensures) (done (k .before .before) false (rw (ne-eqb _ _ (k .before .if3 .left), ← k .count .ensures) (sym (c .before .if4 .left) ∙ r .receives .ensures)))
 
 pub use-right-spec : {M : Type 1} → statement M
 use-right-spec =
     tie.close
     (tie.spec
+    use-passed-requires
+    early-requires
     refused-requires
     returns
+    subjects-requires
+    cast-if2
     refused-requires-2
     returns-2
-    well-formed-requires
-    refused-requires-3
-    returns-3
-    subjects-requires
-    cast-if4
-    refused-requires-4
-    returns-4
     answered-requires
-    returns-5
+    returns-3
     count-requires
     cast-receives
     receives-requires
     answered-requires-2
-    returns-6
+    returns-4
     answered-requires-3
-    returns-7)
+    returns-5)

@@ -1,11 +1,12 @@
 -- `replay::replay` makes a list of calls and keeps every block. Assumes nothing.
 use mathlib.Core.Path.{_≡_, refl, sym, _∙_}
+use mathlib.Core.Bool.{true}
 use Prim.Native.Nat.{_-_, _≤_}
 use native.Mathlib.Omega.{arith}
 use borrow.Author.Tests.{not-true, not-false}
 use borrow.Rule.Slice.PartMut.{postOf, same-len-mid}
 use lib.ListN.{length}
-use Rattle.replay.specs.Replay.{callCount}
+use Rattle.replay.specs.Replay.{isSized, callCount, allCalls}
 use Rattle.replay.specs.Turn.{Sized}
 use Rattle.replay.proofs.Calling.{numbered}
 use Rattle.replay.proofs.Sizes.{sized}
@@ -20,6 +21,19 @@ Inv-loop calls blocks₀ refusals₀ answers₀ n i₀ blocks refusals answers i
 abbrev μ-loop : tie.MeasureT-loop
 μ-loop calls blocks₀ refusals₀ answers₀ n i₀ blocks refusals answers i = n - i
 
+-- ── past the tests ──
+fit : (c : tie.Else1 Inv-loop μ-loop) → let a = c .before .before .before .before .before .args in isSized (length (a .calls .now)) (length (a .blocks .now)) (length (a .refusals .now)) (length (a .answers .now)) ≡ true
+fit c = sym (c .before .is-sized .ensures) ∙ not-false (c .before .is-sized .result) (c .if1 .left)
+
+sizes : (c : tie.Else1 Inv-loop μ-loop) → let a = c .before .before .before .before .before .args in Sized (a .calls .now) (a .blocks .now) (a .refusals .now) (a .answers .now)
+sizes c =
+    let a = c .before .before .before .before .before .args in
+    sized (length (a .calls .now)) (length (a .blocks .now)) (length (a .refusals .now)) (length (a .answers .now)) (fit c)
+
+all-known : (c : tie.Else2 Inv-loop μ-loop) → allCalls (c .before .before .before .before .before .before .before .args .calls .now) ≡ true
+all-known c = sym (c .before .all-calls .ensures) ∙ not-false (c .before .all-calls .result) (c .if2 .left)
+
+-- ── the needs ──
 is-sized-requires : tie.Need-is-sized-requires Inv-loop μ-loop
 is-sized-requires c κs = tt
 
@@ -33,10 +47,9 @@ all-calls-requires c κs = tt
 
 returns-2 : tie.Need-returns-2 Inv-loop μ-loop
 returns-2 c =
-    let a = c .before .before .before .before .before .before .before .args in
-    made-number (a .calls .now) (a .blocks .now) (a .refusals .now) (a .answers .now)
-    (sym (c .before .before .before .is-sized .ensures) ∙ not-false (c .before .before .before .is-sized .result) (c .before .before .if1 .left))
-    (sym (c .before .all-calls .ensures) ∙ not-true (c .before .all-calls .result) (c .if2 .taken))
+    let e = c .before .before in
+    let a = e .before .before .before .before .before .args in
+    made-number (a .calls .now) (a .blocks .now) (a .refusals .now) (a .answers .now) (fit e) (sym (c .before .all-calls .ensures) ∙ not-true (c .before .all-calls .result) (c .if2 .taken))
 
 sub-open : tie.Need-sub-open Inv-loop μ-loop
 sub-open c = omega arith
@@ -45,19 +58,17 @@ part-open-start : tie.Need-part-open-start Inv-loop μ-loop
 part-open-start c = omega arith
 
 part-open-end : tie.Need-part-open-end Inv-loop μ-loop
-part-open-end c =
-    let a = c .before .before .before .before .before .before .before .args in
-    let z = sized (length (a .calls .now)) (length (a .blocks .now)) (length (a .refusals .now)) (length (a .answers .now)) (sym (c .before .before .before .is-sized .ensures) ∙ not-false (c .before .before .before .is-sized .result) (c .before .before .if1 .left)) in
-    omega (arith, z .0)
+part-open-end c = omega (arith, sizes (c .before .before) .0)
 
 open-requires : tie.Need-open-requires Inv-loop μ-loop
 open-requires c κs = tt
 
 loop-holds : tie.Need-loop-holds Inv-loop μ-loop
 loop-holds c =
-    let a = c .before .before .before .before .before .before .before .before .before .before .before .args in
     let o = c .before .before .«open» in
-    let z = sized (length (a .calls .now)) (length (a .blocks .now)) (length (a .refusals .now)) (length (a .answers .now)) (sym (c .before .before .before .before .before .before .before .is-sized .ensures) ∙ not-false (c .before .before .before .before .before .before .before .is-sized .result) (c .before .before .before .before .before .before .if1 .left)) in (
+    let e = c .before .before .before .before .before .before in
+    let a = e .before .before .before .before .before .args in
+    let z = sizes e in (
       omega arith,
       refl,
       (same-len-mid 0 2180 (a .blocks .now) (o .last .0) (o .kept .0) ∙ z .0, z .1, z .2),
@@ -67,9 +78,9 @@ loop-holds c =
 
 turn-requires : tie.Need-turn-requires Inv-loop μ-loop
 turn-requires c κs =
-    let a = c .before .before .before .before .before .before .before .before .before .before .before .before .before .before .before .before .args in
     let l = c .before .before .before .before .loop in
-    (omega arith, numbered (a .calls .now) (sym (c .before .before .before .before .before .before .before .before .before .before .all-calls .ensures) ∙ not-false (c .before .before .before .before .before .before .before .before .before .before .all-calls .result) (c .before .before .before .before .before .before .before .before .before .if2 .left)) (l .i) (omega arith), l .inv .2)
+    let e = c .before .before .before .before .before .before .before .before .before in
+    (omega arith, numbered (e .before .before .before .before .before .before .before .args .calls .now) (all-known e) (l .i) (omega arith), l .inv .2)
 
 add-i : tie.Need-add-i Inv-loop μ-loop
 add-i c = omega arith
@@ -89,31 +100,21 @@ loop-again c =
     )
 
 same-length : tie.Need-same-length Inv-loop μ-loop
-same-length c =
-    let a = c .before .before .before .before .before .before .before .before .before .before .before .before .before .args in
-    let z = sized (length (a .calls .now)) (length (a .blocks .now)) (length (a .refusals .now)) (length (a .answers .now)) (sym (c .before .before .before .before .before .before .before .before .before .is-sized .ensures) ∙ not-false (c .before .before .before .before .before .before .before .before .before .is-sized .result) (c .before .before .before .before .before .before .before .before .if1 .left)) in
-    c .before .loop .inv .2 .0 ∙ sym (z .0)
+same-length c = c .before .loop .inv .2 .0 ∙ sym (sizes (c .before .before .before .before .before .before .before .before) .0)
 
 same-length-2 : tie.Need-same-length-2 Inv-loop μ-loop
-same-length-2 c =
-    let a = c .before .before .before .before .before .before .before .before .before .before .before .before .before .args in
-    let z = sized (length (a .calls .now)) (length (a .blocks .now)) (length (a .refusals .now)) (length (a .answers .now)) (sym (c .before .before .before .before .before .before .before .before .before .is-sized .ensures) ∙ not-false (c .before .before .before .before .before .before .before .before .before .is-sized .result) (c .before .before .before .before .before .before .before .before .if1 .left)) in
-    c .before .loop .inv .2 .1 ∙ sym (z .1)
+same-length-2 c = c .before .loop .inv .2 .1 ∙ sym (sizes (c .before .before .before .before .before .before .before .before) .1)
 
 same-length-3 : tie.Need-same-length-3 Inv-loop μ-loop
-same-length-3 c =
-    let a = c .before .before .before .before .before .before .before .before .before .before .before .before .before .args in
-    let z = sized (length (a .calls .now)) (length (a .blocks .now)) (length (a .refusals .now)) (length (a .answers .now)) (sym (c .before .before .before .before .before .before .before .before .before .is-sized .ensures) ∙ not-false (c .before .before .before .before .before .before .before .before .before .is-sized .result) (c .before .before .before .before .before .before .before .before .if1 .left)) in
-    c .before .loop .inv .2 .2 ∙ sym (z .2)
+same-length-3 c = c .before .loop .inv .2 .2 ∙ sym (sizes (c .before .before .before .before .before .before .before .before) .2)
 
 returns-3 : tie.Need-returns-3 Inv-loop μ-loop
 returns-3 c =
-    let a = c .before .before .before .before .before .before .before .before .before .before .before .before .before .args in
     let l = c .before .loop in
-    made-all (a .calls .now) (a .blocks .now) (a .refusals .now) (a .answers .now)
-    (sym (c .before .before .before .before .before .before .before .before .before .is-sized .ensures) ∙ not-false (c .before .before .before .before .before .before .before .before .before .is-sized .result) (c .before .before .before .before .before .before .before .before .if1 .left))
-    (sym (c .before .before .before .before .before .before .before .all-calls .ensures) ∙ not-false (c .before .before .before .before .before .before .before .all-calls .result) (c .before .before .before .before .before .before .if2 .left))
-    (l .blocks) (l .refusals) (l .answers)
+    let d = c .before .before .before .before .before .before in
+    let e = d .before .before in
+    let a = e .before .before .before .before .before .args in
+    made-all (a .calls .now) (a .blocks .now) (a .refusals .now) (a .answers .now) (fit e) (all-known d) (l .blocks) (l .refusals) (l .answers)
     (replayed (a .calls .now) (l .blocks) (l .refusals) (l .answers) (l .i) (omega arith) (l .inv .3))
 
 pub replay-spec : {M : Type 1} → statement M

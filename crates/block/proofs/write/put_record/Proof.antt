@@ -1,62 +1,47 @@
+-- `block::put_record` writes the record of a delegation. Assumes nothing.
+use borrow.Author.Needs.{needs}
 use native.Mathlib.Omega.{arith}
 use lib.ListN.{length-set}
 use Rattle.block.proofs.Shift.{plus1, plus2, plus3, plus4, plus6}
-use borrow.Author.Needs.{needs}
 use Rattle.block.proofs.write.put_record.Statement.{statement}
 use Rattle.block.proofs.write.put_record.Tie as tie
-use Rattle.block.proofs.write.put_record.Reads as reads
-use Rattle.block.proofs.write.put_record.Lts as lts
-use Rattle.block.proofs.write.put_two.Reads as put-two-reads
 
--- src/write.rt:37:5
 slice-write-b : tie.Need-slice-write-b
 slice-write-b c = search needs
 
--- src/write.rt:38:7
 add-b : tie.Need-add-b
 add-b c = search needs
 
--- src/write.rt:38:5
 slice-write-b-2 : tie.Need-slice-write-b-2
 slice-write-b-2 c = simp length-set (omega arith)
 
--- src/write.rt:39:7
 add-b-2 : tie.Need-add-b-2
 add-b-2 c = search needs
 
--- src/write.rt:39:5
 slice-write-b-3 : tie.Need-slice-write-b-3
 slice-write-b-3 c = simp length-set (omega arith)
 
--- src/write.rt:40:7
 add-b-3 : tie.Need-add-b-3
 add-b-3 c = search needs
 
--- src/write.rt:40:5
 slice-write-b-4 : tie.Need-slice-write-b-4
 slice-write-b-4 c = simp length-set (omega arith)
 
--- src/write.rt:41:16
 add-put-two : tie.Need-add-put-two
 add-put-two c = search needs
 
--- src/write.rt:41:5
 put-two-requires : tie.Need-put-two-requires
 put-two-requires c κs = simp length-set (omega arith)
 
--- src/write.rt:42:16
 add-put-two-2 : tie.Need-add-put-two-2
 add-put-two-2 c = search needs
 
--- src/write.rt:42:5
 put-two-requires-2 : tie.Need-put-two-requires-2
 put-two-requires-2 c κs = omega (arith, simp length-set at (c .before .before .before .put-two .kept .0))
 
--- src/write.rt:33:1
 same-length : tie.Need-same-length
 same-length c = omega (arith, c .before .before .put-two2 .kept .0, simp length-set at (c .before .before .before .before .before .before .put-two .kept .0))
 
--- src/write.rt:33:1
 returns : tie.Need-returns
 returns c = rw (c .before .before .put-two2 .ensures, c .before .before .before .before .before .before .put-two .ensures, plus1, plus2, plus3, plus4, plus6)
 

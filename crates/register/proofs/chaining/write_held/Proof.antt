@@ -1,12 +1,15 @@
 -- `register::write_held` writes a chain for a standing pair, or refuses by what the register holds. Assumes nothing.
 use borrow.Author.Needs.{needs}
-use mathlib.Core.Path.{sym, _∙_}
-use mathlib.Core.Bool.{_||_}
+use mathlib.Core.Path.{_≡_, sym, _∙_}
+use mathlib.Core.Bool.{true, false, not, _||_}
 use native.Mathlib.Omega.{arith}
 use lib.Dec.{leb}
+use lib.ListN.{drop}
 use Rattle.rules.specs.Table.{steps}
+use Rattle.rules.specs.Pair.{isPair}
 use Rattle.rules.proofs.Lists.{not-true, not-false}
-use Rattle.block.specs.Block.{subjectsIn}
+use Rattle.block.specs.Bytes.{IsBytes, readAll, leading}
+use Rattle.block.specs.Block.{delegationIn, subjectsIn, countIn}
 use Rattle.block.proofs.Bytes.{fits-bytes}
 use Rattle.block.proofs.Held.{size-held, count-most}
 use Rattle.register.proofs.Holding.{both-in}
@@ -14,6 +17,23 @@ use Rattle.register.proofs.ChainWays.{chain-unenrolled, chain-missing, 
 use Rattle.register.proofs.chaining.write_held.Statement.{statement}
 use Rattle.register.proofs.chaining.write_held.Tie as tie
 
+-- ── past the tests ──
+abbrev start : tie.After-both-enrolled → tie.Start
+start c = c .before .before .before
+
+bytes : (c : tie.After-both-enrolled) → IsBytes (start c .args .block .now)
+bytes c = fits-bytes (start c .args .block .now) (c .before .before .shared-slice-known .given)
+
+both : (c : tie.Else1) → let a = start (c .before) .args in not (leb (subjectsIn (a .block .now)) (a .giver) || leb (subjectsIn (a .block .now)) (a .receiver)) ≡ true
+both c = sym (c .before .both-enrolled .ensures) ∙ not-false _ (c .if1 .left)
+
+enrolled : (c : tie.Else1) → let a = start (c .before) .args in (leb (subjectsIn (a .block .now)) (a .giver) || leb (subjectsIn (a .block .now)) (a .receiver)) ≡ false
+enrolled c = not-true _ (both c)
+
+place : (c : tie.After-find) → let a = start (c .before .before .before) .args in c .find .result ≡ leading (λ d. not (isPair (a .giver) (a .receiver) d)) (readAll delegationIn 8 (drop 132 (a .block .now)) (countIn (a .block .now)))
+place c = rw (← c .before .count .ensures) (c .find .ensures)
+
+-- ── the needs ──
 both-enrolled-requires : tie.Need-both-enrolled-requires
 both-enrolled-requires c κs = search needs
 
@@ -22,15 +42,12 @@ unwritten-requires c κs = search needs
 
 returns : tie.Need-returns
 returns c =
-    let s = c .before .before .before .before .before in
-    let a = s .args in
-    let b = a .block .now in
-    let bytes = fits-bytes b (c .before .before .before .before .shared-slice-known .given) in
-    let at-both-enrolled = c .before .before .both-enrolled in
-    rw (c .unwritten .ensures) (chain-unenrolled steps b bytes (s .pre .0) (a .giver) (a .receiver) (not-false (leb (subjectsIn b) (a .giver) || leb (subjectsIn b) (a .receiver)) (sym (at-both-enrolled .ensures) ∙ not-true _ (c .before .if1 .taken))) (a .buf .now))
+    let e = c .before .before in
+    let a = start e .args in
+    rw (c .unwritten .ensures) (chain-unenrolled steps (a .block .now) (bytes e) (start e .pre .0) (a .giver) (a .receiver) (not-false (leb (subjectsIn (a .block .now)) (a .giver) || leb (subjectsIn (a .block .now)) (a .receiver)) (sym (e .both-enrolled .ensures) ∙ not-true _ (c .before .if1 .taken))) (a .buf .now))
 
 count-requires : tie.Need-count-requires
-count-requires c κs = omega (arith, size-held (c .before .before .before .before .args .block .now) (fits-bytes (c .before .before .before .before .args .block .now) (c .before .before .before .shared-slice-known .given)) (c .before .before .before .before .pre .0))
+count-requires c κs = omega (arith, size-held (start (c .before) .args .block .now) (bytes (c .before)) (start (c .before) .pre .0))
 
 cast-find : tie.Need-cast-find
 cast-find c = search needs
@@ -40,44 +57,33 @@ cast-find-2 c = search needs
 
 find-requires : tie.Need-find-requires
 find-requires c κs =
-    let s = c .before .before .before .before .before in
-    let a = s .args in
-    let b = a .block .now in
-    let bytes = fits-bytes b (c .before .before .before .before .shared-slice-known .given) in
-    omega (arith, size-held b bytes (s .pre .0), count-most b bytes (s .pre .0), c .count .ensures)
+    let e = c .before .before in
+    let b = start e .args .block .now in
+    omega (arith, size-held b (bytes e) (start e .pre .0), count-most b (bytes e) (start e .pre .0), c .count .ensures)
 
 unwritten-requires-2 : tie.Need-unwritten-requires-2
 unwritten-requires-2 c κs = search needs
 
 returns-2 : tie.Need-returns-2
 returns-2 c =
-    let s = c .before .before .before .before .before .before .before .before in
-    let a = s .args in
-    let b = a .block .now in
-    let bytes = fits-bytes b (c .before .before .before .before .before .before .before .shared-slice-known .given) in
-    let at-both-enrolled = c .before .before .before .before .before .both-enrolled in
-    let at-if1 = c .before .before .before .before .if1 in
-    let at-count = c .before .before .before .count in
-    let at-find = c .before .before .find in
-    rw (c .unwritten2 .ensures) (chain-missing steps b bytes (s .pre .0) (a .giver) (a .receiver) (not-true (leb (subjectsIn b) (a .giver) || leb (subjectsIn b) (a .receiver)) (sym (at-both-enrolled .ensures) ∙ not-false _ (at-if1 .left))) (at-find .result) (rw (← at-count .ensures) (at-find .ensures)) (rw (← at-count .ensures) (c .before .if2 .taken)) (a .buf .now))
+    let f = c .before .before in
+    let k = f .before in
+    let e = k .before .before in
+    let a = start e .args in
+    rw (c .unwritten2 .ensures) (chain-missing steps (a .block .now) (bytes e) (start e .pre .0) (a .giver) (a .receiver) (enrolled (k .before)) (f .find .result) (place f) (rw (← k .count .ensures) (c .before .if2 .taken)) (a .buf .now))
 
 weight-requires : tie.Need-weight-requires
 weight-requires c κs =
-    let s = c .before .before .before .before .before .before .before in
-    let a = s .args in
-    let b = a .block .now in
-    let bytes = fits-bytes b (c .before .before .before .before .before .before .shared-slice-known .given) in
-    let at-count = c .before .before .count in
-    omega (arith, size-held b bytes (s .pre .0), count-most b bytes (s .pre .0), at-count .ensures, c .if2 .left)
+    let k = c .before .before in
+    let e = k .before .before in
+    let b = start e .args .block .now in
+    omega (arith, size-held b (bytes e) (start e .pre .0), count-most b (bytes e) (start e .pre .0), k .count .ensures, c .if2 .left)
 
 write-carrying-requires : tie.Need-write-carrying-requires
 write-carrying-requires c κs =
-    let s = c .before .before .before .before .before .before .before .before .before in
-    let a = s .args in
-    let b = a .block .now in
-    let at-both-enrolled = c .before .before .before .before .before .before .both-enrolled in
-    let at-if1 = c .before .before .before .before .before .if1 in
-    let (p, q) = both-in (subjectsIn b) (a .giver) (a .receiver) (sym (at-both-enrolled .ensures) ∙ not-false _ (at-if1 .left)) in
+    let d = c .before .before .before .before .before in
+    let s = start (d .before) in
+    let (p, q) = both-in (subjectsIn (s .args .block .now)) (s .args .giver) (s .args .receiver) (both d) in
     (s .pre .0, p, q, s .pre .3)
 
 same-length : tie.Need-same-length
@@ -85,18 +91,14 @@ same-length c = search needs
 
 returns-3 : tie.Need-returns-3
 returns-3 c =
-    let s = c .before .before .before .before .before .before .before .before .before .before .before .before in
-    let a = s .args in
-    let b = a .block .now in
-    let bytes = fits-bytes b (c .before .before .before .before .before .before .before .before .before .before .before .shared-slice-known .given) in
-    let at-both-enrolled = c .before .before .before .before .before .before .before .before .before .both-enrolled in
-    let at-if1 = c .before .before .before .before .before .before .before .before .if1 in
-    let at-count = c .before .before .before .before .before .before .before .count in
-    let at-find = c .before .before .before .before .before .before .find in
-    let at-if2 = c .before .before .before .before .before .if2 in
-    let at-weight = c .before .before .before .before .weight in
-    let at-write-carrying = c .before .before .write-carrying in
-    chain-carried steps b bytes (s .pre .0) (a .giver) (a .receiver) (not-true (leb (subjectsIn b) (a .giver) || leb (subjectsIn b) (a .receiver)) (sym (at-both-enrolled .ensures) ∙ not-false _ (at-if1 .left))) (at-find .result) (rw (← at-count .ensures) (at-find .ensures)) (rw (← at-count .ensures) (at-if2 .left)) (at-weight .result) (at-weight .ensures) (a .buf .now) (at-write-carrying .result) _ (at-write-carrying .ensures)
+    let o = c .before .before .write-carrying in
+    let w = c .before .before .before .before in
+    let g = w .before in
+    let f = g .before in
+    let k = f .before in
+    let e = k .before .before in
+    let a = start e .args in
+    chain-carried steps (a .block .now) (bytes e) (start e .pre .0) (a .giver) (a .receiver) (enrolled (k .before)) (f .find .result) (place f) (rw (← k .count .ensures) (g .if2 .left)) (w .weight .result) (w .weight .ensures) (a .buf .now) (o .result) _ (o .ensures)
 
 pub write-held-spec : {M : Type 1} → statement M
 write-held-spec =

@@ -1,5 +1,6 @@
 -- `register::settle` makes the rounds of a cut, by document 01's table. Assumes nothing.
 use borrow.Author.Needs.{needs}
+use Prim.Native.Nat.{_≤_}
 use native.Mathlib.Omega.{arith}
 use mir.Syntax.{w32}
 use mir.Facts.{toZ-pos}
@@ -8,10 +9,24 @@ use Rattle.rules.proofs.Table.{steps-rule}
 use Rattle.block.specs.Block.{decode}
 use Rattle.block.proofs.Bytes.{fits-bytes}
 use Rattle.block.proofs.Held.{held-formed}
+use Rattle.rounds.specs.Settled.{SettledMade}
 use Rattle.register.proofs.CutWays.{settled-cut, settled-few}
 use Rattle.register.proofs.cutting.settle.Statement.{statement}
 use Rattle.register.proofs.cutting.settle.Tie as tie
 
+-- ── past the rounds ──
+abbrev start : tie.After-settled → tie.Start
+start c = c .before .before .before .before .before
+
+made : (c : tie.After-settled) → SettledMade steps (decode (start c .args .block .now)) (c .settled .result) (c .settled .last .0)
+made c = rw (c .before .before .before .steps .ensures) at (c .settled .ensures)
+
+few : (c : tie.After-settled) → (c .settled .result .dropped ≤ 256) × (c .settled .result .lowered ≤ 256) × (c .settled .result .rounds ≤ 512)
+few c =
+    let b = start c .args .block .now in
+    settled-few steps steps-rule (decode b) (held-formed b (fits-bytes b (c .before .before .before .before .slice-known .given)) (start c .pre)) (c .settled .result) (c .settled .last .0) (made c)
+
+-- ── the needs ──
 steps-requires : tie.Need-steps-requires
 steps-requires c κs = search needs
 
@@ -22,25 +37,13 @@ settled-requires : tie.Need-settled-requires
 settled-requires c κs = rw (c .before .before .steps .ensures) (c .before .before .before .before .pre, steps-rule)
 
 cast-dropped : tie.Need-cast-dropped
-cast-dropped c =
-    let s = c .before .before .before .before .before .before .before .before in
-    let o = c .before .before .before .settled in
-    let k = settled-few steps (decode (s .args .block .now)) (held-formed (s .args .block .now) (fits-bytes (s .args .block .now) (c .before .before .before .before .before .before .before .slice-known .given)) (s .pre)) (o .result) (o .last .0) (rw (c .before .before .before .before .before .before .steps .ensures) at (o .ensures)) in
-    omega (arith, k .0)
+cast-dropped c = omega (arith, few (c .before .before .before) .0)
 
 cast-lowered : tie.Need-cast-lowered
-cast-lowered c =
-    let s = c .before .before .before .before .before .before .before .before .before in
-    let o = c .before .before .before .before .settled in
-    let k = settled-few steps (decode (s .args .block .now)) (held-formed (s .args .block .now) (fits-bytes (s .args .block .now) (c .before .before .before .before .before .before .before .before .slice-known .given)) (s .pre)) (o .result) (o .last .0) (rw (c .before .before .before .before .before .before .before .steps .ensures) at (o .ensures)) in
-    omega (arith, k .1)
+cast-lowered c = omega (arith, few (c .before .before .before .before) .1)
 
 cast-made : tie.Need-cast-made
-cast-made c =
-    let s = c .before .before .before .before .before .before .before .before .before .before in
-    let o = c .before .before .before .before .before .settled in
-    let k = settled-few steps (decode (s .args .block .now)) (held-formed (s .args .block .now) (fits-bytes (s .args .block .now) (c .before .before .before .before .before .before .before .before .before .slice-known .given)) (s .pre)) (o .result) (o .last .0) (rw (c .before .before .before .before .before .before .before .before .steps .ensures) at (o .ensures)) in
-    omega (arith, k .2)
+cast-made c = omega (arith, few (c .before .before .before .before .before) .2)
 
 answered-requires : tie.Need-answered-requires
 answered-requires c κs = search needs
@@ -50,12 +53,11 @@ same-length c = search needs
 
 returns : tie.Need-returns
 returns c =
-    let s = c .before .before .before .before .before .before .before .before .before .before .before in
-    let o = c .before .before .before .before .before .before .settled in
-    let m = rw (c .before .before .before .before .before .before .before .before .before .steps .ensures) at (o .ensures) in
-    let k = settled-few steps (decode (s .args .block .now)) (held-formed (s .args .block .now) (fits-bytes (s .args .block .now) (c .before .before .before .before .before .before .before .before .before .before .slice-known .given)) (s .pre)) (o .result) (o .last .0) m in
-    rw (c .answered .ensures, toZ-pos w32 {n = o .result .dropped} (omega (arith, k .0)), toZ-pos w32 {n = o .result .lowered} (omega (arith, k .1)), toZ-pos w32 {n = o .result .rounds} (omega (arith, k .2)))
-    (settled-cut steps (s .args .block .now) (decode (s .args .block .now)) (o .result) (o .last .0) m)
+    let e = c .before .before .before .before .before .before in
+    let o = e .settled in
+    let b = start e .args .block .now in
+    rw (c .answered .ensures, toZ-pos w32 {n = o .result .dropped} (omega (arith, few e .0)), toZ-pos w32 {n = o .result .lowered} (omega (arith, few e .1)), toZ-pos w32 {n = o .result .rounds} (omega (arith, few e .2)))
+    (settled-cut steps b (decode b) (o .result) (o .last .0) (made e))
 
 pub settle-spec : {M : Type 1} → statement M
 settle-spec =

@@ -1,4 +1,5 @@
 -- `register::grant_passed` is the first refusal by what was passed. Assumes nothing.
+use borrow.Author.Needs.{needs}
 use borrow.Author.Tests.{eq-eqb, ne-eqb, lt-ltb, le-ltb}
 use Rattle.rules.specs.Refusal.{passed}
 use Rattle.register.proofs.passed.grant_passed.Statement.{statement}
@@ -28,28 +29,12 @@ returns-6 : tie.Need-returns-6
 unfolding passed
 returns-6 c = simp (le-ltb _ _ (c .before .before .before .before .before .if1 .left), le-ltb _ _ (c .before .before .before .before .if2 .left), le-ltb _ _ (c .before .before .before .if3 .left), le-ltb _ _ (c .before .before .if4 .left), le-ltb _ _ (c .before .if5 .left), ne-eqb _ _ (c .if6 .taken))
 
+ends-passed-requires : tie.Need-ends-passed-requires
+ends-passed-requires c κs = search needs
+
 returns-7 : tie.Need-returns-7
 unfolding passed
-returns-7 c = simp (le-ltb _ _ (c .before .before .before .before .before .before .if1 .left), le-ltb _ _ (c .before .before .before .before .before .if2 .left), le-ltb _ _ (c .before .before .before .before .if3 .left), le-ltb _ _ (c .before .before .before .if4 .left), le-ltb _ _ (c .before .before .if5 .left), eq-eqb _ _ (c .before .if6 .left), eq-eqb _ _ (c .if7 .taken))
-
-returns-8 : tie.Need-returns-8
-unfolding passed
-returns-8 c = simp (le-ltb _ _ (c .before .before .before .before .before .before .before .if1 .left), le-ltb _ _ (c .before .before .before .before .before .before .if2 .left), le-ltb _ _ (c .before .before .before .before .before .if3 .left), le-ltb _ _ (c .before .before .before .before .if4 .left), le-ltb _ _ (c .before .before .before .if5 .left), eq-eqb _ _ (c .before .before .if6 .left), ne-eqb _ _ (c .before .if7 .left), eq-eqb _ _ (c .if8 .taken))
-
-returns-9 : tie.Need-returns-9
-unfolding passed
-returns-9 c = simp (le-ltb _ _ (c .before .before .before .before .before .before .before .if1 .left), le-ltb _ _ (c .before .before .before .before .before .before .if2 .left), le-ltb _ _ (c .before .before .before .before .before .if3 .left), le-ltb _ _ (c .before .before .before .before .if4 .left), le-ltb _ _ (c .before .before .before .if5 .left), eq-eqb _ _ (c .before .before .if6 .left), ne-eqb _ _ (c .before .if7 .left), ne-eqb _ _ (c .if8 .left))
+returns-7 c = simp (le-ltb _ _ (c .before .before .before .before .before .before .if1 .left), le-ltb _ _ (c .before .before .before .before .before .if2 .left), le-ltb _ _ (c .before .before .before .before .if3 .left), le-ltb _ _ (c .before .before .before .if4 .left), le-ltb _ _ (c .before .before .if5 .left), eq-eqb _ _ (c .before .if6 .left)) (c .ends-passed .ensures)
 
 pub grant-passed-spec : {M : Type 1} → statement M
-grant-passed-spec =
-    tie.close
-    (tie.spec
-    returns
-    returns-2
-    returns-3
-    returns-4
-    returns-5
-    returns-6
-    returns-7
-    returns-8
-    returns-9)
+grant-passed-spec = tie.close (tie.spec returns returns-2 returns-3 returns-4 returns-5 returns-6 ends-passed-requires returns-7)

@@ -1,9 +1,8 @@
 -- `seatreg::answers::put_four` stores four bytes. Assumes nothing.
 use borrow.Author.Needs.{needs}
-use native.Mathlib.Numerals.{add-one}
 use native.Mathlib.Omega.{arith}
 use lib.ListN.{length-set}
-use Rattle.seatreg.proofs.AnswerBytes.{add-two, add-three}
+use Rattle.block.proofs.Shift.{plus1, plus2, plus3}
 use Rattle.seatreg.proofs.answers.put_four.Statement.{statement}
 use Rattle.seatreg.proofs.answers.put_four.Tie as tie
 
@@ -44,7 +43,7 @@ same-length : tie.Need-same-length
 same-length c = search needs
 
 returns : tie.Need-returns
-returns c = rw (add-one, add-two, add-three)
+returns c = rw (plus1, plus2, plus3)
 
 pub put-four-spec : {M : Type 1} → statement M
 put-four-spec =
