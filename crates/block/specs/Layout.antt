@@ -1,4 +1,4 @@
--- The sizes and offsets of the block (document 01, 'The block'): their one home in the definitions. Assumes nothing.
+-- The sizes and offsets of the block (document 01, 'The block'). Assumes nothing.
 use Prim.Native.Nat.{ℕ}
 
 abbrev pub blockSize : ℕ

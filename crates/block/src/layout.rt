@@ -1,4 +1,4 @@
-// The sizes and offsets of the block of 2,180 bytes: their one home in the code.
+// The sizes and offsets of the block of 2,180 bytes.
 pub const BLOCK_SIZE: usize = 2180;
 
 pub const FREE_AT: usize = 1;

@@ -26,11 +26,12 @@ use Rattle.rules.specs.Refusal.{firstOf, passed, chainPassed, chainHeld}
 use Rattle.rules.proofs.Lists.{eqOr}
 use Rattle.rules.proofs.Refusals.{numbered}
 use Rattle.rules.proofs.Pairs.{test-pair}
-use Rattle.block.specs.Bytes.{IsBytes, readAll, leading}
-use Rattle.block.specs.Block.{delegationIn, subjectsIn, countIn, recordsIn, decode}
+use Rattle.block.specs.Bytes.{IsBytes, leading}
+use Rattle.block.specs.Block.{subjectsIn, countIn, recordsIn, decode}
 use Rattle.block.specs.WellFormed.{wellFormed}
 use Rattle.block.proofs.Held.{held-formed, stands-found, stands-missing}
 use Rattle.block.proofs.Splice.{pairPlace, others}
+use Rattle.block.specs.Records.{delegationAt, delegationsTo}
 use Rattle.search.specs.Search.{underMarks}
 use Rattle.search.specs.Found.{linkBytes, linksOf, Searched, Traceable}
 use Rattle.search.proofs.Signed.{below-weight}
@@ -121,7 +122,7 @@ module _ (t : List ℤ) (b : List ℕ) (bytes : IsBytes b) (formed : wellFormed 
       left-refused t (decode b) g r (weightAt (decode b .delegations) g r) (firstOf (chainHeld t (decode b) g r)) 9 buf
       (chain-first true (stands (decode b) g r) (any (λ d. ltb (code (allowed t (decode b) d)) (suc (d .weight))) (filter (isPair g r) (decode b .delegations))) e refl refl) (λ z. omega arith)
 
-  module _ (both : (leb (subjectsIn b) g || leb (subjectsIn b) r) ≡ false) (k : ℕ) (place : k ≡ leading (λ d. not (isPair g r d)) (readAll delegationIn 8 (drop 132 b) (countIn b))) where
+  module _ (both : (leb (subjectsIn b) g || leb (subjectsIn b) r) ≡ false) (k : ℕ) (place : k ≡ leading (λ d. not (isPair g r d)) (delegationsTo b (countIn b))) where
     pub chain-missing : countIn b ≤ k → (buf : List ℕ) → ChainLeft t (decode b) g r (weightAt (decode b .delegations) g r) (firstOf (chainHeld t (decode b) g r)) buf (unwrittenBy 13) buf
     chain-missing l buf =
         left-refused t (decode b) g r (weightAt (decode b .delegations) g r) (firstOf (chainHeld t (decode b) g r)) 13 buf
@@ -130,25 +131,25 @@ module _ (t : List ℤ) (b : List ℕ) (bytes : IsBytes b) (formed : wellFormed 
     module _ (found : k < countIn b) where
       -- the test of 16, as the code makes it
       heavy-test : any (λ x. ltb (code (allowed t (decode b) x)) (suc (x .weight))) (filter (isPair g r) (decode b .delegations))
-          ≡ ltZ (reach t (decode b) g r) (pos (delegationIn (drop (8 * k) (drop 132 b)) .weight))
+          ≡ ltZ (reach t (decode b) g r) (pos (delegationAt b k .weight))
       unfolding allowed
       heavy-test =
           let a = at-place b bytes formed g r k place found in
           let (e, h) = one-pair g r (decode b .delegations) (granted 0 0 0 0 0) (held-formed b bytes formed .rising) (place-inside b bytes formed g r k place found) in
-          let q = test-pair g r (delegationIn (drop (8 * k) (drop 132 b))) (subst (λ (x : Delegation). T (isPair g r x)) a h) in
+          let q = test-pair g r (delegationAt b k) (subst (λ (x : Delegation). T (isPair g r x)) a h) in
           ap (any (λ x. ltb (code (allowed t (decode b) x)) (suc (x .weight)))) (e ∙ ap (λ (x : Delegation). x ∷ []) a)
-          ∙ or-false (ltb (code (allowed t (decode b) (delegationIn (drop (8 * k) (drop 132 b))))) (suc (delegationIn (drop (8 * k) (drop 132 b)) .weight)))
-          ∙ (λ j. ltb (code (reach t (decode b) (q .0 j) (q .1 j))) (suc (delegationIn (drop (8 * k) (drop 132 b)) .weight)))
-          ∙ sym (below-weight (reach t (decode b) g r) (delegationIn (drop (8 * k) (drop 132 b)) .weight))
+          ∙ or-false (ltb (code (allowed t (decode b) (delegationAt b k))) (suc (delegationAt b k .weight)))
+          ∙ (λ j. ltb (code (reach t (decode b) (q .0 j) (q .1 j))) (suc (delegationAt b k .weight)))
+          ∙ sym (below-weight (reach t (decode b) g r) (delegationAt b k .weight))
 
       -- past 9 and 13 what is left is what the search leaves
-      pub chain-carried : (w : ℕ) → w ≡ delegationIn (drop (8 * k) (drop 132 b)) .weight → (buf : List ℕ) (o : Written) (after : List ℕ)
+      pub chain-carried : (w : ℕ) → w ≡ delegationAt b k .weight → (buf : List ℕ) (o : Written) (after : List ℕ)
           → ChainLeft t (decode b) g r (pos w) (cond (ltZ (reach t (decode b) g r) (pos w)) 16 0) buf o after
           → ChainLeft t (decode b) g r (weightAt (decode b .delegations) g r) (firstOf (chainHeld t (decode b) g r)) buf o after
       chain-carried w e buf o after q =
           let v : pos w ≡ weightAt (decode b .delegations) g r = ap pos e ∙ sym (weight-stands b bytes formed g r k place found) in
           let n : cond (ltZ (reach t (decode b) g r) (pos w)) 16 0 ≡ firstOf (chainHeld t (decode b) g r) =
-          ap (λ (x : ℕ). cond (ltZ (reach t (decode b) g r) (pos x)) 16 0) e ∙ sym (chain-first false true (ltZ (reach t (decode b) g r) (pos (delegationIn (drop (8 * k) (drop 132 b)) .weight))) both (stands-found b bytes formed g r k place found) heavy-test) in
+          ap (λ (x : ℕ). cond (ltZ (reach t (decode b) g r) (pos x)) 16 0) e ∙ sym (chain-first false true (ltZ (reach t (decode b) g r) (pos (delegationAt b k .weight))) both (stands-found b bytes formed g r k place found) heavy-test) in
           subst (λ (x : ℕ). ChainLeft t (decode b) g r (weightAt (decode b .delegations) g r) x buf o after) n
           (subst (λ (x : ℤ). ChainLeft t (decode b) g r x (cond (ltZ (reach t (decode b) g r) (pos w)) 16 0) buf o after) v q)
 

@@ -3,9 +3,8 @@ use mathlib.Core.Path.{_≡_, refl, sym, ap, _∙_}
 use mathlib.Core.Logic.{_≢_}
 use mathlib.Core.Bool.{Bool, true, cond, not, _||_}
 use mathlib.Core.List.{List, [], _∷_, _++_}
-use Prim.Native.Nat.{ℕ, suc, _*_, _<_}
+use Prim.Native.Nat.{ℕ, suc, _<_}
 use lib.Dec.{T, leb, leb·suc-suc, eqb}
-use lib.ListN.{drop}
 use lib.IntN.{ℤ}
 use Rattle.rules.specs.Limit.{code}
 use Rattle.rules.specs.Register.{Register}
@@ -14,10 +13,11 @@ use Rattle.rules.specs.Call.{revoke, downgrade}
 use Rattle.rules.specs.Refusal.{firstOf, held, notBelow}
 use Rattle.rules.proofs.Lists.{not-not, T-true}
 use Rattle.rules.proofs.Refusals.{numbered, firstOf-passes}
-use Rattle.block.specs.Bytes.{IsBytes, readAll, leading}
-use Rattle.block.specs.Block.{delegationIn, subjectsIn, countIn, decode}
+use Rattle.block.specs.Bytes.{IsBytes, leading}
+use Rattle.block.specs.Block.{subjectsIn, countIn, decode}
 use Rattle.block.specs.WellFormed.{wellFormed}
 use Rattle.block.proofs.Held.{subjects-held, found-stands}
+use Rattle.block.specs.Records.{delegationAt, delegationsTo}
 use Rattle.register.proofs.Made.{firstOf-none, firstOf-some}
 use Rattle.register.proofs.Holding.{enrolled-test, weight-stands}
 
@@ -59,12 +59,12 @@ module _ (t : List ℤ) (b : List ℕ) (bytes : IsBytes b) (formed : wellFormed 
       λ j. cond (p1 j || p2 j) 9 (cond (not (e3 j)) 13 (cond (not (e4 j || e5 j)) 14 0))
 
   -- past the tests of a revocation
-  module _ (k : ℕ) (place : k ≡ leading (λ d. not (isPair g r d)) (readAll delegationIn 8 (drop 132 b) (countIn b))) (through : firstOf (held t (decode b) (revoke y g r)) ≡ 0) where
+  module _ (k : ℕ) (place : k ≡ leading (λ d. not (isPair g r d)) (delegationsTo b (countIn b))) (through : firstOf (held t (decode b) (revoke y g r)) ≡ 0) where
     pub revoke-found : k < countIn b
     revoke-found = found-stands b bytes formed g r k place (revoke-stands t (decode b) y g r through)
 
     -- the test of 15, as the code makes it
-    pub downgrade-last : (w v : ℕ) → v ≡ delegationIn (drop (8 * k) (drop 132 b)) .weight → (x : Bool) → leb v w ≡ x → firstOf (held t (decode b) (downgrade y g r w)) ≡ cond x 15 0
+    pub downgrade-last : (w v : ℕ) → v ≡ delegationAt b k .weight → (x : Bool) → leb v w ≡ x → firstOf (held t (decode b) (downgrade y g r w)) ≡ cond x 15 0
     downgrade-last w v e x q =
         let s : code (weightAt (decode b .delegations) g r) ≡ suc v = ap code (weight-stands b bytes formed g r k place revoke-found) ∙ ap suc (sym e) in
         downgrade-weighed t (decode b) y g r w through ∙ ap (λ (n : ℕ). cond (leb n (suc w)) 15 0) s ∙ ap (λ (c : Bool). cond c 15 0) (leb·suc-suc v w ∙ q)

@@ -3,12 +3,12 @@ use mathlib.Core.Path.{_≡_, refl, sym, ap, subst, _∙_}
 use mathlib.Core.Logic.{_⊎_, inl, inr}
 use mathlib.Core.Bool.{Bool, true, false, cond, not, _||_}
 use mathlib.Core.List.{List}
-use Prim.Native.Nat.{ℕ, suc, _+_, _*_, _<_}
+use Prim.Native.Nat.{ℕ, suc, _+_, _<_}
 use native.Mathlib.Nat.{zero-add}
 use native.Mathlib.Omega.{arith}
 use borrow.Author.Tests.{leb-false, lt-ltb, le-ltb, le-leb, lt-leb}
 use lib.Dec.{T, leb, ltb, leb→le, nleb→lt}
-use lib.ListN.{length, getD, drop}
+use lib.ListN.{length, getD}
 use lib.IntN.{ℤ, pos}
 use lib.Signed.{ltZ}
 use Rattle.rules.specs.Limit.{code}
@@ -22,11 +22,12 @@ use Rattle.rules.specs.CallStep.{insert, accepted}
 use Rattle.rules.proofs.Lists.{either, getD-tabulate, not-true, not-false}
 use Rattle.rules.proofs.Refusals.{firstOf-passes}
 use Rattle.rules.proofs.Pairs.{insert-length}
-use Rattle.block.specs.Bytes.{IsBytes, readAll, leading}
-use Rattle.block.specs.Block.{delegationIn, subjectsIn, countIn, decode, encode}
+use Rattle.block.specs.Bytes.{IsBytes, leading}
+use Rattle.block.specs.Block.{subjectsIn, countIn, decode, encode}
 use Rattle.block.specs.WellFormed.{wellFormed}
 use Rattle.block.proofs.Held.{held-written, subjects-held, delegations-held, count-held, place-held}
 use Rattle.block.proofs.Splice.{pairPlace, weightAt-found}
+use Rattle.block.specs.Records.{delegationAt, delegationsTo}
 use Rattle.search.proofs.Signed.{below-weight}
 use Rattle.register.specs.Made.{refusedBy, answeredBy, Made}
 use Rattle.register.proofs.Made.{Early, made-held, made-done}
@@ -53,20 +54,20 @@ pub both-in : (s g r : ℕ) → not (leb s g || leb s r) ≡ true → (g < s) ×
 both-in s g r e = let (p, q) = not-or (leb s g) (leb s r) e in (leb-false s g p, leb-false s r q)
 
 -- ── the delegation of a pair that stands ──
-module _ (b : List ℕ) (bytes : IsBytes b) (formed : wellFormed b ≡ true) (g r k : ℕ) (place : k ≡ leading (λ d. not (isPair g r d)) (readAll delegationIn 8 (drop 132 b) (countIn b)))
+module _ (b : List ℕ) (bytes : IsBytes b) (formed : wellFormed b ≡ true) (g r k : ℕ) (place : k ≡ leading (λ d. not (isPair g r d)) (delegationsTo b (countIn b)))
     (found : k < countIn b) where
   -- the record at the pair's place is its delegation
-  pub at-place : getD (decode b .delegations) (pairPlace g r (decode b .delegations)) (granted 0 0 0 0 0) ≡ delegationIn (drop (8 * k) (drop 132 b))
+  pub at-place : getD (decode b .delegations) (pairPlace g r (decode b .delegations)) (granted 0 0 0 0 0) ≡ delegationAt b k
   at-place =
       ap (λ (i : ℕ). getD (decode b .delegations) i (granted 0 0 0 0 0)) (sym (place-held b bytes formed g r k place))
       ∙ ap (λ (ds : List Delegation). getD ds k (granted 0 0 0 0 0)) (delegations-held b bytes formed)
-      ∙ getD-tabulate (λ i. delegationIn (drop (8 * i) (drop 132 b))) (granted 0 0 0 0 0) 0 (countIn b) k found
-      ∙ ap (λ (i : ℕ). delegationIn (drop (8 * i) (drop 132 b))) (zero-add k)
+      ∙ getD-tabulate (λ i. delegationAt b i) (granted 0 0 0 0 0) 0 (countIn b) k found
+      ∙ ap (λ (i : ℕ). delegationAt b i) (zero-add k)
 
   pub place-inside : pairPlace g r (decode b .delegations) < length (decode b .delegations)
   place-inside = omega (arith, place-held b bytes formed g r k place, count-held b bytes formed, found)
 
-  pub weight-stands : weightAt (decode b .delegations) g r ≡ pos (delegationIn (drop (8 * k) (drop 132 b)) .weight)
+  pub weight-stands : weightAt (decode b .delegations) g r ≡ pos (delegationAt b k .weight)
   weight-stands = weightAt-found g r (decode b .delegations) (granted 0 0 0 0 0) place-inside ∙ ap (λ (x : Delegation). pos (x .weight)) at-place
 
 module _ (t : List ℤ) (b : List ℕ) (bytes : IsBytes b) (formed : wellFormed b ≡ true) (g r : ℕ) where

@@ -6,15 +6,15 @@ use Prim.Native.Nat.{ℕ, _≤_, _<_}
 use native.Mathlib.Omega.{arith}
 use borrow.Author.Tests.{le-leb, lt-leb}
 use lib.Dec.{eqb}
-use lib.ListN.{drop}
 use lib.IntN.{ℤ, pos}
 use Rattle.rules.specs.Pair.{receives}
 use Rattle.rules.specs.Call.{askUse}
 use Rattle.rules.specs.Refusal.{held}
 use Rattle.rules.specs.CallStep.{accepted}
-use Rattle.block.specs.Bytes.{IsBytes, readAll}
-use Rattle.block.specs.Block.{delegationIn, subjectsIn, countIn, decode}
+use Rattle.block.specs.Bytes.{IsBytes}
+use Rattle.block.specs.Block.{subjectsIn, countIn, decode}
 use Rattle.block.proofs.Held.{held-written, subjects-held, delegations-held}
+use Rattle.block.specs.Records.{delegationsTo}
 use Rattle.register.specs.Made.{refusedBy, answeredBy, Made}
 use Rattle.register.proofs.Made.{Early, made-held, made-done}
 
@@ -24,7 +24,7 @@ module _ (t : List ℤ) (r : ℕ) (b : List ℕ) (bytes : IsBytes b) (h : Early 
   use-enrolled l = made-held t (askUse r) b h 9 (rw (subjects-held b bytes (h .formed), le-leb (subjectsIn b) r l)) (λ e. omega arith)
 
   -- x: the receiver is the owner, or some delegation to it stands
-  pub use-done : r < subjectsIn b → (x : Bool) → x ≡ (eqb r 0 || receives r (readAll delegationIn 8 (drop 132 b) (countIn b))) → Made t (askUse r) b (answeredBy (pos (cond x 1 0)) (pos 0) (pos 0)) b
+  pub use-done : r < subjectsIn b → (x : Bool) → x ≡ (eqb r 0 || receives r (delegationsTo b (countIn b))) → Made t (askUse r) b (answeredBy (pos (cond x 1 0)) (pos 0) (pos 0)) b
   unfolding held accepted
   use-done l x e =
       made-done t (askUse r) b h (rw (subjects-held b bytes (h .formed), lt-leb (subjectsIn b) r l)) (answeredBy (pos (cond x 1 0)) (pos 0) (pos 0)) b

@@ -1,4 +1,4 @@
-// The largest numbers that a call may pass: their one home in the code.
+// The largest numbers that a call may pass.
 pub const SUBJECT: u32 = 63;
 
 pub const WEIGHT: u32 = 255;

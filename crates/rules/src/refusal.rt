@@ -1,4 +1,4 @@
-// The refusal numbers of document 01, in its order: their one home in the code.
+// The refusal numbers of document 01, in its order.
 pub const WRONG_LENGTH: u32 = 1;
 
 pub const NO_SUBJECT: u32 = 2;

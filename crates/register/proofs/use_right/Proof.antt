@@ -5,15 +5,15 @@ use mathlib.Core.Bool.{Bool, true, false, cond, _||_}
 use native.Mathlib.Omega.{arith}
 use borrow.Author.Tests.{eq-eqb, ne-eqb}
 use lib.Dec.{eqb}
-use lib.ListN.{drop}
 use lib.IntN.{pos}
 use Rattle.rules.specs.Table.{steps}
 use Rattle.rules.specs.Pair.{receives}
 use Rattle.rules.specs.Call.{Call, askUse}
-use Rattle.block.specs.Bytes.{IsBytes, readAll}
-use Rattle.block.specs.Block.{delegationIn, countIn}
+use Rattle.block.specs.Bytes.{IsBytes}
+use Rattle.block.specs.Block.{countIn}
 use Rattle.block.proofs.Bytes.{fits-bytes}
 use Rattle.block.proofs.Held.{count-most}
+use Rattle.block.specs.Records.{delegationsTo}
 use Rattle.register.specs.Made.{answeredBy, Made}
 use Rattle.register.proofs.Within.{within}
 use Rattle.register.proofs.Made.{Early, past-early, made-early}
@@ -38,7 +38,7 @@ past c =
     past-early (start c .args .block .now) (call (start c)) (p .result) (n .result) (p .ensures) (n .ensures) (c .if1 .left)
 
 -- the receiver is enrolled: x answers whether it may use
-done : (c : tie.Else2) (x : Bool) → let a = start (c .before .before) .args in x ≡ (eqb (a .receiver) 0 || receives (a .receiver) (readAll delegationIn 8 (drop 132 (a .block .now)) (countIn (a .block .now))))
+done : (c : tie.Else2) (x : Bool) → let a = start (c .before .before) .args in x ≡ (eqb (a .receiver) 0 || receives (a .receiver) (delegationsTo (a .block .now) (countIn (a .block .now))))
     → Made steps (askUse (a .receiver)) (a .block .now) (answeredBy (pos (cond x 1 0)) (pos 0) (pos 0)) (a .block .now)
 done c x q =
     let e = c .before .before in

@@ -4,14 +4,14 @@ use mathlib.Core.Path.{_≡_, sym, _∙_}
 use mathlib.Core.Bool.{true, false, not, _||_}
 use native.Mathlib.Omega.{arith}
 use lib.Dec.{leb}
-use lib.ListN.{drop}
 use Rattle.rules.specs.Table.{steps}
 use Rattle.rules.specs.Pair.{isPair}
 use Rattle.rules.proofs.Lists.{not-true, not-false}
-use Rattle.block.specs.Bytes.{IsBytes, readAll, leading}
-use Rattle.block.specs.Block.{delegationIn, subjectsIn, countIn}
+use Rattle.block.specs.Bytes.{IsBytes, leading}
+use Rattle.block.specs.Block.{subjectsIn, countIn}
 use Rattle.block.proofs.Bytes.{fits-bytes}
 use Rattle.block.proofs.Held.{size-held, count-most}
+use Rattle.block.specs.Records.{delegationsTo}
 use Rattle.register.proofs.Holding.{both-in}
 use Rattle.register.proofs.ChainWays.{chain-unenrolled, chain-missing, chain-carried}
 use Rattle.register.proofs.chaining.write_held.Statement.{statement}
@@ -30,7 +30,7 @@ both c = sym (c .before .both-enrolled .ensures) ∙ not-false _ (c .if1 .left)
 enrolled : (c : tie.Else1) → let a = start (c .before) .args in (leb (subjectsIn (a .block .now)) (a .giver) || leb (subjectsIn (a .block .now)) (a .receiver)) ≡ false
 enrolled c = not-true _ (both c)
 
-place : (c : tie.After-find) → let a = start (c .before .before .before) .args in c .find .result ≡ leading (λ d. not (isPair (a .giver) (a .receiver) d)) (readAll delegationIn 8 (drop 132 (a .block .now)) (countIn (a .block .now)))
+place : (c : tie.After-find) → let a = start (c .before .before .before) .args in c .find .result ≡ leading (λ d. not (isPair (a .giver) (a .receiver) d)) (delegationsTo (a .block .now) (countIn (a .block .now)))
 place c = rw (← c .before .count .ensures) (c .find .ensures)
 
 -- ── the needs ──
