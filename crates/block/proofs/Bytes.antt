@@ -80,7 +80,7 @@ getD-mem (x ∷ xs) (suc k) d l = List·Memᴰ·tail (getD-mem xs k d (le-of-suc
 -- ── values of a fixed width ──
 module _ {A : Type 0} (f : List ℕ → A) (w : ℕ) where
   -- the first value, and the others from the next place on
-  pub readAll-suc : (s : List ℕ) (n : ℕ) → readAll f w s (suc n) ≡ (f s ∷ readAll f w (drop w s) n)
+  readAll-suc : (s : List ℕ) (n : ℕ) → readAll f w s (suc n) ≡ (f s ∷ readAll f w (drop w s) n)
   readAll-suc s n = λ j. f (drop (mul-zero w j) s) ∷ rest j
     where
       place : (k : ℕ) → f (drop (w * suc k) s) ≡ f (drop (w * k) (drop w s))

@@ -21,7 +21,7 @@ marksPart R = padded 128 (concatMap twoBytes (R .marks))
 abbrev pub recordsPart : Register → List ℕ
 recordsPart R = padded 2048 (concatMap recordBytes (R .delegations))
 
-pub length-padded : (n : ℕ) (s : List ℕ) → length s ≤ n → length (padded n s) ≡ n
+length-padded : (n : ℕ) (s : List ℕ) → length s ≤ n → length (padded n s) ≡ n
 length-padded n s h = length-append s (replicate (n - length s) 0) ∙ omega (arith, length-replicate {A = ℕ} (n - length s) 0)
 
 two-wide : (n : ℕ) → length (twoBytes n) ≡ 2
@@ -57,7 +57,7 @@ module _ (R : Register) (f : WellFormed R) where
   pub length-marksPart : length (marksPart R) ≡ 128
   length-marksPart = length-padded 128 (concatMap twoBytes (R .marks)) marks-most
 
-  pub length-recordsPart : length (recordsPart R) ≡ 2048
+  length-recordsPart : length (recordsPart R) ≡ 2048
   length-recordsPart = length-padded 2048 (concatMap recordBytes (R .delegations)) records-most
 
   pub length-encode : length (encode R) ≡ 2180

@@ -1,15 +1,15 @@
 -- A field of a block, read from where its part begins. Assumes nothing.
-use mathlib.Core.Path.{_≡_}
+use mathlib.Core.Path.{_≡_, sym}
 use mathlib.Core.Bool.{Bool, true, false, not, _&&_}
 use mathlib.Core.List.{List}
 use Prim.Native.Nat.{ℕ, _+_, _≤_}
 use native.Mathlib.Nat.{add-assoc}
-use native.Mathlib.Omega.{arith}
 use borrow.Author.Tests.{leb-true}
 use lib.Bits.{bitAnd}
 use lib.Dec.{eqb, ltb, leb}
 use lib.ListN.{getD, drop}
 use lib.Seq.{getD-drop}
+use Rattle.rules.proofs.Lists.{clash}
 use Rattle.block.specs.Bytes.{two}
 use Rattle.block.specs.Block.{subjectsIn, countIn}
 use Rattle.block.specs.WellFormed.{headFormed, recordFormed}
@@ -27,7 +27,7 @@ formed-at n at s = simp (getD-drop, add-assoc)
 
 and-right : (a b : Bool) → (a && b) ≡ true → b ≡ true
 and-right true b e = e
-and-right false b e = let z : _≡_ {A = ℕ} 0 1 = cc in absurd (omega arith)
+and-right false b e = clash (sym e)
 
 -- a formed head counts at most 256 delegations
 pub head-few : (b : List ℕ) → headFormed b ≡ true → countIn b ≤ 256

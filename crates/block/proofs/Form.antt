@@ -79,7 +79,7 @@ whole b p =
         (le→leb (countIn b) 256 (p .few))
 
 -- ── rising, as a test and as a statement ──
-pub rises-Rising : (ds : List Delegation) → T (rises ds) → Rising ds
+rises-Rising : (ds : List Delegation) → T (rises ds) → Rising ds
 rises-Rising [] h = tt
 rises-Rising (d ∷ []) h = (λ e m. absurd (List·Memᴰ·not-nil m), tt)
 rises-Rising (d ∷ e ∷ es) h = let ih = rises-Rising (e ∷ es) (T-right (before d e) (rises (e ∷ es)) h) in (later ih, ih)
@@ -91,14 +91,14 @@ rises-Rising (d ∷ e ∷ es) h = let ih = rises-Rising (e ∷ es) (T-right (bef
     later ih x (List·Memᴰ·head q) = subst (λ (y : Delegation). Before d y) (sym q) next
     later ih x (List·Memᴰ·tail m) = Before-trans d e x next (ih .0 x m)
 
-pub Rising-rises : (ds : List Delegation) → Rising ds → T (rises ds)
+Rising-rises : (ds : List Delegation) → Rising ds → T (rises ds)
 Rising-rises [] r = tt
 Rising-rises (d ∷ []) r = tt
 Rising-rises (d ∷ e ∷ es) r = T-both (before d e) (rises (e ∷ es)) (Before-before d e (r .0 e (List·Memᴰ·head refl))) (Rising-rises (e ∷ es) (r .1))
 
 -- ── a formed delegation, as a test and as a statement ──
 module _ (n : ℕ) (d : Delegation) where
-  pub formed-of : d .weight ≤ 255 → d .need ≤ 65535 → d .bar ≤ 65535 → T (delegationFormed n d) → DelegationFormed n d
+  formed-of : d .weight ≤ 255 → d .need ≤ 65535 → d .bar ≤ 65535 → T (delegationFormed n d) → DelegationFormed n d
   formed-of w x y h =
       let a = ltb (d .giver) n in
       let b = ltb (d .receiver) n in
@@ -119,7 +119,7 @@ module _ (n : ℕ) (d : Delegation) where
         disjoint = eqb→eq (bitAnd (d .need) (d .bar)) 0 (T-right (a && b && c && e) f h);
       }
 
-  pub formed-test : DelegationFormed n d → T (delegationFormed n d)
+  formed-test : DelegationFormed n d → T (delegationFormed n d)
   formed-test k =
       let a = ltb (d .giver) n in
       let b = ltb (d .receiver) n in
@@ -156,7 +156,7 @@ first-marks b (suc n) l = λ j. getD-drop 4 b 0 0 j + getD-drop 4 b 1 0 j * 256
 -- ── a well-formed block holds a well-formed register ──
 module _ (b : List ℕ) (bytes : IsBytes b) (p : Parts b) where
   -- record k passes its test
-  pub record-at : (k : ℕ) → k < countIn b → T (recordFormed (subjectsIn b) (recordFrom b k))
+  record-at : (k : ℕ) → k < countIn b → T (recordFormed (subjectsIn b) (recordFrom b k))
   record-at k l = subst (λ (j : ℕ). T (recordFormed (subjectsIn b) (recordFrom b j))) (zero-add k) (allFrom-at (λ k. recordFormed (subjectsIn b) (recordFrom b k)) 0 (countIn b) (p .formed) k l)
 
   delegation-at : (k : ℕ) → k < countIn b → DelegationFormed (subjectsIn b) (delegationAt b k)

@@ -17,7 +17,7 @@ use Rattle.rules.specs.WellFormed.{WellFormed}
 use Rattle.rules.specs.Cut.{removal, lowering, named}
 use Rattle.rules.specs.Call.{granted, enrolled}
 use Rattle.rules.specs.CallStep.{before, insert}
-use Rattle.rules.proofs.Lists.{either}
+use Rattle.rules.proofs.Lists.{clash, either}
 use Rattle.block.specs.Bytes.{IsBytes, twoBytes, readAll, leading}
 use Rattle.block.specs.Block.{recordBytes, subjectsIn, countIn, decode, encode}
 use Rattle.block.specs.WellFormed.{wellFormed}
@@ -96,7 +96,7 @@ module _ (b : List ℕ) (bytes : IsBytes b) (formed : wellFormed b ≡ true) whe
       where
         go : T (ltb k (countIn b)) ⊎ T (not (ltb k (countIn b))) → k < countIn b
         go (inl q) = ltb→lt k (countIn b) q
-        go (inr q) = let z = sym (stands-missing (nltb→le k (countIn b) q)) ∙ s in let n : _≡_ {A = ℕ} 0 1 = cc in absurd (omega arith)
+        go (inr q) = clash (sym s ∙ stands-missing (nltb→le k (countIn b) q))
 
     -- the pair's delegation removed
     pub remove-held : stands (decode b) g r ≡ true

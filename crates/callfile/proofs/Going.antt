@@ -20,7 +20,7 @@ use Rattle.callfile.specs.declared.Row.{Row}
 use Rattle.callfile.proofs.Lines.{seven-values}
 
 -- the block that calls leave
-abbrev pub leftBy : List ℕ → List Call → List ℕ
+abbrev leftBy : List ℕ → List Call → List ℕ
 leftBy b [] = b
 leftBy b (c ∷ cs) = leftBy (callOn steps b c .bytes) cs
 

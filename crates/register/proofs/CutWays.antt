@@ -52,7 +52,7 @@ unfolding cut
 written-cut t b d C = refl
 
 -- the call by y that makes the cut k
-abbrev pub cutCall : ℕ → Cut → Call
+abbrev cutCall : ℕ → Cut → Call
 cutCall y (removal g r) = revoke y g r
 cutCall y (lowering g r w) = downgrade y g r w
 

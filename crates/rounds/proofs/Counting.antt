@@ -27,7 +27,7 @@ use Rattle.block.specs.Records.{delegationAt}
 use Rattle.rounds.proofs.Merging.{Ahead, met-weight, met-on, missed-weight, missed-on, others}
 
 -- how many pass: x before place i, and those from place i on
-abbrev pub Passing : {A : Type 0} → (A → Bool) → (ℕ → A) → ℕ → ℕ → ℕ → Type 0
+abbrev Passing : {A : Type 0} → (A → Bool) → (ℕ → A) → ℕ → ℕ → ℕ → Type 0
 Passing g f n i x = length (filter g (tabulate f 0 n)) ≡ x + length (filter g (tabulate f i (n - i)))
 
 passing-all : {A : Type 0} (g : A → Bool) (f : ℕ → A) (n : ℕ) → Passing g f n 0 0
@@ -66,7 +66,7 @@ module _ (F : Register) (d : Delegation) where
     found-lowered c q = (λ i. found i && leb (code (e i)) (d .weight)) ∙ q
 
 -- the records of a block from place k on
-abbrev pub recordsFrom : List ℕ → ℕ → List Delegation
+abbrev recordsFrom : List ℕ → ℕ → List Delegation
 recordsFrom b k = tabulate (delegationAt b) k (countIn b - k)
 
 records-all : (b : List ℕ) → IsBytes b → wellFormed b ≡ true → decode b .delegations ≡ recordsFrom b 0

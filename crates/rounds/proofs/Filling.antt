@@ -16,7 +16,7 @@ use Rattle.rules.specs.Reach.{reach}
 use Rattle.rules.specs.Support.{allowed}
 use Rattle.rules.specs.Pair.{receives}
 use Rattle.rules.specs.WellFormed.{WellFormed}
-use Rattle.rules.proofs.Lists.{eqOr}
+use Rattle.rules.proofs.Lists.{clash, eqOr}
 use Rattle.block.specs.Bytes.{IsBytes}
 use Rattle.block.specs.Block.{countIn, decode}
 use Rattle.block.specs.WellFormed.{wellFormed}
@@ -93,7 +93,7 @@ module _ (t : List ℤ) (R : Register) where
   filled-skip v l f n r h k = go (eqOr r v)
     where
       go : (r ≡ v) ⊎ (r ≢ v) → Row t R r l
-      go (inl e) = let z : true ≡ false = sym k ∙ ap (λ (x : ℕ). receives x (R .delegations)) e ∙ n in let w : _≡_ {A = ℕ} 0 1 = cc in absurd (omega arith)
+      go (inl e) = clash (sym k ∙ ap (λ (x : ℕ). receives x (R .delegations)) e ∙ n)
       go (inr e) = f r (omega arith) k
 
   pub filled-on : (v : ℕ) (l m : List ℤ) → Filled t R v l → RowMade t R v l m → Filled t R (v + 1) m

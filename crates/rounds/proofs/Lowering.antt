@@ -13,7 +13,7 @@ use mir.Facts.{toZ-ofZ}
 use lib.ListN.{length, getD, set, take, drop, length-set, List·getD-eq-default}
 use lib.Seq.{getD-set-same, getD-set-other}
 use Rattle.rules.specs.Register.{Delegation}
-use Rattle.rules.proofs.Lists.{eqOr}
+use Rattle.rules.proofs.Lists.{clash, eqOr}
 use Rattle.rules.proofs.Signed.{getD-within}
 use Rattle.search.proofs.Signed.{kept}
 use Rattle.rounds.specs.Rounded.{noEntry, lesser, WeightsRead}
@@ -86,7 +86,7 @@ module _ (f : ℕ → Delegation) (ds : List Entry) where
   read-none ws = record {
     each = λ k h. absurd (omega arith);
     same = λ e k h. absurd (omega arith);
-    less = λ e. let z : _≡_ {A = ℕ} 0 1 = cc in absurd (omega arith);
+    less = λ e. clash (sym e);
   }
 
   module _ (k : ℕ) (c : Bool) (ws : List ℤ) (s : WeightsRead f ds k c ws) (room : k < length ws) (v : ℤ) (e : v ≡ getD ds k noEntry .weight) where
@@ -97,7 +97,7 @@ module _ (f : ℕ → Delegation) (ds : List Entry) where
     pub read-less : ltZ v (pos (f k .weight)) ≡ true → WeightsRead f ds (k + 1) true (set ws k v)
     read-less q = record {
       each = each-on;
-      same = λ z. let o : _≡_ {A = ℕ} 0 1 = cc in absurd (omega arith);
+      same = λ z. clash z;
       less = λ z. (k, omega arith, ap (λ (x : ℤ). ltZ x (pos (f k .weight))) (sym e) ∙ q);
     }
 

@@ -33,16 +33,16 @@ pub record Going (t : List ℤ) (C : Register) (n : ℕ) (R : Register) : Type 0
   pub on : (m : ℕ) (F : Register) → SettlesIn t m R F → SettlesIn t (n + m) C F
 
 module _ (t : List ℤ) (C : Register) where
-  pub going-none : WellFormed C → Going t C 0 C
+  going-none : WellFormed C → Going t C 0 C
   going-none f = record { formed = f; falls = omega arith; on = λ m F s. subst (λ (k : ℕ). SettlesIn t k C F) (sym (zero-add m)) s }
 
   module _ (n : ℕ) (R : Register) (g : Going t C n R) where
     -- fewer than fit a number of 32 bits
-    pub going-few : WellFormed C → n ≤ 65536
+    going-few : WellFormed C → n ≤ 65536
     going-few f = omega (arith, g .falls, total-most C f)
 
     -- a round that changes something
-    pub going-on : round t R ≢ R → Going t C (n + 1) (round t R)
+    going-on : round t R ≢ R → Going t C (n + 1) (round t R)
     going-on c = record {
       formed = round-formed t R (g .formed);
       falls = omega (arith, g .falls, round-falls t R c);

@@ -22,6 +22,7 @@ use Rattle.rules.specs.Register.{Delegation, Register, reweigh, withDelegations
 use Rattle.rules.specs.WellFormed.{WellFormed}
 use Rattle.rules.specs.Round.{placed}
 use Rattle.rules.specs.Call.{granted}
+use Rattle.rules.proofs.Lists.{clash}
 use Rattle.block.specs.Bytes.{IsBytes, twoBytes}
 use Rattle.block.specs.Block.{delegationIn, recordBytes, countIn, decode, encode}
 use Rattle.block.specs.WellFormed.{wellFormed}
@@ -40,7 +41,7 @@ negative (negsuc n) e d = (refl, refl)
 
 other : (z : ℤ) → ltZ z (pos 0) ≡ false → code z ≤ 256 → (d : Delegation) → T (nonNeg z) × (natAbs z < 256) × (true ≡ ltb 0 (code z)) × (recordBytes (reweigh d (natAbs z)) ≡ concatMap recordBytes (placed d z))
 other (pos n) e l d = (tt, omega arith, sym (lt-ltb 0 (suc n) (omega arith)), refl)
-other (negsuc n) e l d = let q : _≡_ {A = ℕ} 0 1 = cc in absurd (omega arith)
+other (negsuc n) e l d = clash e
 
 pub kept-is : (z : ℤ) → mag z < 32768 → kept z ≡ z
 kept-is z h = toZ-ofZ record { sfits = h }
@@ -68,10 +69,10 @@ module _ (z : ℤ) (f : SFits w16 z) where
 
 placed-one : (d : Delegation) (z : ℤ) → true ≡ ltb 0 (code z) → length (placed d z) ≡ 1
 placed-one d (pos n) t = refl
-placed-one d (negsuc n) t = let q : _≡_ {A = ℕ} 0 1 = cc in absurd (omega arith)
+placed-one d (negsuc n) t = clash t
 
 placed-none : (d : Delegation) (z : ℤ) → false ≡ ltb 0 (code z) → length (placed d z) ≡ 0
-placed-none d (pos n) t = let h = lt-ltb 0 (suc n) (omega arith) in let q : _≡_ {A = ℕ} 0 1 = cc in absurd (omega arith)
+placed-none d (pos n) t = clash (sym (t ∙ lt-ltb 0 (suc n) (omega arith)))
 placed-none d (negsuc n) t = refl
 
 -- ── what is left ──

@@ -92,7 +92,7 @@ module _ (f : Delegation → ℤ) where
 
 -- ── rounds from any well-formed register ──
 module _ (t : List ℤ) (rule : TableRule t) where
-  pub settles-few : (n : ℕ) (C F : Register) → WellFormed C → SettlesIn t n C F → n ≤ unlimited (C .delegations) + 255
+  settles-few : (n : ℕ) (C F : Register) → WellFormed C → SettlesIn t n C F → n ≤ unlimited (C .delegations) + 255
   settles-few zero C F f s = zero-le
   settles-few (suc n) C F f s = go (cappedAll-firm (allowed t C) (C .delegations) (λ d m. f .each d m .weight)) (settles-few n (round t C) F (round-formed t C f) (s .1))
     where
@@ -100,7 +100,7 @@ module _ (t : List ℤ) (rule : TableRule t) where
       go (inl k) ih = omega (arith, firm-most t rule 255 (suc n) C F (le-refl 255) k s)
       go (inr k) ih = omega arith
 
-  pub settle-few : (C : Register) → WellFormed C → settle t C .changed ≤ unlimited (C .delegations) + 255
+  settle-few : (C : Register) → WellFormed C → settle t C .changed ≤ unlimited (C .delegations) + 255
   settle-few C f = settles-few (settle t C .changed) C (settle t C .left) f (settle-right t C)
 
   pub rounds-most : RoundsAtMost t

@@ -34,7 +34,7 @@ unfolding limitFrom
 limitFrom-live t l [] h = h
 limitFrom-live t l (d ∷ ds) h = next-live t l (d .weight) (limitFrom-live t (next t l (d .weight)) ds h)
 
-pub limitFrom-append : (t : List ℤ) (l : ℤ) (xs ys : List Delegation) → limitFrom t l (xs ++ ys) ≡ limitFrom t (limitFrom t l xs) ys
+limitFrom-append : (t : List ℤ) (l : ℤ) (xs ys : List Delegation) → limitFrom t l (xs ++ ys) ≡ limitFrom t (limitFrom t l xs) ys
 unfolding limitFrom
 limitFrom-append t l [] ys = refl
 limitFrom-append t l (x ∷ xs) ys = limitFrom-append t (next t l (x .weight)) xs ys
@@ -43,15 +43,15 @@ pub limit-snoc : (t : List ℤ) (ds : List Delegation) (d : Delegation) → limi
 unfolding limitFrom
 limit-snoc t ds d = limitFrom-append t (pos 255) ds (d ∷ [])
 
-pub linked-snoc : (ds : List Delegation) (a g : ℕ) (d : Delegation) → Linked a ds g → d .giver ≡ g → Linked a (ds ++ (d ∷ [])) (d .receiver)
+linked-snoc : (ds : List Delegation) (a g : ℕ) (d : Delegation) → Linked a ds g → d .giver ≡ g → Linked a (ds ++ (d ∷ [])) (d .receiver)
 linked-snoc [] a g d p e = (e ∙ sym p, refl)
 linked-snoc (x ∷ xs) a g d p e = (p .0, linked-snoc xs (x .receiver) g d (p .1) e)
 
-pub receivers-append : (xs ys : List Delegation) → receivers (xs ++ ys) ≡ receivers xs ++ receivers ys
+receivers-append : (xs ys : List Delegation) → receivers (xs ++ ys) ≡ receivers xs ++ receivers ys
 receivers-append [] ys = refl
 receivers-append (x ∷ xs) ys = λ i. x .receiver ∷ receivers-append xs ys i
 
-pub distinct-snoc : (xs : List ℕ) (y : ℕ) → Distinct xs → ((x : ℕ) → x ∈ xs → x ≢ y) → Distinct (xs ++ (y ∷ []))
+distinct-snoc : (xs : List ℕ) (y : ℕ) → Distinct xs → ((x : ℕ) → x ∈ xs → x ≢ y) → Distinct (xs ++ (y ∷ []))
 distinct-snoc [] y a h = (λ z m. absurd (List·Memᴰ·not-nil m), tt)
 distinct-snoc (x ∷ xs) y a h = (new, distinct-snoc xs y (a .1) (λ z m. h z (List·Memᴰ·tail m)))
   where
@@ -184,7 +184,7 @@ distinct-front [] ys h = tt
 distinct-front (x ∷ xs) ys h = (λ y m. h .0 y (Memᴰ·append-left ys m), distinct-front xs ys (h .1))
 
 -- the front of a chain is a chain of the subject where it ends
-pub front-chain : (t : List ℤ) (R : Register) (u v x : ℕ) (xs ys : List Delegation) → IsChain t R u v (xs ++ ys) → Linked 0 xs x → IsChain t R x v xs
+front-chain : (t : List ℤ) (R : Register) (u v x : ℕ) (xs ys : List Delegation) → IsChain t R u v (xs ++ ys) → Linked 0 xs x → IsChain t R x v xs
 front-chain t R u v x xs ys c p = record {
   standing = λ d m. c .standing d (Memᴰ·append-left ys m);
   linked = p;

@@ -34,7 +34,7 @@ module _ (t : List ℤ) (rule : TableRule t) where
           let n = test-ne (min a w) 255 q in
           omega (arith, rule .falls (min a w) (omega arith))
 
-  pub limit-takes : (j : ℕ) (l : ℤ) (ds : List Delegation) → l ≼ pos 255 → pos j ≼ limitFrom t l ds → (d : Delegation) → d ∈ ds → min (suc j) 255 ≤ d .weight
+  limit-takes : (j : ℕ) (l : ℤ) (ds : List Delegation) → l ≼ pos 255 → pos j ≼ limitFrom t l ds → (d : Delegation) → d ∈ ds → min (suc j) 255 ≤ d .weight
   unfolding limitFrom
   limit-takes j l [] h k d m = absurd (List·Memᴰ·not-nil m)
   limit-takes j l (x ∷ xs) h k d (List·Memᴰ·head e) =
@@ -51,11 +51,11 @@ capped-whole d (negsuc n) h = absurd (omega arith)
 
 module _ (t : List ℤ) where
   -- a weight that is allowed stays
-  pub round-holds : (R : Register) (d : Delegation) → d ∈ R .delegations → pos (d .weight) ≼ allowed t R d → d ∈ round t R .delegations
+  round-holds : (R : Register) (d : Delegation) → d ∈ R .delegations → pos (d .weight) ≼ allowed t R d → d ∈ round t R .delegations
   round-holds R d m h = mem-concatMap (λ x. capped x (allowed t R x)) m (capped-whole d (allowed t R d) h)
 
   -- each weight left was allowed as the round began
-  pub round-under : (R : Register) (e : Delegation) → e ∈ round t R .delegations → pos (e .weight) ≼ allowed t R e
+  round-under : (R : Register) (e : Delegation) → e ∈ round t R .delegations → pos (e .weight) ≼ allowed t R e
   unfolding allowed
   round-under R e m =
       let (d, m′, q) = concatMap-mem (λ x. capped x (allowed t R x)) (R .delegations) m in

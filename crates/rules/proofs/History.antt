@@ -43,7 +43,7 @@ module _ (t : List ℤ) (rule : TableRule t) where
   pub callStep-cut : (R : Register) (c : Call) (k : Cut) → IsCut c k → callStep t R c .refusal ≡ 0 → CutRight t (named R k) (callStep t R c)
   callStep-cut R c k i = callStep-cases t R c (λ (o : Outcome). o .refusal ≡ 0 → CutRight t (named R k) o) (λ z p e. accepted-cut R c k i) (λ n e. absurd (n e))
 
-  pub placeRight : (R : Register) (e : Entry) → e .outcome ≡ callStep t R (e .call) → PlaceRight t R e
+  placeRight : (R : Register) (e : Entry) → e .outcome ≡ callStep t R (e .call) → PlaceRight t R e
   placeRight R e q = record {
     outcome = q;
     cut = λ k i z. subst (λ (o : Outcome). CutRight t (named R k) o) (sym q) (callStep-cut R (e .call) k i (ap (λ (o : Outcome). o .refusal) (sym q) ∙ z));

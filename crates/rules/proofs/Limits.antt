@@ -42,17 +42,17 @@ larger-either a b = go (leb (code a) (code b))
     go false = inl refl
 
 module _ (t : List ℤ) (rule : TableRule t) where
-  pub entry-mono-add : (k w : ℕ) → w + k ≤ 255 → entry t w ≼ entry t (w + k)
+  entry-mono-add : (k w : ℕ) → w + k ≤ 255 → entry t w ≼ entry t (w + k)
   entry-mono-add zero w h = subst (λ (x : ℕ). entry t w ≼ entry t x) (sym (add-zero w)) (le-refl (code (entry t w)))
   entry-mono-add (suc k) w h =
       subst (λ (x : ℕ). entry t w ≼ entry t x) (sym (add-suc w k))
       (le-trans (entry-mono-add k w (omega arith)) (rule .rises (w + k) (omega arith)))
 
-  pub entry-mono : (v w : ℕ) → v ≤ w → w ≤ 255 → entry t v ≼ entry t w
+  entry-mono : (v w : ℕ) → v ≤ w → w ≤ 255 → entry t v ≼ entry t w
   entry-mono v w h h′ =
       subst (λ (x : ℕ). entry t v ≼ entry t x) (omega arith) (entry-mono-add (w - v) v (omega arith))
 
-  pub entry-top : (w : ℕ) → w ≤ 255 → code (entry t w) ≤ 256
+  entry-top : (w : ℕ) → w ≤ 255 → code (entry t w) ≤ 256
   entry-top w h = le-trans (entry-mono w 255 h (le-refl 255)) (rule .last)
 
   -- a table step is monotone in the limit and in the weight

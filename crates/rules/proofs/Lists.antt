@@ -34,18 +34,22 @@ pub T-not-not : (b : Bool) → T b → T (not (not b))
 T-not-not true h = tt
 T-not-not false h = h
 
+-- true and false differ
+pub clash : {A : Type 0} → true ≡ false → A
+clash e = absurd (subst T e tt)
+
 pub T-true : (b : Bool) → T b → b ≡ true
 T-true true h = refl
 T-true false h = absurd h
 
 -- a test that the code asks the other way round
 pub not-true : (x : Bool) → not x ≡ true → x ≡ false
-not-true true e = let z : _≡_ {A = ℕ} 0 1 = cc in absurd (omega arith)
+not-true true e = clash (sym e)
 not-true false e = refl
 
 pub not-false : (x : Bool) → not x ≡ false → x ≡ true
 not-false true e = refl
-not-false false e = let z : _≡_ {A = ℕ} 0 1 = cc in absurd (omega arith)
+not-false false e = clash e
 
 -- a test holds, or its negation does
 pub either : (b : Bool) → T b ⊎ T (not b)

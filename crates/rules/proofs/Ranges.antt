@@ -70,7 +70,7 @@ cut-range t C f h =
     let s = settle t C in
     ((dropped C (s .left), lowered C (s .left), refl, refl, omega (arith, both-few C (s .left), f .few)), (suc (s .changed), refl, omega arith, omega arith))
 
-pub reach-range : (t : List ℤ) → TableRule t → (R : Register) (u v : ℕ) → T (fromNone (reach t R u v)) × (reach t R u v ≼ pos 255)
+reach-range : (t : List ℤ) → TableRule t → (R : Register) (u v : ℕ) → T (fromNone (reach t R u v)) × (reach t R u v ≼ pos 255)
 unfolding fromNone
 reach-range t rule R u v = go (reach-attained t R u v)
   where

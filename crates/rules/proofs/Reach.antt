@@ -62,7 +62,7 @@ module _ (t : List ℤ) (m u : ℕ) where
       )
 
   -- the search leaves none out
-  pub complete : (ds : List Delegation) (k : ℕ) (free : List Delegation) (a : ℕ) (l : ℤ) → length free ≤ k → GoesOn t m u free a l ds → ds ∈ chainsFrom t m u k free a l
+  complete : (ds : List Delegation) (k : ℕ) (free : List Delegation) (a : ℕ) (l : ℤ) → length free ≤ k → GoesOn t m u free a l ds → ds ∈ chainsFrom t m u k free a l
   unfolding limitFrom
   complete [] zero free a l h g = mem-ended (eqb a u) (eq→eqb (g .linked))
   complete [] (suc k) free a l h g = Memᴰ·append-left _ (mem-ended (eqb a u) (eq→eqb (g .linked)))
@@ -169,7 +169,7 @@ largest-attained t (ds ∷ dss) = go (largest-attained t dss) (larger-either (li
     go (inr r) (inr e) = inr (r .0, List·Memᴰ·tail (r .1), e ∙ r .2)
 
 module _ (t : List ℤ) (R : Register) (u v : ℕ) where
-  pub chain-listed : (ds : List Delegation) → IsChain t R u v ds → ds ∈ chains t R u v
+  chain-listed : (ds : List Delegation) → IsChain t R u v ds → ds ∈ chains t R u v
   unfolding chains
   chain-listed ds c =
       complete t (marksOf R v) u ds (length (avoiding 0 (R .delegations))) (avoiding 0 (R .delegations)) 0 (pos 255) (le-refl _) record {
@@ -180,7 +180,7 @@ module _ (t : List ℤ) (R : Register) (u v : ℕ) where
         live = c .live;
       }
 
-  pub listed-chain : (ds : List Delegation) → ds ∈ chains t R u v → IsChain t R u v ds
+  listed-chain : (ds : List Delegation) → ds ∈ chains t R u v → IsChain t R u v ds
   unfolding chains
   listed-chain ds i =
       let g = sound t (marksOf R v) u (length (avoiding 0 (R .delegations))) (avoiding 0 (R .delegations)) 0 (pos 255) ds (suc-le-suc zero-le) i in

@@ -57,7 +57,7 @@ eq→same {ds} e = subst (λ (x : List Delegation). T (same ds x)) e (same-refl 
 pub AtMost-refl : (d : Delegation) → AtMost d d
 AtMost-refl d = record { giver = refl; receiver = refl; need = refl; bar = refl; weight = le-refl (d .weight) }
 
-pub AtMost-trans : {d e f : Delegation} → AtMost d e → AtMost e f → AtMost d f
+AtMost-trans : {d e f : Delegation} → AtMost d e → AtMost e f → AtMost d f
 AtMost-trans p q = record {
   giver = p .giver ∙ q .giver;
   receiver = p .receiver ∙ q .receiver;
@@ -66,10 +66,10 @@ AtMost-trans p q = record {
   weight = le-trans (p .weight) (q .weight);
 }
 
-pub Within-refl : (F : Register) → Within F F
+Within-refl : (F : Register) → Within F F
 Within-refl F = record { subjects = refl; marks = refl; held = λ d m. (d, m, AtMost-refl d) }
 
-pub Within-trans : {F G H : Register} → Within F G → Within G H → Within F H
+Within-trans : {F G H : Register} → Within F G → Within G H → Within F H
 Within-trans p q = record {
   subjects = p .subjects ∙ q .subjects;
   marks = p .marks ∙ q .marks;
@@ -158,7 +158,7 @@ module _ (t : List ℤ) where
   round-changes R d m h e = let c = cappedAll-falls (allowed t R) m h in omega (arith, c, ap (λ (x : Register). total (x .delegations)) e)
 
   -- the fuel is enough
-  pub settleFrom-right : (k : ℕ) (R : Register) → total (R .delegations) < k → SettlesIn t (settleFrom t k R .changed) R (settleFrom t k R .left)
+  settleFrom-right : (k : ℕ) (R : Register) → total (R .delegations) < k → SettlesIn t (settleFrom t k R .changed) R (settleFrom t k R .left)
   settleFrom-right zero R h = absurd (omega arith)
   settleFrom-right (suc k) R h = go (same (round t R .delegations) (R .delegations)) refl (settleFrom-right k (round t R))
     where
@@ -216,7 +216,7 @@ module _ (t : List ℤ) where
           (g, mem-concatMap (λ x. capped x (allowed t C x)) m′ m″, b);
     }
 
-    pub settles-best : (n : ℕ) (C F : Register) → SettlesIn t n C F → Best t C F
+    settles-best : (n : ℕ) (C F : Register) → SettlesIn t n C F → Best t C F
     settles-best zero C F s = subst (λ (X : Register). Best t C X) (s .0) record {
       remainder = record { within = Within-refl C; supported = λ d m. allowed-carried t rule C d (rest-supported C (s .1) d m) };
       best = λ G r. r .within;

@@ -62,7 +62,7 @@ module _ (t : List ℤ) (rule : TableRule t) (R : Register) (v : ℕ) where
       })
 
   -- the end: what is not settled has no limit
-  pub search-end : (L : ℕ → ℤ) (settled : ℕ → Bool) (parent : ℕ → Delegation) → Search t R v L settled parent [] → ((y : ℕ) → T (not (settled y)) → L y ≡ none) → Certificate t R v L
+  search-end : (L : ℕ → ℤ) (settled : ℕ → Bool) (parent : ℕ → Delegation) → Search t R v L settled parent [] → ((y : ℕ) → T (not (settled y)) → L y ≡ none) → Certificate t R v L
   unfolding next
   search-end L settled parent s h = record {
     owner = s .owner;

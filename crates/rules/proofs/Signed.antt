@@ -15,6 +15,7 @@ use mir.Val.{SFits, ofZ, toZ}
 use mir.Facts.{toZ-ofZ}
 use Rattle.rules.specs.Limit.{none}
 use Rattle.rules.specs.Table.{entry, next}
+use Rattle.rules.proofs.Lists.{clash}
 
 -- what stands in a list does not depend on what stands past its end
 pub getD-within : {A : Type 0} (xs : List A) (i : ℕ) (a b : A) → i < length xs → getD xs i a ≡ getD xs i b
@@ -24,7 +25,7 @@ getD-within (x ∷ xs) (suc i) a b l = getD-within xs i a b (le-of-suc-le-suc l)
 
 pub not-negative : (z : ℤ) → ltZ z (pos 0) ≡ false → T (nonNeg z)
 not-negative (pos n) e = tt
-not-negative (negsuc k) e = let q : _≡_ {A = ℕ} 0 1 = cc in absurd (omega arith)
+not-negative (negsuc k) e = clash e
 
 -- an entry read as 16 bits is the entry
 read : (t : List ℤ) (i : ℕ) → i < length t → mag (getD t i (pos 0)) < 32768 → toZ w16 (ofZ w16 (getD t i (pos 0))) ≡ entry t i

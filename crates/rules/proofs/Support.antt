@@ -69,7 +69,7 @@ module _ (t : List ℤ) (rule : TableRule t) where
       (e ∷ es, lift-cons G m d e ds es m′ a (h d (List·Memᴰ·head refl)) s)
 
   -- a chain within F gives one within G that carries at least as much
-  pub chain-mono : (F G : Register) (u v : ℕ) → Within F G → (ds : List Delegation) → IsChain t F u v ds → (es : List Delegation) × IsChain t G u v es × (limit t ds ≼ limit t es)
+  chain-mono : (F G : Register) (u v : ℕ) → Within F G → (ds : List Delegation) → IsChain t F u v ds → (es : List Delegation) × IsChain t G u v es × (limit t ds ≼ limit t es)
   chain-mono F G u v within ds c =
       let (es, s) = lift F G (marksOf F v) within ds (c .standing) (c .met) in
       let up = s .carries (pos 255) (pos 255) (le-refl 256) (le-refl 256) in (

@@ -17,12 +17,12 @@ abbrev pub fits : ℕ → ℤ → ℤ → Bool
 fits i p x = fromNone x && leb (code p) (code x) && leb (code x) (cond (eqb i 255) 256 i)
 
 -- each entry may stand where it stands, counted from i, after p
-abbrev pub ruled : ℕ → ℤ → List ℤ → Bool
+abbrev ruled : ℕ → ℤ → List ℤ → Bool
 ruled i p [] = true
 ruled i p (x ∷ xs) = fits i p x && ruled (suc i) x xs
 
 -- THE TEST of a table
-abbrev pub tableTest : List ℤ → Bool
+abbrev tableTest : List ℤ → Bool
 tableTest t = eqb (length t) 256 && ruled 0 none t
 
 from : (xs : List ℤ) (i : ℕ) (p : ℤ) → T (ruled i p xs) → (k : ℕ) → k < length xs → T (fits (i + k) (getD (p ∷ xs) k none) (getD xs k none))

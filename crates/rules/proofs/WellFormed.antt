@@ -130,13 +130,13 @@ held-antisym (d ∷ ds) (e ∷ es) r s h k =
     let q = held-antisym ds es (r .1) (s .1) (rest-held d e ds es r b h) (rest-held e d es ds s a k) in
     λ i. p i ∷ q i
 
-pub within-antisym : (F G : Register) → Rising (F .delegations) → Rising (G .delegations) → Within F G → Within G F → F ≡ G
+within-antisym : (F G : Register) → Rising (F .delegations) → Rising (G .delegations) → Within F G → Within G F → F ≡ G
 within-antisym F G r s h k =
     let p = held-antisym (F .delegations) (G .delegations) r s (h .held) (k .held) in
     λ i. record { subjects = h .subjects i; marks = h .marks i; delegations = p i }
 
 -- there is one best remainder
-pub best-unique : (t : List ℤ) (C F G : Register) → Rising (F .delegations) → Rising (G .delegations) → Best t C F → Best t C G → F ≡ G
+best-unique : (t : List ℤ) (C F G : Register) → Rising (F .delegations) → Rising (G .delegations) → Best t C F → Best t C G → F ≡ G
 best-unique t C F G r s f g = within-antisym F G r s (g .best F (f .remainder)) (f .best G (g .remainder))
 
 settles-rising : (t : List ℤ) (n : ℕ) (C F : Register) → SettlesIn t n C F → Rising (C .delegations) → Rising (F .delegations)

@@ -32,7 +32,7 @@ shifted r s i j h =
         ap (λ (m : ℕ). getD r m 0) (add-assoc i k 1) ∙ h (k + 1) (omega arith) ∙ ap (λ (m : ℕ). getD s m 0) (sym (add-assoc j k 1)) in
         λ q. h k (omega arith) q + hi q * 256
 
-pub record-drop : (s : List ℕ) (i : ℕ) → delegationIn (drop i s) ≡ recordAt s i
+record-drop : (s : List ℕ) (i : ℕ) → delegationIn (drop i s) ≡ recordAt s i
 record-drop s i = shifted (drop i s) s 0 i (λ k l. ap (λ (m : ℕ). getD (drop i s) m 0) (zero-add k) ∙ getD-drop i s k 0)
 
 -- record k of a part that begins with record a is record a + k of the whole

@@ -39,14 +39,14 @@ unfolding chains reach
 reach-marks t R u v = refl
 
 -- and so do chains
-pub chain-marks : (t : List ℤ) (R : Register) (u v : ℕ) (ds : List Delegation) → IsChain t (underMarks (R .delegations) (marksOf R v)) u 0 ds → IsChain t R u v ds
+chain-marks : (t : List ℤ) (R : Register) (u v : ℕ) (ds : List Delegation) → IsChain t (underMarks (R .delegations) (marksOf R v)) u 0 ds → IsChain t R u v ds
 chain-marks t R u v ds c = record { standing = c .standing; linked = c .linked; distinct = c .distinct; met = c .met; live = c .live }
 
 module _ (b : List ℕ) (bytes : IsBytes b) (formed : wellFormed b ≡ true) where
-  pub length-records : length (recordsIn b) ≡ 8 * countIn b
+  length-records : length (recordsIn b) ≡ 8 * countIn b
   length-records = length-take (8 * countIn b) (drop 132 b) ∙ omega (arith, length-drop 132 b, size-held b bytes formed, count-most b bytes formed)
 
-  pub records-count : length (recordsIn b) / 8 ≡ countIn b
+  records-count : length (recordsIn b) / 8 ≡ countIn b
   records-count = ap (λ (n : ℕ). n / 8) length-records ∙ mul-div-right (countIn b) (omega arith)
 
   field : (k j : ℕ) → k < countIn b → j < 8 → getD (drop (8 * k) (recordsIn b)) j 0 ≡ getD (recordFrom b k) j 0
