@@ -195,10 +195,11 @@ module _ (t : List ℤ) (b : List ℕ) (g r : ℕ) (buf : List ℕ) (o : Written
       go (inl e) = let (ds, c, n, a) = made .chain e in omega (arith, n, ap length a, length-append (linkBytes ds) (drop (2 * length ds) buf), bytes-length ds)
       go (inr k) = omega (arith, made .refused k .0)
 
-  pub front-made : ChainFront t b g r buf (take (2 * o .links) after)
+  pub front-made : ChainFront t b g r buf (o .refusal) (take (2 * o .links) after)
   front-made = record {
-    refused = λ k. ap (λ (i : ℕ). take (2 * i) after) (made .refused (λ e. k (sym (made .refusal) ∙ e)) .0);
+    refusal = made .refusal;
+    refused = λ k. ap (λ (i : ℕ). take (2 * i) after) (made .refused k .0);
     chain = λ z.
-        let (ds, c, n, a) = made .chain (made .refusal ∙ z) in
+        let (ds, c, n, a) = made .chain z in
         (ds, c, (λ j. take (2 * n j) (a j)) ∙ take-at (linkBytes ds) (drop (2 * length ds) buf) (2 * length ds) (bytes-length ds));
   }

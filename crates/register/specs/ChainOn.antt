@@ -41,7 +41,8 @@ pub record ChainLeft (t : List ℤ) (R : Register) (g r : ℕ) (w : ℤ) (n : �
 abbrev pub ChainMade : List ℤ → List ℕ → ℕ → ℕ → List ℕ → Written → List ℕ → Type 0
 ChainMade t b g r before o after = ChainLeft t (decode b) g r (weightAt (decode b .delegations) g r) (chainRefusalOn t b g r before) before o after
 
--- what the front handed back holds: nothing where refused, else the bytes of such a chain
-pub record ChainFront (t : List ℤ) (b : List ℕ) (g r : ℕ) (before part : List ℕ) : Type 0 where
-  pub refused : chainRefusalOn t b g r before ≢ 0 → part ≡ []
-  pub chain : chainRefusalOn t b g r before ≡ 0 → (ds : List Delegation) × ChainFor t (decode b) g r (weightAt (decode b .delegations) g r) ds × (part ≡ linkBytes ds)
+-- what the chain call tells and hands back where it hands back the front: the refusal n; an empty part where refused, else the bytes of such a chain
+pub record ChainFront (t : List ℤ) (b : List ℕ) (g r : ℕ) (before : List ℕ) (n : ℕ) (part : List ℕ) : Type 0 where
+  pub refusal : n ≡ chainRefusalOn t b g r before
+  pub refused : n ≢ 0 → part ≡ []
+  pub chain : n ≡ 0 → (ds : List Delegation) × ChainFor t (decode b) g r (weightAt (decode b .delegations) g r) ds × (part ≡ linkBytes ds)

@@ -215,11 +215,18 @@ pub fn write_chain(block: &[u8], giver: u32, receiver: u32, buf: &mut [u8]) -> W
     chaining::write_held(block, giver, receiver, buf)
 }
 
-// The same, with the filled front of `buf` handed back: empty where refused.
-pub fn chain<'a>(block: &[u8], giver: u32, receiver: u32, buf: &'a mut [u8]) -> &'a mut [u8]
-    ensures { λ r. ⌜ ChainFront steps (now (block .entry)) giver receiver (now (buf .entry)) (now r) × (ptr r ≡ ptr (buf .entry)) ⌝ }
+// The same: tells the refusal, 0 when accepted, and hands back the filled front of `buf`, empty where refused.
+pub fn chain<'a>(
+    block: &[u8],
+    giver: u32,
+    receiver: u32,
+    refusal: &mut u32,
+    buf: &'a mut [u8],
+) -> &'a mut [u8]
+    ensures { λ r. ⌜ ChainFront steps (now (block .entry)) giver receiver (now (buf .entry)) (now (refusal .exit)) (now r) × (ptr r ≡ ptr (buf .entry)) ⌝ }
 {
     let written = write_chain(block, giver, receiver, buf);
+    *refusal = written.refusal;
     let end = 2 * written.links;
     &mut buf[..end]
 }

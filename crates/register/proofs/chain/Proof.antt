@@ -18,7 +18,7 @@ mul-end c =
     let b = a .block .now in
     let at-good = c .before .before .before .before .before .before .before .good in
     let at-write-chain = c .before .before .before .write-chain in
-    omega (arith, front-fits steps b (a .giver) (a .receiver) (a .buf .now) (at-write-chain .result) (at-write-chain .last .1 .1 .1 .0) (at-write-chain .ensures), at-write-chain .kept .1 .1 .1 .0, at-good .1 .1 .1 .0 .0)
+    omega (arith, front-fits steps b (a .giver) (a .receiver) (a .buf .now) (at-write-chain .result) (at-write-chain .last .1 .1 .1 .0) (at-write-chain .ensures), at-write-chain .kept .1 .1 .1 .0, at-good .1 .1 .1 .1 .0 .0)
 
 slice-aggregate-result : tie.Need-slice-aggregate-result
 slice-aggregate-result c =
