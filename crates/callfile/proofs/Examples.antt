@@ -14,8 +14,8 @@ use Rattle.rules.specs.Examples.{Line, Shown, P1}
 use Rattle.rules.proofs.Lists.{T-left, T-right}
 use Rattle.block.specs.Block.{encode}
 use Rattle.register.specs.CallOn.{callOn}
-use Rattle.register.specs.Examples.{traceOnFrom, lineOn}
-use Rattle.register.proofs.ByteExamples.{examples-on-bytes}
+use Rattle.demands.specs.Examples.{traceOnFrom, lineOn}
+use Rattle.demands.proofs.ByteExamples.{examples-on-bytes}
 use Rattle.text.specs.Text.{digits, line, most, AllAllowed}
 use Rattle.text.proofs.Injective.{line-inj}
 use Rattle.callfile.specs.CallFile.{callNames, answerNames, row, values, InRange, AllInRange, callLine, answerLine, answerLines, malformed, ending, NoCall, mostText, Prints, unnamed, named}

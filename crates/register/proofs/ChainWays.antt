@@ -24,7 +24,7 @@ use Rattle.rules.specs.WellFormed.{Rising}
 use Rattle.rules.specs.Call.{askReach, granted}
 use Rattle.rules.specs.Refusal.{firstOf, passed, chainPassed, chainHeld}
 use Rattle.rules.proofs.Lists.{eqOr}
-use Rattle.rules.proofs.Refusals.{numbered}
+use Rattle.rules.proofs.Refusals.{numbered, firstOf-none, firstOf-some}
 use Rattle.rules.proofs.Pairs.{test-pair}
 use Rattle.block.specs.Bytes.{IsBytes, leading}
 use Rattle.block.specs.Block.{subjectsIn, countIn, recordsIn, decode}
@@ -38,11 +38,10 @@ use Rattle.search.proofs.Signed.{below-weight}
 use Rattle.search.proofs.Written.{bytes-length}
 use Rattle.search.proofs.Ready.{limit-reach, traceable}
 use Rattle.search.proofs.Searching.{reach-marks, records-held, lent-held, reach-found, chain-found}
-use Rattle.register.specs.CallOn.{notWellFormed, early}
+use Rattle.refusals.specs.Early.{notWellFormed, early}
 use Rattle.register.specs.ChainOn.{chainRefusalOn, unwrittenBy, ChainLeft, ChainMade, ChainFront}
 use Rattle.register.specs.declared.Written.{Written}
-use Rattle.register.proofs.Made.{firstOf-none, firstOf-some}
-use Rattle.register.proofs.Holding.{or-false, at-place, place-inside, weight-stands, enrolled-test}
+use Rattle.refusals.proofs.Holding.{or-false, at-place, place-inside, weight-stands, enrolled-test}
 
 -- a refused call leaves the buffer
 left-refused : (t : List ℤ) (R : Register) (g r : ℕ) (w : ℤ) (n m : ℕ) (buf : List ℕ) → n ≡ m → m ≢ 0 → ChainLeft t R g r w n buf (unwrittenBy m) buf

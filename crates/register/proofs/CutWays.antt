@@ -8,13 +8,15 @@ use native.Mathlib.Omega.{arith}
 use lib.IntN.{ℤ, pos}
 use Rattle.rules.specs.Table.{TableRule}
 use Rattle.rules.specs.Register.{Register}
-use Rattle.rules.specs.Round.{settle}
-use Rattle.rules.specs.Cut.{Cut, removal, lowering, named}
+use Rattle.rules.specs.Round.{settle, SettlesIn}
+use Rattle.rules.specs.Cut.{Cut, removal, lowering, named, dropped, lowered}
+use Rattle.rules.specs.Remainder.{Best}
 use Rattle.rules.specs.WellFormed.{WellFormed}
 use Rattle.rules.specs.Call.{Call, revoke, downgrade, IsCut}
 use Rattle.rules.specs.Refusal.{firstOf, passed, held}
-use Rattle.rules.specs.CallStep.{cut, accepted}
-use Rattle.rules.proofs.Calls.{removed-formed, lowered-formed}
+use Rattle.rules.specs.CallStep.{cut, accepted, callStep}
+use Rattle.rules.proofs.Calls.{removed-formed, lowered-formed, callStep-formed}
+use Rattle.rules.proofs.History.{callStep-cut}
 use Rattle.rules.proofs.Bound.{rounds-most}
 use Rattle.rules.proofs.Ranges.{both-few}
 use Rattle.rules.proofs.Lists.{T-true}
@@ -30,10 +32,11 @@ use Rattle.register.specs.CallOn.{Result, written, callOn}
 use Rattle.register.specs.Made.{refusedBy, answeredBy, result, Made}
 use Rattle.register.specs.Cuts.{CutLeft, CutMade}
 use Rattle.register.specs.declared.Answer.{Answer}
-use Rattle.register.proofs.Within.{Within, within}
-use Rattle.register.proofs.Made.{Early, made-done}
-use Rattle.register.proofs.History.{place-right}
-use Rattle.register.proofs.Exactly.{through}
+use Rattle.refusals.proofs.Within.{Within, within}
+use Rattle.refusals.proofs.EarlyTests.{Early}
+use Rattle.register.proofs.Made.{made-done}
+use Rattle.register.proofs.Through.{through}
+use Rattle.register.proofs.OnBytes.{onBytes, callOn-encode}
 
 -- what `settled` promises, as the outcome of a cut
 pub settled-cut : (t : List ℤ) (b : List ℕ) (C : Register) (o : Answers) (after : List ℕ) → SettledMade t C o after → result (answeredBy (pos (o .dropped)) (pos (o .lowered)) (pos (o .rounds))) after ≡ written b (cut t C)
@@ -73,7 +76,26 @@ named-formed R y (lowering g r w) f p = lowered-formed R g r w (p .1) f
 pub cut-refused : (t : List ℤ) (c : Call) (k : Cut) (b : List ℕ) (n : ℕ) → n ≢ 0 → Made t c b (refusedBy n) b → CutMade t c k b (refusedBy n) b
 cut-refused t c k b n h q = (q, λ z. absurd (h z))
 
--- an accepted one leaves the best remainder
+-- an accepted one, made on a well-formed register written, leaves the best remainder
+module _ (t : List ℤ) (rule : TableRule t) (R : Register) (f : WellFormed R) (c : Call) (a : Answer) (after : List ℕ) (q : result a after ≡ callOn t (encode R) c) where
+  o : result a after ≡ onBytes (callStep t R c)
+  o = q ∙ callOn-encode t R f c
+
+  left : decode after ≡ callStep t R c .left
+  left = ap (λ (r : Result). decode (r .bytes)) o ∙ decode-encode (callStep t R c .left) (callStep-formed t R c f)
+
+  pub cut-left : (k : Cut) → IsCut c k → a .refusal ≡ 0 → CutLeft t (named (decode (encode R)) k) a after
+  cut-left k i z =
+      let r = callStep-cut t rule R c k i (sym (ap (λ (x : Result). x .refusal) o) ∙ z) in
+      let C : named (decode (encode R)) k ≡ named R k = ap (λ (S : Register). named S k) (decode-encode R f) in
+      subst (λ (D : Register). CutLeft t D a after) (sym C) record {
+        best = subst (λ (S : Register). Best t (named R k) S) (sym left) (r .best);
+        dropped = ap (λ (x : Result). x .first) o ∙ r .dropped ∙ ap (λ (S : Register). pos (dropped (named R k) S)) (sym left);
+        lowered = ap (λ (x : Result). x .second) o ∙ r .lowered ∙ ap (λ (S : Register). pos (lowered (named R k) S)) (sym left);
+        rounds = (r .rounds .0, ap (λ (x : Result). x .third) o ∙ r .rounds .1, subst (λ (S : Register). SettlesIn t (r .rounds .0) (named R k) S) (sym left) (r .rounds .2));
+      }
+
+-- and on every block
 pub cut-made : (t : List ℤ) → TableRule t → (c : Call) (k : Cut) → IsCut c k → (b : List ℕ) → IsBytes b → (o : Answer) (after : List ℕ) → Made t c b o after → CutMade t c k b o after
 cut-made t rule c k i b bytes o after q = (q, left)
   where
@@ -81,8 +103,7 @@ cut-made t rule c k i b bytes o after q = (q, left)
     left z =
         let h = through t b c (sym (ap (λ (r : Result). r .refusal) q) ∙ z) .early .formed in
         let w = held-written b bytes h in
-        let p = place-right t rule (decode b) (held-formed b bytes h) record { call = c; answer = o; after = after } (q ∙ ap (λ (x : List ℕ). callOn t x c) w) in
-        subst (λ (x : List ℕ). CutLeft t (named (decode x) k) o after) (sym w) (p .cut k i z)
+        subst (λ (x : List ℕ). CutLeft t (named (decode x) k) o after) (sym w) (cut-left t rule (decode b) (held-formed b bytes h) c o after (q ∙ ap (λ (x : List ℕ). callOn t x c) w) k i z)
 
 module _ (t : List ℤ) (b : List ℕ) (bytes : IsBytes b) (y : ℕ) (k : Cut) (h : Early b (cutCall y k)) (d : List ℕ) (e : d ≡ encode (named (decode b) k)) where
   formed : WellFormed (named (decode b) k)

@@ -12,7 +12,8 @@ use Rattle.block.specs.Bytes.{IsBytes}
 use Rattle.block.specs.Block.{subjectsIn, decode, encode}
 use Rattle.block.proofs.Held.{subjects-held}
 use Rattle.register.specs.Made.{refusedBy, answeredBy, Made}
-use Rattle.register.proofs.Made.{Early, made-held, made-done}
+use Rattle.refusals.proofs.EarlyTests.{Early}
+use Rattle.register.proofs.Made.{made-held, made-done}
 
 module _ (t : List ℤ) (m : ℕ) (b : List ℕ) (bytes : IsBytes b) (h : Early b (enrol m)) where
   pub enrol-full : 64 ≤ subjectsIn b → Made t (enrol m) b (refusedBy 10) b

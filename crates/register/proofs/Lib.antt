@@ -1,12 +1,8 @@
-pub mod Within
 pub mod Made
+pub mod Through
+pub mod OnBytes
 pub mod Enrolling
 pub mod Using
-pub mod Holding
-pub mod CutHolding
-pub mod ChainWays
-pub mod History
-pub mod ByteExamples
-pub mod Exactly
+pub mod Granting
 pub mod CutWays
-pub mod Keeping
+pub mod ChainWays

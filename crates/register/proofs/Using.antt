@@ -16,7 +16,8 @@ use Rattle.block.specs.Block.{subjectsIn, countIn, decode}
 use Rattle.block.proofs.Held.{held-written, subjects-held, delegations-held}
 use Rattle.block.specs.Records.{delegationsTo}
 use Rattle.register.specs.Made.{refusedBy, answeredBy, Made}
-use Rattle.register.proofs.Made.{Early, made-held, made-done}
+use Rattle.refusals.proofs.EarlyTests.{Early}
+use Rattle.register.proofs.Made.{made-held, made-done}
 
 module _ (t : List ℤ) (r : ℕ) (b : List ℕ) (bytes : IsBytes b) (h : Early b (askUse r)) where
   pub use-enrolled : subjectsIn b ≤ r → Made t (askUse r) b (refusedBy 9) b

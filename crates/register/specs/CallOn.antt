@@ -1,16 +1,16 @@
 -- The calls on bytes (document 01, 'Calls' and the two lists of refusals): for every block of any length and content, what is returned and what is left. Assumes nothing.
-use mathlib.Core.Bool.{Bool, true, false, cond, not}
-use mathlib.Core.List.{List, [], _∷_, _++_}
+use mathlib.Core.Bool.{true, false, cond}
+use mathlib.Core.List.{List}
 use Prim.Native.Nat.{ℕ}
 use lib.Dec.{eqb}
 use lib.ListN.{length}
 use lib.IntN.{ℤ, pos}
 use Rattle.rules.specs.Call.{Call, fresh}
-use Rattle.rules.specs.Refusal.{firstOf, passed}
+use Rattle.rules.specs.Refusal.{firstOf}
 use Rattle.rules.specs.CallStep.{Outcome, callStep}
 use Rattle.block.specs.Layout.{blockSize}
 use Rattle.block.specs.Block.{decode, encode}
-use Rattle.block.specs.WellFormed.{wellFormed}
+use Rattle.refusals.specs.Early.{early}
 
 -- the refusal number, 0 when accepted; the three answers; the bytes afterwards
 pub record Result : Type 0 where
@@ -19,18 +19,6 @@ pub record Result : Type 0 where
   pub second : ℤ
   pub third : ℤ
   pub bytes : List ℕ
-
--- 1: the block is not 2,180 bytes
-abbrev pub wrongLength : List ℕ → ℕ × Bool
-wrongLength b = (1, not (eqb (length b) blockSize))
-
--- 8: the block is not well formed
-abbrev pub notWellFormed : List ℕ → ℕ × Bool
-notWellFormed b = (8, not (wellFormed b))
-
--- what comes before the refusals by what the register holds: 1, those by what was passed, 8
-abbrev pub early : List ℕ → Call → List (ℕ × Bool)
-early b c = wrongLength b ∷ (passed c ++ (notWellFormed b ∷ []))
 
 -- a refused call answers 0 and changes no byte
 abbrev pub turned : ℕ → List ℕ → Result

@@ -14,7 +14,7 @@ use Rattle.rules.specs.Refusal.{firstOf, chainPassed, chainHeld}
 use Rattle.block.specs.Layout.{blockSize}
 use Rattle.block.specs.Block.{decode}
 use Rattle.search.specs.Found.{linkBytes}
-use Rattle.register.specs.CallOn.{notWellFormed}
+use Rattle.refusals.specs.Early.{notWellFormed}
 use Rattle.register.specs.declared.Written.{Written}
 
 -- 1: the block is not 2,180 bytes, or the buffer is under 126

@@ -6,16 +6,17 @@ ghost use lib.ListN.{length};
 ghost use lib.IntN.{pos};
 ghost use lib.Signed.{ltZ};
 ghost use Rattle.rules.specs.Table.{steps};
+ghost use Rattle.rules.specs.Register.{marksOf};
 ghost use Rattle.rules.specs.Reach.{reach};
 ghost use Rattle.rules.specs.Pair.{weightAt};
 ghost use Rattle.rules.specs.Refusal.{firstOf, chainHeld};
-ghost use Rattle.block.specs.Block.{subjectsIn, decode};
+ghost use Rattle.block.specs.Block.{subjectsIn, recordsIn, decode};
 ghost use Rattle.block.specs.WellFormed.{wellFormed};
+ghost use Rattle.search.specs.Found.{Searched};
 ghost use Rattle.register.specs.ChainOn.{unwrittenBy, ChainLeft};
 use crate::Written;
-use crate::held;
-use crate::reaching;
 use block::layout;
+use refusals::held;
 use rules::refusal;
 
 // The most links of a chain, and their bytes, two a link.
@@ -33,6 +34,17 @@ pub fn unwritten(number: u32) -> Written
     }
 }
 
+// The reach of every subject for a receiver, by document 01's own step table, and the parents by which each is reached.
+fn limits_for(block: &[u8], receiver: usize, limits: &mut [i16], parents: &mut [u16])
+    requires { ⌜ (wellFormed (now block) ≡ true) × (receiver < subjectsIn (now block)) × (length (now limits) ≡ 64) × (length (now parents) ≡ 64) ⌝ }
+    ensures { λ _. ⌜ Searched steps (recordsIn (now (block .entry))) (marksOf (decode (now (block .entry))) receiver) (now (limits .exit)) (now (parents .exit)) ⌝ }
+{
+    let table = rules::steps();
+    let mut starts = [0u16; 65];
+    search::starts_of(block, &mut starts);
+    search::limits_for(block, &starts, &table, receiver, limits, parents);
+}
+
 // A chain of the pair that carries a weight; 16 where its reach is below that.
 fn write_carrying(
     block: &[u8],
@@ -46,7 +58,7 @@ fn write_carrying(
 {
     let mut limits = [-1i16; 64];
     let mut parents = [0u16; 64];
-    reaching::limits_for(block, receiver, &mut limits, &mut parents);
+    limits_for(block, receiver, &mut limits, &mut parents);
     if limits[giver] < weight as i16 {
         return unwritten(refusal::OVERWEIGHT);
     }

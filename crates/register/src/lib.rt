@@ -1,24 +1,19 @@
 // The public calls of the register, on plain numbers and a lent block of any length and content.
 mod chaining;
 mod cutting;
-mod held;
-mod passed;
-mod reaching;
 
 ghost use mathlib.Core.Path.{_≡_};
-ghost use mathlib.Core.Bool.{not};
-ghost use mathlib.Core.List.{[], _∷_};
-ghost use lib.Dec.{eqb};
 ghost use denote.Ref.{ptr};
 ghost use Rattle.rules.specs.Table.{steps};
 ghost use Rattle.rules.specs.Cut.{removal, lowering};
 ghost use Rattle.rules.specs.Call.{enrol, grant, revoke, downgrade, askReach, askUse};
-ghost use Rattle.rules.specs.Refusal.{firstOf};
-ghost use Rattle.register.specs.CallOn.{wrongLength, notWellFormed};
 ghost use Rattle.register.specs.Made.{refusedBy, answeredBy, Made, MadeOpen};
 ghost use Rattle.register.specs.Cuts.{CutMade};
 ghost use Rattle.register.specs.ChainOn.{ChainMade, ChainFront};
 use block::layout;
+use refusals::early;
+use refusals::held;
+use refusals::passed;
 use rules::refusal;
 
 // The refusal number, 0 when accepted, and the three answers, 0 where unused.
@@ -55,22 +50,6 @@ fn answered(first: i32, second: i32, third: i32) -> Answer
         second: second,
         third: third,
     }
-}
-
-// The first that applies of 1, the refusal by what was passed, which is `number` or 0 where there is none, and 8; or 0.
-fn early(block: &[u8], number: u32) -> u32
-    ensures { λ r. ⌜ r ≡ firstOf (wrongLength (now (block .entry)) ∷ (number, not (eqb number 0)) ∷ notWellFormed (now (block .entry)) ∷ []) ⌝ }
-{
-    if block.len() != layout::BLOCK_SIZE {
-        return refusal::WRONG_LENGTH;
-    }
-    if number != 0 {
-        return number;
-    }
-    if !block::well_formed(block) {
-        return refusal::NOT_WELL_FORMED;
-    }
-    0
 }
 
 // Writes a fresh register: one subject, no delegation.
@@ -131,7 +110,7 @@ pub fn reach(block: &[u8], giver: u32, receiver: u32) -> Answer
     if !held::both_enrolled(block, giver, receiver) {
         return refused(refusal::NOT_ENROLLED);
     }
-    let k = reaching::reach_of(block, giver as usize, receiver as usize);
+    let k = refusals::reach_of(block, giver as usize, receiver as usize);
     answered(k as i32, 0, 0)
 }
 
@@ -177,7 +156,7 @@ pub fn revoke(block: &mut [u8], by: u32, giver: u32, receiver: u32) -> Answer
     if n != 0 {
         return refused(n);
     }
-    let m = cutting::revoke_held(block, by, giver, receiver);
+    let m = held::revoke_held(block, by, giver, receiver);
     if m != 0 {
         return refused(m);
     }
@@ -193,7 +172,7 @@ pub fn downgrade(block: &mut [u8], by: u32, giver: u32, receiver: u32, weight: u
     if n != 0 {
         return refused(n);
     }
-    let m = cutting::downgrade_held(block, by, giver, receiver, weight);
+    let m = held::downgrade_held(block, by, giver, receiver, weight);
     if m != 0 {
         return refused(m);
     }

@@ -20,9 +20,9 @@ use Rattle.block.specs.Block.{encode}
 use Rattle.block.proofs.Bytes.{length-tabulate}
 use Rattle.register.specs.CallOn.{Result, callOn, openOn}
 use Rattle.register.specs.Made.{result, Made, MadeOpen}
-use Rattle.register.specs.History.{Entry, History, blockFrom, blockAt, PlaceRight}
+use Rattle.demands.specs.History.{Entry, History, blockFrom, blockAt, PlaceRight}
 use Rattle.register.specs.declared.Answer.{Answer}
-use Rattle.register.proofs.History.{demand3-steps}
+use Rattle.demands.proofs.History.{demand3-steps}
 use Rattle.replay.specs.Replay.{callIn, callCount, callsIn, slot, answerIn, entryIn, entriesIn, isSized, allCalls, replayRefusal, Replayed, ReplayMade}
 use Rattle.replay.specs.Turn.{Copied, Stored, MadeAt, Turned}
 use Rattle.replay.proofs.Slots.{slot-kept, slot-new, slot-part}

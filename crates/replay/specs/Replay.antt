@@ -15,7 +15,7 @@ use Rattle.block.specs.Layout.{blockSize}
 use Rattle.block.specs.Bytes.{readAll, allFrom}
 use Rattle.block.specs.Block.{encode}
 use Rattle.register.specs.Made.{refusedBy, Made}
-use Rattle.register.specs.History.{Entry, blockAt, PlaceRight}
+use Rattle.demands.specs.History.{Entry, blockAt, PlaceRight}
 use Rattle.register.specs.declared.Answer.{Answer}
 
 -- ── one call ──

@@ -11,7 +11,7 @@ use lib.ListN.{length}
 use lib.IntN.{ℤ, pos, negsuc}
 use Rattle.rules.specs.List.{_∈_, keep, filter, concatMap}
 use Rattle.rules.specs.Limit.{code, _≼_}
-use Rattle.rules.specs.Table.{TableRule}
+use Rattle.rules.specs.Table.{steps, TableRule}
 use Rattle.rules.specs.Register.{Delegation, Register, reweigh}
 use Rattle.rules.specs.Support.{allowed}
 use Rattle.rules.specs.Pair.{isPair, weightAt}
@@ -20,6 +20,7 @@ use Rattle.rules.specs.Cut.{Cut, removal, lowering, named}
 use Rattle.rules.specs.WellFormed.{WellFormed}
 use Rattle.rules.specs.Bound.{isUnlimited, unlimited, Names, RoundsAtMost, RoundsBelow, Bounded}
 use Rattle.rules.proofs.Lists.{either, eq→eqb, T-not-not, filter-length, filter-shorter, mem-map}
+use Rattle.rules.proofs.Table.{steps-rule}
 use Rattle.rules.proofs.Rounds.{settle-right}
 use Rattle.rules.proofs.WellFormed.{round-formed}
 use Rattle.rules.proofs.Calls.{removed-formed, lowered-formed}
@@ -146,3 +147,6 @@ module _ (t : List ℤ) (rule : TableRule t) where
 -- THE THEOREM
 pub bounded : Bounded
 bounded t rule = (rounds-most t rule, rounds-below t rule)
+
+pub bounded-steps : RoundsAtMost steps × RoundsBelow steps
+bounded-steps = bounded steps steps-rule

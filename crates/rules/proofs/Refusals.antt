@@ -1,10 +1,12 @@
--- A call that is not refused passed every test of its two lists. Assumes nothing.
-use mathlib.Core.Path.{_≡_}
+-- The first refusal that applies of a list; a call that is not refused passed every test of its two lists. Assumes nothing.
+use mathlib.Core.Path.{_≡_, refl, _∙_}
+use mathlib.Core.Logic.{_≢_}
 use mathlib.Core.Bool.{Bool, true, false, not, cond, _&&_}
 use mathlib.Core.List.{List, [], _∷_, _++_}
 use Prim.Native.Nat.{ℕ}
 use native.Mathlib.Omega.{arith}
-use lib.Dec.{T, ltb, ltb→lt}
+use borrow.Author.Tests.{eq-eqb, ne-eqb}
+use lib.Dec.{T, ltb, eqb, ltb→lt}
 use lib.IntN.{ℤ}
 use Rattle.rules.specs.Register.{Register}
 use Rattle.rules.specs.Call.{Call, enrol, grant, revoke, downgrade, askReach, askUse}
@@ -20,6 +22,25 @@ Passes (p ∷ ps) = T (not (p .1)) × Passes ps
 abbrev pub numbered : List (ℕ × Bool) → Bool
 numbered [] = true
 numbered (p ∷ ps) = ltb 0 (p .0) && numbered ps
+
+-- the first that applies of two lists one after the other
+pub firstOf-append : (ps qs : List (ℕ × Bool)) → T (numbered ps) → firstOf (ps ++ qs) ≡ cond (eqb (firstOf ps) 0) (firstOf qs) (firstOf ps)
+firstOf-append [] qs h = refl
+firstOf-append (p ∷ ps) qs h = go (p .1) (firstOf-append ps qs (T-right (ltb 0 (p .0)) (numbered ps) h))
+  where
+    ne : p .0 ≢ 0
+    ne e = let l = ltb→lt 0 (p .0) (T-left (ltb 0 (p .0)) (numbered ps) h) in omega arith
+
+    go : (b : Bool) → firstOf (ps ++ qs) ≡ cond (eqb (firstOf ps) 0) (firstOf qs) (firstOf ps)
+        → cond b (p .0) (firstOf (ps ++ qs)) ≡ cond (eqb (cond b (p .0) (firstOf ps)) 0) (firstOf qs) (cond b (p .0) (firstOf ps))
+    go true ih = rw (ne-eqb (p .0) 0 ne)
+    go false ih = ih
+
+pub firstOf-none : (ps qs : List (ℕ × Bool)) → T (numbered ps) → firstOf ps ≡ 0 → firstOf (ps ++ qs) ≡ firstOf qs
+firstOf-none ps qs h e = firstOf-append ps qs h ∙ rw (eq-eqb (firstOf ps) 0 e)
+
+pub firstOf-some : (ps qs : List (ℕ × Bool)) (n : ℕ) → T (numbered ps) → firstOf ps ≡ n → n ≢ 0 → firstOf (ps ++ qs) ≡ n
+firstOf-some ps qs n h e k = firstOf-append ps qs h ∙ rw (e, ne-eqb n 0 k)
 
 pub firstOf-passes : (ps : List (ℕ × Bool)) → T (numbered ps) → firstOf ps ≡ 0 → Passes ps
 firstOf-passes [] h e = tt

@@ -19,7 +19,7 @@ use Rattle.block.specs.Block.{decode, encode}
 use Rattle.block.proofs.Encode.{bytes-encode}
 use Rattle.register.specs.CallOn.{Result, turned, callOn, openOn}
 use Rattle.register.specs.declared.Answer.{Answer}
-use Rattle.register.proofs.Keeping.{kept}
+use Rattle.demands.proofs.Keeping.{kept}
 use Rattle.register.proofs.CutWays.{cut-made}
 use Rattle.seatreg.specs.Answers.{answerBytes}
 use Rattle.seatreg.specs.Entry.{Returned, handedOut, wrongAnswers, entryOn, entryOpen, EntryMade, EntryOpened, EntryCutLeft}

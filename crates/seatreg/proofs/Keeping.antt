@@ -10,16 +10,17 @@ use lib.Dec.{T, eqb, eqb→eq}
 use lib.ListN.{length}
 use lib.IntN.{ℤ, pos, negsuc}
 use Rattle.rules.specs.Limit.{_≼_, fromNone}
-use Rattle.rules.specs.Table.{TableRule}
+use Rattle.rules.specs.Table.{TableRule, steps}
 use Rattle.rules.specs.Call.{Call, enrol, grant, revoke, downgrade, askReach, askUse, fresh}
 use Rattle.rules.specs.Ranges.{FromTo, Unused, CutInRange, InRange}
+use Rattle.rules.proofs.Table.{steps-rule}
 use Rattle.rules.proofs.Calls.{fresh-formed}
 use Rattle.block.specs.Bytes.{IsBytes}
 use Rattle.block.specs.Block.{encode}
 use Rattle.block.specs.WellFormed.{wellFormed}
 use Rattle.block.proofs.Encode.{bytes-encode}
 use Rattle.register.specs.CallOn.{Result, turned, callOn, openOn}
-use Rattle.register.proofs.Keeping.{kept, kept-open}
+use Rattle.demands.proofs.Keeping.{kept, kept-open}
 use Rattle.seatreg.specs.Answers.{answerBytes, answerIn}
 use Rattle.seatreg.specs.Entry.{wrongAnswers, entryOf, entryOn, entryOpen}
 use Rattle.seatreg.specs.Kept.{BuffersKept, EntryKept, EntryKeptOpen}
@@ -137,6 +138,10 @@ open-bytes b found = go (eqb (length b) 2180)
     go : (x : Bool) → IsBytes (cond x record { refusal = 0; first = pos 0; second = pos 0; third = pos 0; bytes = encode fresh } (turned 1 b) .bytes)
     go true = bytes-encode fresh fresh-formed
     go false = found
+
+-- by document 01's own table
+pub entry-kept-steps : (c : Call) (b a : List ℕ) → IsBytes b → IsBytes a → EntryKept steps c b a
+entry-kept-steps c b a found lent = entry-kept steps steps-rule c b a found lent
 
 pub entry-kept-open : (b a : List ℕ) → IsBytes b → IsBytes a → EntryKeptOpen b a
 unfolding entryOpen

@@ -7,8 +7,9 @@ use Rattle.rules.specs.Table.{steps}
 use Rattle.rules.specs.Call.{Call, enrol}
 use Rattle.block.specs.Bytes.{IsBytes}
 use Rattle.block.proofs.Bytes.{fits-bytes}
-use Rattle.register.proofs.Within.{within}
-use Rattle.register.proofs.Made.{Early, past-early, made-early}
+use Rattle.refusals.proofs.Within.{within}
+use Rattle.refusals.proofs.EarlyTests.{Early, past-early}
+use Rattle.register.proofs.Made.{made-early}
 use Rattle.register.proofs.Enrolling.{enrol-full, enrol-done}
 use Rattle.register.proofs.enrol.Statement.{statement}
 use Rattle.register.proofs.enrol.Tie as tie

@@ -11,9 +11,11 @@ use Rattle.rules.specs.Refusal.{firstOf, held}
 use Rattle.block.specs.Bytes.{IsBytes}
 use Rattle.block.specs.Block.{countIn, decode}
 use Rattle.block.proofs.Bytes.{fits-bytes}
-use Rattle.register.proofs.Within.{Within, within}
-use Rattle.register.proofs.Made.{Early, past-early, made-early, made-held}
-use Rattle.register.proofs.Holding.{grant-done, grant-room}
+use Rattle.refusals.proofs.Within.{Within, within}
+use Rattle.refusals.proofs.EarlyTests.{Early, past-early}
+use Rattle.register.proofs.Made.{made-early, made-held}
+use Rattle.refusals.proofs.Holding.{grant-room}
+use Rattle.register.proofs.Granting.{grant-done}
 use Rattle.register.proofs.grant.Statement.{statement}
 use Rattle.register.proofs.grant.Tie as tie
 

@@ -10,8 +10,10 @@ use Rattle.rules.proofs.Lists.{not-true, not-false}
 use Rattle.block.specs.Bytes.{IsBytes}
 use Rattle.block.specs.Block.{subjectsIn}
 use Rattle.block.proofs.Bytes.{fits-bytes}
-use Rattle.register.proofs.Made.{Early, past-early, made-early}
-use Rattle.register.proofs.Holding.{both-in, reach-unenrolled, reach-done}
+use Rattle.refusals.proofs.EarlyTests.{Early, past-early}
+use Rattle.register.proofs.Made.{made-early}
+use Rattle.refusals.proofs.Holding.{both-in}
+use Rattle.register.proofs.Granting.{reach-unenrolled, reach-done}
 use Rattle.register.proofs.reach.Statement.{statement}
 use Rattle.register.proofs.reach.Tie as tie
 

@@ -10,9 +10,10 @@ use Rattle.rules.proofs.Table.{steps-rule}
 use Rattle.block.specs.Bytes.{IsBytes}
 use Rattle.block.specs.Block.{decode}
 use Rattle.block.proofs.Bytes.{fits-bytes}
-use Rattle.register.proofs.Within.{Within, within}
-use Rattle.register.proofs.Made.{Early, past-early, made-early, made-held}
-use Rattle.register.proofs.CutHolding.{revoke-stands}
+use Rattle.refusals.proofs.Within.{Within, within}
+use Rattle.refusals.proofs.EarlyTests.{Early, past-early}
+use Rattle.register.proofs.Made.{made-early, made-held}
+use Rattle.refusals.proofs.CutHolding.{revoke-stands}
 use Rattle.register.proofs.CutWays.{cut-refused, named-block, cut-done}
 use Rattle.register.proofs.revoke.Statement.{statement}
 use Rattle.register.proofs.revoke.Tie as tie

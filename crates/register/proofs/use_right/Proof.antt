@@ -15,8 +15,9 @@ use Rattle.block.proofs.Bytes.{fits-bytes}
 use Rattle.block.proofs.Held.{count-most}
 use Rattle.block.specs.Records.{delegationsTo}
 use Rattle.register.specs.Made.{answeredBy, Made}
-use Rattle.register.proofs.Within.{within}
-use Rattle.register.proofs.Made.{Early, past-early, made-early}
+use Rattle.refusals.proofs.Within.{within}
+use Rattle.refusals.proofs.EarlyTests.{Early, past-early}
+use Rattle.register.proofs.Made.{made-early}
 use Rattle.register.proofs.Using.{use-enrolled, use-done}
 use Rattle.register.proofs.use_right.Statement.{statement}
 use Rattle.register.proofs.use_right.Tie as tie

@@ -2,8 +2,8 @@
 use borrow.Author.Needs.{needs}
 use Rattle.rules.specs.Table.{steps}
 use Rattle.rules.specs.Call.{Call, askReach}
-use Rattle.register.proofs.Within.{within}
-use Rattle.register.proofs.Made.{Early, none-early, early-found, past-early}
+use Rattle.refusals.proofs.Within.{within}
+use Rattle.refusals.proofs.EarlyTests.{Early, none-early, early-found, past-early}
 use Rattle.register.proofs.ChainWays.{chain-buffer, chain-early, chain-made}
 use Rattle.register.proofs.write_chain.Statement.{statement}
 use Rattle.register.proofs.write_chain.Tie as tie

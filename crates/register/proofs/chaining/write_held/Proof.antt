@@ -12,7 +12,7 @@ use Rattle.block.specs.Block.{subjectsIn, countIn}
 use Rattle.block.proofs.Bytes.{fits-bytes}
 use Rattle.block.proofs.Held.{size-held, count-most}
 use Rattle.block.specs.Records.{delegationsTo}
-use Rattle.register.proofs.Holding.{both-in}
+use Rattle.refusals.proofs.Holding.{both-in}
 use Rattle.register.proofs.ChainWays.{chain-unenrolled, chain-missing, chain-carried}
 use Rattle.register.proofs.chaining.write_held.Statement.{statement}
 use Rattle.register.proofs.chaining.write_held.Tie as tie

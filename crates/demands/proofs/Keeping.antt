@@ -1,0 +1,109 @@
+-- Demand 1 follows from the definition of the calls on bytes. Assumes nothing.
+use mathlib.Core.Path.{_≡_, refl, sym, ap, subst, _∙_}
+use mathlib.Core.Logic.{_≢_}
+use mathlib.Core.Bool.{Bool, true, false, cond, not}
+use mathlib.Core.List.{List}
+use Prim.Native.Nat.{ℕ}
+use native.Mathlib.Omega.{arith}
+use borrow.Author.Tests.{eq-eqb, ne-eqb}
+use lib.Dec.{T, eqb, eqb→eq, T-not}
+use lib.ListN.{length}
+use lib.IntN.{ℤ, pos}
+use Rattle.rules.specs.Table.{TableRule, steps}
+use Rattle.rules.specs.WellFormed.{WellFormed}
+use Rattle.rules.specs.Call.{Call, fresh}
+use Rattle.rules.specs.Refusal.{firstOf}
+use Rattle.rules.specs.CallStep.{Outcome, callStep}
+use Rattle.rules.specs.Ranges.{Unused, InRange}
+use Rattle.rules.proofs.Table.{steps-rule}
+use Rattle.rules.proofs.Calls.{fresh-formed, callStep-formed}
+use Rattle.rules.proofs.Ranges.{callStep-range}
+use Rattle.rules.proofs.Lists.{T-true}
+use Rattle.block.specs.Bytes.{IsBytes}
+use Rattle.block.specs.Block.{decode, encode}
+use Rattle.block.specs.WellFormed.{wellFormed}
+use Rattle.block.proofs.Encode.{bytes-encode}
+use Rattle.block.proofs.Form.{encode-formed}
+use Rattle.block.proofs.Held.{held-formed}
+use Rattle.refusals.specs.Early.{early}
+use Rattle.register.specs.CallOn.{Result, turned, written, callOn, openOn}
+use Rattle.demands.specs.Kept.{Kept, KeptOpen}
+use Rattle.register.proofs.Made.{callOn-late}
+use Rattle.register.proofs.Through.{through}
+
+module _ (t : List ℤ) (b : List ℕ) (c : Call) where
+  written-same : (o : Outcome) → o .refusal ≢ 0 → written b o .bytes ≡ b
+  written-same o n = ap (λ (x : Bool). cond x (encode (o .left)) b) (ne-eqb (o .refusal) 0 n)
+
+  -- a refused call changes no byte
+  refused-same : callOn t b c .refusal ≢ 0 → callOn t b c .bytes ≡ b
+  unfolding callOn
+  refused-same n = go (eqb (firstOf (early b c)) 0) n
+    where
+      go : (x : Bool) → (let r : Result = elim x [ true ↦ written b (callStep t (decode b) c) | false ↦ turned (firstOf (early b c)) b ] in r .refusal ≢ 0)
+          → let r : Result = elim x [ true ↦ written b (callStep t (decode b) c) | false ↦ turned (firstOf (early b c)) b ] in r .bytes ≡ b
+      go true k = written-same (callStep t (decode b) c) k
+      go false k = refl
+
+  -- an accepted call on bytes is the accepted call on the register that the block holds
+  accepted-step : callOn t b c .refusal ≡ 0 → (callOn t b c ≡ written b (callStep t (decode b) c)) × (callStep t (decode b) c .refusal ≡ 0)
+  accepted-step e = let q = callOn-late t c b (through t b c e .early) in (q, sym (ap (λ (r : Result). r .refusal) q) ∙ e)
+
+  -- an accepted call leaves the register that the definitions leave, written
+  accepted-left : callOn t b c .refusal ≡ 0 → callOn t b c .bytes ≡ encode (callStep t (decode b) c .left)
+  accepted-left e =
+      let (q, z) = accepted-step e in
+      ap (λ (r : Result). r .bytes) q ∙ ap (λ (x : Bool). cond x (encode (callStep t (decode b) c .left)) b) (eq-eqb (callStep t (decode b) c .refusal) 0 z)
+
+  pub kept : TableRule t → IsBytes b → Kept t b c
+  kept rule bytes = record {
+    refused = refused-same;
+    formed = λ e. ap wellFormed (accepted-left e) ∙ T-true (wellFormed (encode (callStep t (decode b) c .left))) (encode-formed (callStep t (decode b) c .left) (left-formed e));
+    bytes = go (eqb (callOn t b c .refusal) 0) refl;
+    range = λ e. let (q, z) = accepted-step e in subst (λ (r : Result). InRange c (r .first) (r .second) (r .third)) (sym q) (callStep-range t rule (decode b) c (found-formed e) z);
+  }
+    where
+      found-formed : callOn t b c .refusal ≡ 0 → WellFormed (decode b)
+      found-formed e = held-formed b bytes (through t b c e .early .formed)
+
+      left-formed : callOn t b c .refusal ≡ 0 → WellFormed (callStep t (decode b) c .left)
+      left-formed e = callStep-formed t (decode b) c (found-formed e)
+
+      go : (x : Bool) → eqb (callOn t b c .refusal) 0 ≡ x → IsBytes (callOn t b c .bytes)
+      go true q = let e = eqb→eq (callOn t b c .refusal) 0 (subst T (sym q) tt) in subst IsBytes (sym (accepted-left e)) (bytes-encode (callStep t (decode b) c .left) (left-formed e))
+      go false q = subst IsBytes (sym (refused-same (λ e. absurd (T-not true (subst (λ (x : Bool). T (not x)) (sym (sym (eq-eqb (callOn t b c .refusal) 0 e) ∙ q)) tt) tt)))) bytes
+
+-- by document 01's own table
+pub kept-steps : (b : List ℕ) (c : Call) → IsBytes b → Kept steps b c
+kept-steps b c bytes = kept steps b c steps-rule bytes
+
+-- ── open ──
+open-refused : (b : List ℕ) → openOn b .refusal ≢ 0 → openOn b .bytes ≡ b
+unfolding openOn
+open-refused b = go (eqb (length b) 2180)
+  where
+    go : (x : Bool) → cond x record { refusal = 0; first = pos 0; second = pos 0; third = pos 0; bytes = encode fresh } (turned 1 b) .refusal ≢ 0
+        → cond x record { refusal = 0; first = pos 0; second = pos 0; third = pos 0; bytes = encode fresh } (turned 1 b) .bytes ≡ b
+    go true n = absurd (n refl)
+    go false n = refl
+
+open-formed : (b : List ℕ) → openOn b .refusal ≡ 0 → wellFormed (openOn b .bytes) ≡ true
+unfolding openOn
+open-formed b = go (eqb (length b) 2180)
+  where
+    go : (x : Bool) → cond x record { refusal = 0; first = pos 0; second = pos 0; third = pos 0; bytes = encode fresh } (turned 1 b) .refusal ≡ 0
+        → wellFormed (cond x record { refusal = 0; first = pos 0; second = pos 0; third = pos 0; bytes = encode fresh } (turned 1 b) .bytes) ≡ true
+    go true e = T-true (wellFormed (encode fresh)) (encode-formed fresh fresh-formed)
+    go false e = absurd (omega arith)
+
+-- open answers 0, refused or not
+open-unused : (b : List ℕ) → Unused (openOn b .first) × Unused (openOn b .second) × Unused (openOn b .third)
+unfolding openOn
+open-unused b = go (eqb (length b) 2180)
+  where
+    go : (x : Bool) → let r : Result = cond x record { refusal = 0; first = pos 0; second = pos 0; third = pos 0; bytes = encode fresh } (turned 1 b) in Unused (r .first) × Unused (r .second) × Unused (r .third)
+    go true = (refl, refl, refl)
+    go false = (refl, refl, refl)
+
+pub kept-open : (b : List ℕ) → KeptOpen b
+kept-open b = record { refused = open-refused b; formed = open-formed b; range = λ _. open-unused b }

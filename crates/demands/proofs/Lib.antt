@@ -1,0 +1,4 @@
+pub mod History
+pub mod Exactly
+pub mod ByteExamples
+pub mod Keeping

@@ -1,0 +1,34 @@
+-- P1 to P8 of document 01 on bytes: the calls on bytes followed down a list from the block that open writes. Assumes nothing.
+use mathlib.Core.List.{List, [], _∷_, _++_, map}
+use Prim.Native.Nat.{ℕ}
+use lib.ListN.{length, take, drop}
+use lib.IntN.{ℤ}
+use Rattle.rules.specs.Table.{steps}
+use Rattle.rules.specs.Call.{Call, fresh}
+use Rattle.rules.specs.Examples.{Line, line, Example, Shown}
+use Rattle.block.specs.Block.{decode, encode}
+use Rattle.register.specs.CallOn.{Result, callOn}
+use Rattle.demands.specs.History.{blockAt}
+
+-- the results, from the block b on: each next block is the bytes of callOn, never a block that the module left
+abbrev pub traceOnFrom : List ℤ → List ℕ → List Call → List Result
+traceOnFrom t b [] = []
+traceOnFrom t b (c ∷ cs) = let r = callOn t b c in r ∷ traceOnFrom t (r .bytes) cs
+
+abbrev pub traceOn : List ℤ → List Call → List Result
+traceOn t cs = traceOnFrom t (encode fresh) cs
+
+-- a result as the program prints it: refusal and three answers
+abbrev pub lineOn : Result → Line
+lineOn r = line (r .refusal) (r .first) (r .second) (r .third)
+
+-- what the calls on bytes make of an example; the delegations that stand afterwards are read from the last block
+abbrev pub computedOn : Example → Shown
+computedOn e =
+    let cs = e .given ++ e .calls in
+    let rs = traceOn steps cs in
+    record {
+      refusals = map (λ r. r .refusal) (take (length (e .given)) rs);
+      printed = map lineOn (drop (length (e .given)) rs);
+      standing = decode (blockAt steps cs (length cs)) .delegations;
+    }

@@ -1,0 +1,4 @@
+pub mod History
+pub mod Exactly
+pub mod Examples
+pub mod Kept

@@ -1,0 +1,94 @@
+-- Refusals by what the register holds, test by test as the code makes them. Assumes nothing.
+use mathlib.Core.Path.{_≡_, refl, sym, ap, subst, _∙_}
+use mathlib.Core.Logic.{_⊎_, inl, inr}
+use mathlib.Core.Bool.{Bool, true, false, cond, not, _||_}
+use mathlib.Core.List.{List}
+use Prim.Native.Nat.{ℕ, suc, _<_}
+use native.Mathlib.Nat.{zero-add}
+use native.Mathlib.Omega.{arith}
+use borrow.Author.Tests.{leb-false, lt-ltb, le-ltb, le-leb, lt-leb}
+use lib.Dec.{T, leb, ltb, leb→le, nleb→lt}
+use lib.ListN.{length, getD}
+use lib.IntN.{ℤ, pos}
+use lib.Signed.{ltZ}
+use Rattle.rules.specs.Limit.{code}
+use Rattle.rules.specs.Register.{Delegation}
+use Rattle.rules.specs.Reach.{reach}
+use Rattle.rules.specs.Support.{allowed}
+use Rattle.rules.specs.Pair.{isPair, weightAt, stands}
+use Rattle.rules.specs.Call.{grant, granted}
+use Rattle.rules.specs.Refusal.{firstOf, held}
+use Rattle.rules.proofs.Lists.{either, getD-tabulate}
+use Rattle.rules.proofs.Refusals.{firstOf-passes}
+use Rattle.block.specs.Bytes.{IsBytes, leading}
+use Rattle.block.specs.Block.{subjectsIn, countIn, decode}
+use Rattle.block.specs.WellFormed.{wellFormed}
+use Rattle.block.proofs.Held.{subjects-held, delegations-held, count-held, place-held}
+use Rattle.block.proofs.Splice.{pairPlace, weightAt-found}
+use Rattle.block.specs.Records.{delegationAt, delegationsTo}
+use Rattle.search.proofs.Signed.{below-weight}
+
+pub or-false : (x : Bool) → (x || false) ≡ x
+or-false true = refl
+or-false false = refl
+
+-- a strict order, tested the other way round
+pub ltb-leb : (m n : ℕ) → ltb m n ≡ not (leb n m)
+ltb-leb m n = go (either (leb n m))
+  where
+    go : T (leb n m) ⊎ T (not (leb n m)) → ltb m n ≡ not (leb n m)
+    go (inl q) = let h = leb→le n m q in rw (le-ltb m n h, le-leb n m h)
+    go (inr q) = let h = nleb→lt n m q in rw (lt-ltb m n h, lt-leb n m h)
+
+not-or : (x y : Bool) → not (x || y) ≡ true → (x ≡ false) × (y ≡ false)
+not-or true y e = absurd (subst T (sym e) tt)
+not-or false true e = absurd (subst T (sym e) tt)
+not-or false false e = (refl, refl)
+
+-- both are enrolled
+pub both-in : (s g r : ℕ) → not (leb s g || leb s r) ≡ true → (g < s) × (r < s)
+both-in s g r e = let (p, q) = not-or (leb s g) (leb s r) e in (leb-false s g p, leb-false s r q)
+
+-- ── the delegation of a pair that stands ──
+module _ (b : List ℕ) (bytes : IsBytes b) (formed : wellFormed b ≡ true) (g r k : ℕ) (place : k ≡ leading (λ d. not (isPair g r d)) (delegationsTo b (countIn b)))
+    (found : k < countIn b) where
+  -- the record at the pair's place is its delegation
+  pub at-place : getD (decode b .delegations) (pairPlace g r (decode b .delegations)) (granted 0 0 0 0 0) ≡ delegationAt b k
+  at-place =
+      ap (λ (i : ℕ). getD (decode b .delegations) i (granted 0 0 0 0 0)) (sym (place-held b bytes formed g r k place))
+      ∙ ap (λ (ds : List Delegation). getD ds k (granted 0 0 0 0 0)) (delegations-held b bytes formed)
+      ∙ getD-tabulate (λ i. delegationAt b i) (granted 0 0 0 0 0) 0 (countIn b) k found
+      ∙ ap (λ (i : ℕ). delegationAt b i) (zero-add k)
+
+  pub place-inside : pairPlace g r (decode b .delegations) < length (decode b .delegations)
+  place-inside = omega (arith, place-held b bytes formed g r k place, count-held b bytes formed, found)
+
+  pub weight-stands : weightAt (decode b .delegations) g r ≡ pos (delegationAt b k .weight)
+  weight-stands = weightAt-found g r (decode b .delegations) (granted 0 0 0 0 0) place-inside ∙ ap (λ (x : Delegation). pos (x .weight)) at-place
+
+module _ (t : List ℤ) (b : List ℕ) (bytes : IsBytes b) (formed : wellFormed b ≡ true) (g r : ℕ) where
+  -- the test of 9, as the code makes it
+  pub enrolled-test : (leb (decode b .subjects) g || (leb (decode b .subjects) r || false)) ≡ (leb (subjectsIn b) g || leb (subjectsIn b) r)
+  enrolled-test = ap (λ (s : ℕ). leb s g || (leb s r || false)) (subjects-held b bytes formed) ∙ ap (λ (y : Bool). leb (subjectsIn b) g || y) (or-false (leb (subjectsIn b) r))
+
+  module _ (w n m : ℕ) where
+    heavy-test : (ltb (code (allowed t (decode b) (granted g r w n m))) (suc w) || false) ≡ ltZ (reach t (decode b) g r) (pos w)
+    unfolding allowed
+    heavy-test = or-false (ltb (code (reach t (decode b) g r)) (suc w)) ∙ sym (below-weight (reach t (decode b) g r) w)
+
+    -- the four tests one after another
+    pub grant-first : (x1 x2 x3 x4 : Bool) → (leb (subjectsIn b) g || leb (subjectsIn b) r) ≡ x1 → stands (decode b) g r ≡ x2 → leb 256 (countIn b) ≡ x3 → ltZ (reach t (decode b) g r) (pos w) ≡ x4
+        → firstOf (held t (decode b) (grant g r w n m)) ≡ cond x1 9 (cond x2 11 (cond x3 12 (cond x4 16 0)))
+    unfolding held
+    grant-first x1 x2 x3 x4 e1 e2 e3 e4 =
+        let p1 = enrolled-test ∙ e1 in
+        let p3 = ap (leb 256) (count-held b bytes formed) ∙ e3 in
+        let p4 = heavy-test ∙ e4 in
+        λ j. cond (p1 j) 9 (cond (e2 j) 11 (cond (p3 j) 12 (cond (p4 j) 16 0)))
+
+-- room is left for a grant that is not refused
+pub grant-room : (t : List ℤ) (b : List ℕ) (bytes : IsBytes b) (formed : wellFormed b ≡ true) (g r w n m : ℕ) → firstOf (held t (decode b) (grant g r w n m)) ≡ 0 → countIn b < 256
+unfolding held
+grant-room t b bytes formed g r w n m e =
+    let p = firstOf-passes (held t (decode b) (grant g r w n m)) tt e in
+    subst (λ (k : ℕ). k < 256) (count-held b bytes formed) (nleb→lt 256 (length (decode b .delegations)) (p .1 .1 .0))

@@ -1,0 +1,4 @@
+pub mod EarlyTests
+pub mod Within
+pub mod Holding
+pub mod CutHolding
