@@ -50,7 +50,7 @@ pub fn judge_call(block: &[u8], giver: u32, receiver: u32, size: usize) -> Answe
 
 // Accepted, the first answer is 1 where the chain is right; refused, it is 1 where something was written.
 fn judge_on(block: &[u8], giver: u32, receiver: u32, buf: &mut [u8]) -> Answer {
-    let written = register::write_chain(block, giver, receiver, buf);
+    let written = chain::write_chain(block, giver, receiver, buf);
     if written.refusal == 0 {
         return judged(0, is_right(block, giver, receiver, buf, written.links));
     }

@@ -26,7 +26,7 @@ use Rattle.block.specs.WellFormed.{wellFormed}
 use Rattle.block.proofs.Held.{subjects-held, delegations-held, count-held, place-held}
 use Rattle.block.proofs.Splice.{pairPlace, weightAt-found}
 use Rattle.block.specs.Records.{delegationAt, delegationsTo}
-use Rattle.search.proofs.Signed.{below-weight}
+use Rattle.rules.proofs.Signed.{below-weight}
 
 pub or-false : (x : Bool) → (x || false) ≡ x
 or-false true = refl

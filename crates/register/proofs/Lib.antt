@@ -5,4 +5,3 @@ pub mod Enrolling
 pub mod Using
 pub mod Granting
 pub mod CutWays
-pub mod ChainWays

@@ -1,4 +1,3 @@
 pub mod CallOn
 pub mod Made
 pub mod Cuts
-pub mod ChainOn

@@ -1,15 +1,12 @@
 // The public calls of the register, on plain numbers and a lent block of any length and content.
-mod chaining;
 mod cutting;
 
 ghost use mathlib.Core.Path.{_≡_};
-ghost use denote.Ref.{ptr};
 ghost use Rattle.rules.specs.Table.{steps};
 ghost use Rattle.rules.specs.Cut.{removal, lowering};
 ghost use Rattle.rules.specs.Call.{enrol, grant, revoke, downgrade, askReach, askUse};
 ghost use Rattle.register.specs.Made.{refusedBy, answeredBy, Made, MadeOpen};
 ghost use Rattle.register.specs.Cuts.{CutMade};
-ghost use Rattle.register.specs.ChainOn.{ChainMade, ChainFront};
 use block::layout;
 use refusals::early;
 use refusals::held;
@@ -22,12 +19,6 @@ pub struct Answer {
     pub first: i32,
     pub second: i32,
     pub third: i32,
-}
-
-// The refusal number of the chain call, 0 when accepted, and how many links were written.
-pub struct Written {
-    pub refusal: u32,
-    pub links: usize,
 }
 
 fn refused(number: u32) -> Answer
@@ -178,34 +169,4 @@ pub fn downgrade(block: &mut [u8], by: u32, giver: u32, receiver: u32, weight: u
     }
     block::set_weight(block, giver as u8, receiver as u8, weight as u8);
     cutting::settle(block)
-}
-
-// Document 01's call chain: writes a chain that carries the weight of a standing delegation into `buf`.
-pub fn write_chain(block: &[u8], giver: u32, receiver: u32, buf: &mut [u8]) -> Written
-    ensures { λ r. ⌜ ChainMade steps (now (block .entry)) giver receiver (now (buf .entry)) r (now (buf .exit)) ⌝ }
-{
-    if buf.len() < chaining::CHAIN_SIZE {
-        return chaining::unwritten(refusal::WRONG_LENGTH);
-    }
-    let n = early(block, passed::pair_passed(giver, receiver));
-    if n != 0 {
-        return chaining::unwritten(n);
-    }
-    chaining::write_held(block, giver, receiver, buf)
-}
-
-// The same: tells the refusal, 0 when accepted, and hands back the filled front of `buf`, empty where refused.
-pub fn chain<'a>(
-    block: &[u8],
-    giver: u32,
-    receiver: u32,
-    refusal: &mut u32,
-    buf: &'a mut [u8],
-) -> &'a mut [u8]
-    ensures { λ r. ⌜ ChainFront steps (now (block .entry)) giver receiver (now (buf .entry)) (now (refusal .exit)) (now r) × (ptr r ≡ ptr (buf .entry)) ⌝ }
-{
-    let written = write_chain(block, giver, receiver, buf);
-    *refusal = written.refusal;
-    let end = 2 * written.links;
-    &mut buf[..end]
 }

@@ -24,7 +24,8 @@ use Rattle.block.proofs.Bytes.{length-tabulate}
 use Rattle.block.proofs.Held.{delegations-held}
 use Rattle.block.specs.Records.{delegationsTo}
 use Rattle.search.specs.Search.{underMarks}
-use Rattle.search.specs.Found.{delegationsIn, Searched}
+use Rattle.runs.specs.Lent.{delegationsIn}
+use Rattle.search.specs.Found.{Searched}
 use Rattle.search.proofs.Searching.{reach-marks}
 use Rattle.rounds.specs.Rounded.{reachAt, Row, Filled, Tabled, Copied, RowMade}
 

@@ -14,8 +14,7 @@ use lib.ListN.{length, getD, set, take, drop, length-set, List·getD-eq-default}
 use lib.Seq.{getD-set-same, getD-set-other}
 use Rattle.rules.specs.Register.{Delegation}
 use Rattle.rules.proofs.Lists.{clash, eqOr}
-use Rattle.rules.proofs.Signed.{getD-within}
-use Rattle.search.proofs.Signed.{kept}
+use Rattle.rules.proofs.Signed.{getD-within, kept}
 use Rattle.rounds.specs.Rounded.{noEntry, lesser, WeightsRead}
 use Rattle.rounds.specs.declared.Delegation.{Delegation as Entry}
 

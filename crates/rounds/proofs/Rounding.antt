@@ -17,14 +17,13 @@ use Rattle.rules.specs.Register.{Delegation, reweigh, withDelegations}
 use Rattle.rules.specs.Support.{allowed}
 use Rattle.rules.specs.Round.{placed, capped, round}
 use Rattle.rules.proofs.Rounds.{round-stays, round-changes}
-use Rattle.rules.proofs.Signed.{getD-within}
+use Rattle.rules.proofs.Signed.{getD-within, below-weight}
 use Rattle.block.specs.Bytes.{IsBytes}
 use Rattle.block.specs.Block.{countIn, decode}
 use Rattle.block.specs.WellFormed.{wellFormed}
 use Rattle.block.proofs.Bytes.{tabulate-mem, mem-tabulate}
 use Rattle.block.proofs.Held.{count-most, held-formed, delegations-held}
 use Rattle.block.specs.Records.{delegationAt}
-use Rattle.search.proofs.Signed.{below-weight}
 use Rattle.rounds.specs.Rounded.{reachAt, Tabled, noEntry, Decoded, lesser, lowerOne, WeightsRead, leftTo, Reckoned}
 use Rattle.rounds.specs.declared.Delegation.{Delegation as Entry}
 use Rattle.rounds.proofs.Lowering.{each-at}

@@ -15,7 +15,7 @@ use Rattle.rules.specs.WellFormed.{WellFormed}
 use Rattle.rules.proofs.Rounds.{round-falls, settle-right, settles-unique, settle-best}
 use Rattle.rules.proofs.WellFormed.{round-formed}
 use Rattle.rules.proofs.Ranges.{total-most}
-use Rattle.rules.proofs.Lists.{T-true}
+use Rattle.rules.proofs.Lists.{T-true, no}
 use Rattle.block.specs.Bytes.{IsBytes}
 use Rattle.block.specs.Block.{countIn, decode, encode}
 use Rattle.block.specs.WellFormed.{wellFormed}
@@ -23,7 +23,6 @@ use Rattle.block.proofs.Encode.{decode-encode}
 use Rattle.block.proofs.Form.{encode-formed}
 use Rattle.block.proofs.Held.{held-formed, held-written}
 use Rattle.block.specs.Records.{delegationAt}
-use Rattle.search.proofs.Signed.{no}
 use Rattle.rounds.specs.Rounded.{leftTo, Reckoned, RoundMade}
 
 -- n rounds from C on changed something and left R: however it goes on from R, it goes on from C

@@ -31,7 +31,7 @@ use Rattle.block.proofs.Encode.{marksPart, recordsPart, record-wide, length-mar
 use Rattle.block.proofs.Held.{size-held, count-most, held-formed, held-written}
 use Rattle.block.proofs.Rewrite.{concatMap-append}
 use Rattle.block.specs.Records.{delegationAt}
-use Rattle.search.proofs.Signed.{kept}
+use Rattle.rules.proofs.Signed.{kept}
 use Rattle.rounds.specs.Rounded.{leftTo}
 
 -- ── a weight as the machine holds it ──

@@ -6,7 +6,7 @@ ghost use lib.ListN.{length};
 ghost use Rattle.rules.specs.Table.{TableRule};
 ghost use Rattle.block.specs.Block.{subjectsIn, recordsIn, decode};
 ghost use Rattle.block.specs.WellFormed.{wellFormed};
-ghost use Rattle.search.specs.Steps.{Starts};
+ghost use Rattle.runs.specs.Steps.{Starts};
 ghost use Rattle.rounds.specs.Rounded.{Filled, Tabled, Copied, RowMade};
 
 // The row of one receiver, by a search.

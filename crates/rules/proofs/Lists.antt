@@ -42,6 +42,16 @@ pub T-true : (b : Bool) → T b → b ≡ true
 T-true true h = refl
 T-true false h = absurd h
 
+pub yes : {b : Bool} → b ≡ true → T b
+yes e = subst T (sym e) tt
+
+pub no : {b : Bool} → b ≡ false → T b → ⊥
+no e h = subst T e h
+
+pub unset : (b : Bool) → T (not b) → b ≡ false
+unset true h = absurd h
+unset false h = refl
+
 -- a test that the code asks the other way round
 pub not-true : (x : Bool) → not x ≡ true → x ≡ false
 not-true true e = clash (sym e)

@@ -12,7 +12,7 @@ use lib.ListN.{length, getD, set, List·getD-eq-default}
 use lib.Seq.{getD-set-same, getD-set-other}
 use Rattle.rules.specs.Limit.{none}
 use Rattle.rules.proofs.Lists.{either}
-use Rattle.search.specs.Steps.{Started}
+use Rattle.search.specs.Search.{Started}
 
 pub filled-more : {A : Type 0} (l : List A) (i : ℕ) (v d : A) → i < length l → ((y : ℕ) → y < i → getD l y d ≡ v) → (y : ℕ) → y < i + 1 → getD (set l i v) y d ≡ v
 filled-more l i v d h all =

@@ -1,11 +1,4 @@
-pub mod Buckets
-pub mod Records
-pub mod Signed
-pub mod Ways
-pub mod Givers
 pub mod Fill
 pub mod State
 pub mod Whole
-pub mod Written
-pub mod Ready
 pub mod Searching

@@ -23,8 +23,9 @@ use Rattle.block.specs.Block.{marksIn, delegationIn, subjectsIn, countIn, recor
 use Rattle.block.specs.WellFormed.{wellFormed}
 use Rattle.block.proofs.Held.{held-formed, size-held, count-most, delegations-held}
 use Rattle.block.specs.Records.{delegationAt, recordFrom}
-use Rattle.search.specs.Search.{delegationsOf, underMarks, Lent, parentIn}
-use Rattle.search.specs.Found.{delegationsIn, Searched}
+use Rattle.runs.specs.Lent.{delegationsOf, Lent, delegationsIn}
+use Rattle.search.specs.Search.{underMarks, parentIn}
+use Rattle.search.specs.Found.{Searched}
 
 tabulate-below : {A : Type 0} (f g : ℕ → A) (i n : ℕ) → ((k : ℕ) → k < n → f (i + k) ≡ g (i + k)) → tabulate f i n ≡ tabulate g i n
 tabulate-below f g i zero h = refl

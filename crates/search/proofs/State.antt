@@ -17,16 +17,17 @@ use Rattle.rules.specs.Table.{next, TableRule}
 use Rattle.rules.specs.Register.{Delegation}
 use Rattle.rules.specs.Condition.{meets}
 use Rattle.rules.specs.Chain.{limit}
-use Rattle.rules.proofs.Lists.{either, eqOr}
+use Rattle.rules.proofs.Lists.{either, eqOr, unset}
 use Rattle.rules.proofs.Limits.{next-below}
 use Rattle.rules.proofs.Chains.{limitFrom-top}
 use Rattle.rules.proofs.Search.{Found, Search, search-skip, search-raise}
 use Rattle.search.specs.Search.{underMarks, parentIn}
-use Rattle.search.specs.Steps.{recordAt, Stepped, Ran, ran-none, ran-more, part}
-use Rattle.search.specs.Queue.{waits, Put}
-use Rattle.search.specs.Found.{delegationsIn, Placed}
-use Rattle.search.proofs.Records.{blank, delegation-at, record-part}
-use Rattle.search.proofs.Signed.{unset, more, not-more, code-live}
+use Rattle.runs.specs.Steps.{recordAt, Stepped, Ran, ran-none, ran-more, part}
+use Rattle.queue.specs.Queue.{waits, Put}
+use Rattle.runs.specs.Lent.{delegationsIn}
+use Rattle.search.specs.Found.{Placed}
+use Rattle.runs.proofs.Records.{blank, delegation-at, record-part}
+use Rattle.rules.proofs.Signed.{more, not-more, code-live}
 
 abbrev pub limitOf : List ℤ → ℕ → ℤ
 limitOf l u = getD l u none

@@ -16,18 +16,19 @@ use Rattle.rules.specs.Register.{Delegation}
 use Rattle.rules.specs.Chain.{limit, IsChain}
 use Rattle.rules.specs.Reach.{reach}
 use Rattle.rules.specs.Links.{linksTo}
-use Rattle.rules.proofs.Lists.{either, eqOr, getD-tabulate}
+use Rattle.rules.proofs.Lists.{either, eqOr, getD-tabulate, yes}
 use Rattle.rules.proofs.Search.{Found, search-start, search-settle, search-reach}
 use Rattle.rules.proofs.Links.{found-links}
 use Rattle.block.proofs.Bytes.{length-tabulate, tabulate-mem, mem-tabulate}
-use Rattle.search.specs.Search.{underMarks, parentIn, Lent}
-use Rattle.search.specs.Steps.{recordAt, Started, Gave, Waiting}
-use Rattle.search.specs.Queue.{waits, Put, Lowest}
-use Rattle.search.specs.Found.{delegationsIn, Searched}
-use Rattle.search.proofs.Records.{delegation-mem, mem-delegation}
+use Rattle.search.specs.Search.{underMarks, parentIn, Started}
+use Rattle.runs.specs.Lent.{Lent, delegationsIn}
+use Rattle.runs.specs.Steps.{recordAt, Gave, Waiting}
+use Rattle.queue.specs.Queue.{waits, Put, Lowest}
+use Rattle.search.specs.Found.{Searched}
+use Rattle.runs.proofs.Records.{delegation-mem, mem-delegation}
 use Rattle.search.proofs.State.{limitOf, settledAt, isSettled, settled-same, State, state-limit, state-top, ran}
-use Rattle.search.proofs.Signed.{yes, code-pos}
-use Rattle.search.proofs.Buckets.{left, left-same, left-falls, members, members-few, members-fall, lowest-put}
+use Rattle.rules.proofs.Signed.{code-pos}
+use Rattle.queue.proofs.Buckets.{left, left-same, left-falls, members, members-few, members-fall, lowest-put}
 
 -- how many subjects are open
 abbrev pub unsettled : List ℤ → List ℕ → ℕ

@@ -1,4 +1,2 @@
-pub mod Queue
 pub mod Search
-pub mod Steps
 pub mod Found

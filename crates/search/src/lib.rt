@@ -2,16 +2,13 @@
 ghost use mathlib.Core.Path.{_≡_};
 ghost use Prim.Native.Nat.{_/_};
 ghost use lib.ListN.{length};
-ghost use Rattle.search.specs.Search.{Lent};
-ghost use Rattle.search.specs.Steps.{Started, Starts};
+ghost use Rattle.runs.specs.Lent.{Lent};
+ghost use Rattle.search.specs.Search.{Started};
+ghost use Rattle.runs.specs.Steps.{Starts};
 ghost use Rattle.search.specs.Found.{Searched};
 
-mod links;
 mod on_block;
-mod queue;
-mod run;
 
-pub use links::write_links;
 pub use on_block::limits_for;
 pub use on_block::reach_of;
 pub use on_block::starts_of;
@@ -52,7 +49,7 @@ pub fn search(
         if u == 64 {
             past -= 1;
         } else if limits[u] == (past - 1) as i16 {
-            low = run::relax_giver(
+            low = runs::relax_giver(
                 records,
                 starts,
                 u,

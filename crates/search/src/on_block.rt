@@ -9,8 +9,7 @@ ghost use Rattle.rules.specs.Reach.{reach};
 ghost use Rattle.block.specs.Block.{subjectsIn, recordsIn, decode};
 ghost use Rattle.block.specs.WellFormed.{wellFormed};
 ghost use Rattle.search.specs.Found.{Searched};
-ghost use Rattle.search.specs.Steps.{Starts};
-use crate::run;
+ghost use Rattle.runs.specs.Steps.{Starts};
 use crate::search;
 use block::layout;
 
@@ -21,7 +20,7 @@ pub fn starts_of(block: &[u8], starts: &mut [u16])
 {
     let n = block::count(block);
     let end = layout::RECORDS_AT + layout::RECORD_SIZE * n;
-    run::fill_starts(&block[layout::RECORDS_AT..end], starts);
+    runs::fill_starts(&block[layout::RECORDS_AT..end], starts);
 }
 
 // The reach of every subject for a receiver, and the parents by which each is reached.

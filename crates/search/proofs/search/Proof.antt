@@ -10,10 +10,9 @@ use mir.Syntax.{w16}
 use mir.Val.{ofZ, toZ}
 use mir.Facts.{toZ-ofZ}
 use Rattle.rules.specs.Limit.{none}
-use Rattle.rules.proofs.Signed.{getD-within}
-use Rattle.search.specs.Steps.{Waiting}
-use Rattle.search.proofs.Buckets.{empty-waits, taken-none, taken-some}
-use Rattle.search.proofs.Signed.{read-limit}
+use Rattle.rules.proofs.Signed.{getD-within, read-limit}
+use Rattle.runs.specs.Steps.{Waiting}
+use Rattle.queue.proofs.Buckets.{empty-waits, taken-none, taken-some}
 use Rattle.search.proofs.State.{isSettled, State, state-top}
 use Rattle.search.proofs.Whole.{measure, state-start, waiting-start, waiting-taken, lower-less, state-lower, state-stale, stale-less, state-settle, settle-less, state-end}
 use Rattle.search.proofs.search.Statement.{statement}

@@ -9,7 +9,7 @@ use lib.IntN.{pos}
 use lib.Signed.{ltZ}
 use lib.ListN.{length, getD, length-set}
 use Rattle.block.specs.Records.{delegationAt}
-use Rattle.search.proofs.Signed.{kept}
+use Rattle.rules.proofs.Signed.{kept}
 use Rattle.rounds.specs.Rounded.{noEntry, WeightsRead}
 use Rattle.rounds.proofs.Lowering.{read-none, read-less, read-same}
 use Rattle.rounds.proofs.lower.read_weights.Statement.{statement}

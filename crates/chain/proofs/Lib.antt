@@ -1,0 +1,3 @@
+pub mod LinkBytes
+pub mod Ready
+pub mod ChainWays

@@ -1,0 +1,27 @@
+-- The links by which a subject is reached, read off the parents that a search found, and their bytes. Assumes nothing.
+use mathlib.Core.Path.{_≡_}
+use mathlib.Core.List.{List, [], _∷_}
+use mathlib.Core.Logic.{_≢_}
+use Prim.Native.Nat.{ℕ, _/_, _<_}
+use lib.ListN.{length}
+use Rattle.rules.specs.List.{_∈_, concatMap}
+use Rattle.rules.specs.Register.{Delegation}
+use Rattle.rules.specs.Links.{linksTo}
+use Rattle.search.specs.Search.{parentIn}
+use Rattle.runs.specs.Lent.{delegationsIn}
+use Rattle.search.specs.Found.{Placed}
+
+-- the links up to u can be followed back: a subject's parent is the place of a record, and a record's giver is a subject
+pub record Traceable (s p : List ℕ) (u : ℕ) : Type 0 where
+  pub size : length p ≡ 64
+  pub subject : u < 64
+  pub placed : u ≢ 0 → Placed p (length s / 8)
+  pub givers : (d : Delegation) → d ∈ delegationsIn s → d .giver < 64
+
+-- the links up to u, the owner's end first; at most k
+abbrev pub linksOf : List ℕ → List ℕ → ℕ → ℕ → List Delegation
+linksOf s p k u = linksTo (parentIn (delegationsIn s) p) k u
+
+-- two bytes a link: giver, receiver
+abbrev pub linkBytes : List Delegation → List ℕ
+linkBytes ds = concatMap (λ d. d .giver ∷ d .receiver ∷ []) ds

@@ -1,0 +1,60 @@
+// Document 01's call chain: a chain that carries the weight of a standing delegation, written into a lent buffer.
+mod held;
+mod links;
+
+ghost use mathlib.Core.Path.{_≡_};
+ghost use denote.Ref.{ptr};
+ghost use Rattle.rules.specs.Table.{steps};
+ghost use Rattle.chain.specs.ChainOn.{unwrittenBy, ChainMade, ChainFront};
+use refusals::early;
+use refusals::passed;
+use rules::refusal;
+
+// The least length of the lent buffer: two bytes for each of the most links.
+const CHAIN_SIZE: usize = 126;
+
+// The refusal number of the chain call, 0 when accepted, and how many links were written.
+pub struct Written {
+    pub refusal: u32,
+    pub links: usize,
+}
+
+// Refused: no link is written.
+fn unwritten(number: u32) -> Written
+    ensures { λ r. ⌜ r ≡ unwrittenBy number ⌝ }
+{
+    Written {
+        refusal: number,
+        links: 0,
+    }
+}
+
+// Writes a chain that carries the weight of a standing delegation into `buf`.
+pub fn write_chain(block: &[u8], giver: u32, receiver: u32, buf: &mut [u8]) -> Written
+    ensures { λ r. ⌜ ChainMade steps (now (block .entry)) giver receiver (now (buf .entry)) r (now (buf .exit)) ⌝ }
+{
+    if buf.len() < CHAIN_SIZE {
+        return unwritten(refusal::WRONG_LENGTH);
+    }
+    let n = early(block, passed::pair_passed(giver, receiver));
+    if n != 0 {
+        return unwritten(n);
+    }
+    held::write_held(block, giver, receiver, buf)
+}
+
+// The same: tells the refusal, 0 when accepted, and hands back the filled front of `buf`, empty where refused.
+pub fn chain<'a>(
+    block: &[u8],
+    giver: u32,
+    receiver: u32,
+    refusal: &mut u32,
+    buf: &'a mut [u8],
+) -> &'a mut [u8]
+    ensures { λ r. ⌜ ChainFront steps (now (block .entry)) giver receiver (now (buf .entry)) (now (refusal .exit)) (now r) × (ptr r ≡ ptr (buf .entry)) ⌝ }
+{
+    let written = write_chain(block, giver, receiver, buf);
+    *refusal = written.refusal;
+    let end = 2 * written.links;
+    &mut buf[..end]
+}

@@ -1,0 +1,183 @@
+-- The bucket queue: one subject put in, one taken out, and how many wait at a level. Assumes nothing.
+use mathlib.Core.Path.{_≡_, refl, sym, ap, subst, _∙_}
+use mathlib.Core.Logic.{_≢_, _⊎_, inl, inr}
+use mathlib.Core.Bool.{Bool, true, false, not, cond}
+use mathlib.Core.List.{List}
+use Prim.Native.Nat.{ℕ, zero, suc, _+_, _*_, _/_, _%_, _^_, _≤_, _<_, max}
+use native.Mathlib.Nat.{mod-lt, zero-lt-suc, pow-suc}
+use native.Mathlib.Omega.{arith}
+use lib.Arith.{digits-div, digits-mod}
+use lib.Bits.{bitOr, bitXor, differ, or-step, xor-step, shifted-half, shifted-even}
+use lib.Count.{under, trailingZeros}
+use lib.Dec.{T, eqb, ltb, ltb→lt, nltb→le}
+use lib.ListN.{length, getD, set, replicate, length-set, length-replicate, getD-replicate, List·getD-eq-default}
+use lib.Seq.{getD-set-same, getD-set-other}
+use Rattle.rules.proofs.Lists.{either, eqOr}
+use Rattle.queue.specs.Queue.{bit, waits, Put, Taken, Lowest}
+
+pub bit-zero : (y : ℕ) → bit 0 y ≡ 0
+bit-zero zero = refl
+bit-zero (suc y) = bit-zero y
+
+bit-small : (n y : ℕ) → bit n y < 2
+bit-small n zero = mod-lt n (zero-lt-suc 1)
+bit-small n (suc y) = bit-small (n / 2) y
+
+-- an operation that goes digit by digit
+module _ (op f : ℕ → ℕ → ℕ) (step : (a b : ℕ) → op a b ≡ op (a / 2) (b / 2) * 2 + f (a % 2) (b % 2)) (small : (x y : ℕ) → x < 2 → y < 2 → f x y < 2) where
+  digit : (a b : ℕ) → f (a % 2) (b % 2) < 2
+  digit a b = small (a % 2) (b % 2) (bit-small a 0) (bit-small b 0)
+
+  bit-by : (a b y : ℕ) → bit (op a b) y ≡ f (bit a y) (bit b y)
+  bit-by a b zero = ap (λ (x : ℕ). x % 2) (step a b) ∙ digits-mod (op (a / 2) (b / 2)) (digit a b)
+  bit-by a b (suc y) = ap (λ (x : ℕ). bit (x / 2) y) (step a b) ∙ ap (λ (x : ℕ). bit x y) (digits-div (op (a / 2) (b / 2)) (digit a b)) ∙ bit-by (a / 2) (b / 2) y
+
+bit-or : (a b y : ℕ) → bit (bitOr a b) y ≡ max (bit a y) (bit b y)
+bit-or = bit-by bitOr max or-step (λ x y h k. omega arith)
+
+differ-small : (x y : ℕ) → x < 2 → y < 2 → differ x y < 2
+differ-small zero y h k = k
+differ-small (suc x) zero h k = h
+differ-small (suc x) (suc y) h k = differ-small x y (omega arith) (omega arith)
+
+bit-xor : (a b y : ℕ) → bit (bitXor a b) y ≡ differ (bit a y) (bit b y)
+bit-xor = bit-by bitXor differ xor-step differ-small
+
+-- the bits of a power of 2
+bit-here : (y : ℕ) → bit (1 * 2 ^ y) y ≡ 1
+bit-here zero = refl
+bit-here (suc y) = ap (λ (x : ℕ). bit x y) (shifted-half 1 y) ∙ bit-here y
+
+bit-off : (x y : ℕ) → x ≢ y → bit (1 * 2 ^ x) y ≡ 0
+bit-off zero zero n = absurd (n refl)
+bit-off zero (suc y) n = bit-zero y
+bit-off (suc x) zero n = shifted-even 1 x
+bit-off (suc x) (suc y) n = ap (λ (z : ℕ). bit z y) (shifted-half 1 x) ∙ bit-off x y (λ e. n (ap suc e))
+
+-- ── one subject more or less at a level ──
+module _ (q : List ℕ) (z y : ℕ) (h : z < length q) where
+  -- a set put at a level that differs in one subject alone
+  put-set : (v b : ℕ) → bit v y ≡ b → ((w : ℕ) → y ≢ w → bit v w ≡ waits q z w) → Put q z y b (set q z v)
+  put-set v b at off = record {
+    size = length-set q z v;
+    here = ap (λ (n : ℕ). bit n y) (getD-set-same q z v 0 h) ∙ at;
+    others = λ x w n. go x w n (eqOr z x);
+  }
+    where
+      same : (w x : ℕ) → z ≢ x → waits (set q z v) x w ≡ waits q x w
+      same w x n = ap (λ (m : ℕ). bit m w) (getD-set-other q z x v 0 (λ e. n (sym e)))
+
+      go : (x w : ℕ) → (z ≢ x) ⊎ (y ≢ w) → (z ≡ x) ⊎ (z ≢ x) → waits (set q z v) x w ≡ waits q x w
+      go x w n (inr d) = same w x d
+      go x w (inl d) (inl e) = absurd (d e)
+      go x w (inr d) (inl e) = subst (λ (i : ℕ). waits (set q z v) i w ≡ waits q i w) e (ap (λ (m : ℕ). bit m w) (getD-set-same q z v 0 h) ∙ off w d)
+
+  module _ (one : ℕ) (e : one ≡ 1 * 2 ^ y) where
+    one-here : bit one y ≡ 1
+    one-here = ap (λ (x : ℕ). bit x y) e ∙ bit-here y
+
+    one-off : (w : ℕ) → y ≢ w → bit one w ≡ 0
+    one-off w d = ap (λ (x : ℕ). bit x w) e ∙ bit-off y w d
+
+    pub put-in : Put q z y 1 (set q z (bitOr (getD q z 0) one))
+    put-in =
+        put-set (bitOr (getD q z 0) one) 1 (bit-or (getD q z 0) one y ∙ omega (arith, one-here, bit-small (getD q z 0) y))
+        (λ w d. bit-or (getD q z 0) one w ∙ omega (arith, one-off w d))
+
+    pub put-out : waits q z y ≡ 1 → Put q z y 0 (set q z (bitXor (getD q z 0) one))
+    put-out f =
+        put-set (bitXor (getD q z 0) one) 0 (bit-xor (getD q z 0) one y ∙ (λ i. differ (f i) (one-here i)))
+        (λ w d. bit-xor (getD q z 0) one w ∙ (λ i. differ (waits q z w) (one-off w d i)) ∙ differ-none (waits q z w))
+      where
+        differ-none : (x : ℕ) → differ x 0 ≡ x
+        differ-none zero = refl
+        differ-none (suc x) = refl
+
+-- none waits below the lower of two levels
+pub lowest-put : (q q′ : List ℕ) (z y b low r : ℕ) → Lowest q low → Put q z y b q′ → r ≤ low → r ≤ z → Lowest q′ r
+lowest-put q q′ z y b low r w p h k x v l = p .others x v (inl (λ e. omega arith)) ∙ w x v (omega arith)
+
+-- none waits in an empty queue
+pub empty-waits : (n x y : ℕ) → waits (replicate n 0) x y ≡ 0
+empty-waits n x y = go (either (ltb x n))
+  where
+    go : T (ltb x n) ⊎ T (not (ltb x n)) → waits (replicate n 0) x y ≡ 0
+    go (inl l) = ap (λ (m : ℕ). bit m y) (getD-replicate n x 0 0 (ltb→lt x n l)) ∙ bit-zero y
+    go (inr l) = ap (λ (m : ℕ). bit m y) (List·getD-eq-default (replicate n 0) 0 (omega (arith, length-replicate n (zero), nltb→le x n l))) ∙ bit-zero y
+
+-- the lowest member
+pub trailing-bit : (k n : ℕ) → trailingZeros k n < k → bit n (trailingZeros k n) ≡ 1
+unfolding trailingZeros
+trailing-bit zero n h = absurd (omega arith)
+trailing-bit (suc k) n h = go (n % 2) refl (trailing-bit k (n / 2)) h
+  where
+    go : (d : ℕ) → n % 2 ≡ d → (trailingZeros k (n / 2) < k → bit (n / 2) (trailingZeros k (n / 2)) ≡ 1) → under d (trailingZeros k (n / 2)) < suc k → bit n (under d (trailingZeros k (n / 2))) ≡ 1
+    go zero e more b = more (omega arith)
+    go (suc d) e more b = omega (arith, bit-small n 0)
+
+pub trailing-few : (k n : ℕ) → n ≢ 0 → n < 2 ^ k → trailingZeros k n < k
+unfolding trailingZeros
+trailing-few zero n h l = absurd (h (omega arith))
+trailing-few (suc k) n h l = go (n % 2) refl (trailing-few k (n / 2))
+  where
+    go : (d : ℕ) → n % 2 ≡ d → (n / 2 ≢ 0 → n / 2 < 2 ^ k → trailingZeros k (n / 2) < k) → under d (trailingZeros k (n / 2)) < suc k
+    go zero e more = omega (arith, more (λ z. h (omega arith)) (omega (arith, l, pow-suc 2 k)))
+    go (suc d) e more = zero-lt-suc k
+
+-- ── how many are open ──
+-- how many of the first n numbers are not among those that f holds for
+unfoldable pub left : (ℕ → Bool) → ℕ → ℕ
+left f zero = 0
+left f (suc n) = cond (f n) (left f n) (suc (left f n))
+
+pub left-few : (f : ℕ → Bool) (n : ℕ) → left f n ≤ n
+unfolding left
+left-few f zero = omega arith
+left-few f (suc n) = go (f n) (left-few f n)
+  where
+    go : (b : Bool) → left f n ≤ n → cond b (left f n) (suc (left f n)) ≤ suc n
+    go true h = omega arith
+    go false h = omega arith
+
+pub left-same : (f g : ℕ → Bool) (n : ℕ) → ((y : ℕ) → f y ≡ g y) → left f n ≡ left g n
+left-same f g n e = ap (λ (h : ℕ → Bool). left h n) (λ i y. e y i)
+
+-- one of them more
+pub left-falls : (f g : ℕ → Bool) (n u : ℕ) → u < n → f u ≡ false → g u ≡ true → ((y : ℕ) → u ≢ y → g y ≡ f y) → left g n < left f n
+unfolding left
+left-falls f g zero u h a b o = absurd (omega arith)
+left-falls f g (suc n) u h a b o = go (eqOr u n) (left-falls f g n u)
+  where
+    below : (m : ℕ) → m ≤ u → left g m ≡ left f m
+    below zero k = refl
+    below (suc m) k = ap (λ (x : Bool). cond x (left g m) (suc (left g m))) (o m (λ e. omega arith)) ∙ ap (λ (x : ℕ). cond (f m) x (suc x)) (below m (omega arith))
+
+    go : (u ≡ n) ⊎ (u ≢ n) → (u < n → f u ≡ false → g u ≡ true → ((y : ℕ) → u ≢ y → g y ≡ f y) → left g n < left f n)
+        → cond (g n) (left g n) (suc (left g n)) < cond (f n) (left f n) (suc (left f n))
+    go (inl e) more = rw (sym (ap g e) ∙ b, sym (ap f e) ∙ a) (omega (arith, below n (omega arith)))
+    go (inr d) more = rw (o n d) (both (f n) (more (omega (arith, d)) a b o))
+      where
+        both : (c : Bool) → left g n < left f n → cond c (left g n) (suc (left g n)) < cond c (left f n) (suc (left f n))
+        both true k = k
+        both false k = omega arith
+
+-- how many wait at a level
+abbrev pub members : ℕ → ℕ
+members n = left (λ y. eqb (bit n y) 0) 64
+
+pub members-few : (n : ℕ) → members n ≤ 64
+members-few n = left-few (λ y. eqb (bit n y) 0) 64
+
+pub members-fall : (q q′ : List ℕ) (z u : ℕ) → u < 64 → waits q z u ≡ 1 → Put q z u 0 q′ → members (getD q′ z 0) < members (getD q z 0)
+members-fall q q′ z u h w put =
+    left-falls (λ y. eqb (waits q z y) 0) (λ y. eqb (waits q′ z y) 0) 64 u h (ap (λ (x : ℕ). eqb x 0) w) (ap (λ (x : ℕ). eqb x 0) (put .here))
+    (λ y n. ap (λ (x : ℕ). eqb x 0) (put .others z y (inr n)))
+
+-- what was taken
+pub taken-none : (q q′ : List ℕ) (z u : ℕ) → Taken q z u q′ → u ≡ 64 → ((y : ℕ) → waits q z y ≡ 0) × (q′ ≡ q)
+taken-none q q′ z u (inl (e, w, f)) h = (w, f)
+taken-none q q′ z u (inr (l, w, f)) h = absurd (omega arith)
+
+pub taken-some : (q q′ : List ℕ) (z u : ℕ) → Taken q z u q′ → u ≢ 64 → (u < 64) × (waits q z u ≡ 1) × Put q z u 0 q′
+taken-some q q′ z u (inl (e, w, f)) h = absurd (h e)
+taken-some q q′ z u (inr t) h = t

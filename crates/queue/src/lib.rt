@@ -1,0 +1,31 @@
+// The subjects that wait to be settled, by limit: a bucket queue.
+ghost use mathlib.Core.Path.{_≡_};
+ghost use Prim.Native.Nat.{_<_};
+ghost use lib.ListN.{length};
+ghost use Rattle.queue.specs.Queue.{Put, Taken, Lowest};
+
+// A subject waits at a level from now on; the lowest level at which one may wait.
+pub fn join(queue: &mut [u64], level: usize, subject: usize, low: usize) -> usize
+    requires { ⌜ (length (now queue) ≡ 256) × (level < 256) × (subject < 64) × Lowest (now queue) low ⌝ }
+    ensures { λ r. ⌜ Put (now (queue .entry)) level subject 1 (now (queue .exit)) × Lowest (now (queue .exit)) r ⌝ }
+{
+    queue[level] = queue[level] | (1u64 << subject);
+    if level < low {
+        return level;
+    }
+    low
+}
+
+// A subject that waits at a level, taken from there; 64 if none does.
+pub fn take(queue: &mut [u64], level: usize) -> usize
+    requires { ⌜ (length (now queue) ≡ 256) × (level < 256) ⌝ }
+    ensures { λ r. ⌜ Taken (now (queue .entry)) level r (now (queue .exit)) ⌝ }
+{
+    let set = queue[level];
+    if set == 0 {
+        return 64;
+    }
+    let subject = u64::trailing_zeros(set) as usize;
+    queue[level] = set ^ (1u64 << subject);
+    subject
+}

@@ -1,0 +1,69 @@
+-- The ways of one record's step, as the code takes them. Assumes nothing.
+use mathlib.Core.Path.{_≡_, refl, sym, ap, subst, _∙_}
+use mathlib.Core.Logic.{_≢_, _⊎_, inl, inr}
+use mathlib.Core.Bool.{Bool, true, false}
+use mathlib.Core.List.{List}
+use Prim.Native.Nat.{ℕ, _+_, _<_}
+use native.Mathlib.Omega.{arith}
+use lib.Dec.{T}
+use lib.IntN.{ℤ, pos, natAbs}
+use lib.Signed.{ltZ, mag, nonNeg}
+use lib.ListN.{length, getD, set}
+use lib.Seq.{getD-set-same, getD-set-other}
+use mir.Syntax.{w16}
+use mir.Val.{SFits}
+use mir.Facts.{toZ-ofZ}
+use Rattle.rules.specs.Limit.{none, _≼_}
+use Rattle.rules.specs.Table.{next, TableRule}
+use Rattle.rules.specs.Condition.{meets}
+use Rattle.rules.proofs.Lists.{eqOr, yes, no}
+use Rattle.rules.proofs.Limits.{next-top}
+use Rattle.block.specs.Bytes.{two}
+use Rattle.queue.specs.Queue.{Put, Lowest}
+use Rattle.runs.specs.Steps.{recordAt, Stepped, Waiting}
+use Rattle.rules.proofs.Signed.{kept, more, read-limit, live-natural}
+
+module _ (t : List ℤ) (run : List ℕ) (at place : ℕ) (limit : ℤ) (marks : ℕ) (l : List ℤ) (p q : List ℕ) (low need bar : ℕ) (m : Bool)
+    (en : need ≡ two run (at + 4)) (eb : bar ≡ two run (at + 6)) (em : m ≡ meets marks need bar) (w : Waiting l q low) where
+  abbrev who : ℕ
+  who = getD run (at + 1) 0
+
+  -- what the step makes of the limits, parents and queue
+  abbrev Made : List ℤ → List ℕ → List ℕ → ℕ → Type 0
+  Made l′ p′ q′ low′ = Stepped t limit marks (recordAt run at) place l p q l′ p′ q′ × Waiting l′ q′ low′
+
+  met : m ≡ meets marks (two run (at + 4)) (two run (at + 6))
+  met = em ∙ (λ i. meets marks (en i) (eb i))
+
+  pub step-unmet : m ≡ false → Made l p q low
+  step-unmet f = (inl ((λ k. no f (subst T (sym met) (k .0))), refl, refl, refl), w)
+
+  module _ (given : ℤ) (f : SFits w16 limit) (h : who < length l) (b : mag (getD l who (pos 0)) < 32768) (g : SFits w16 given)
+      (eg : given ≡ next t (kept limit) (getD run (at + 2) 0)) where
+    gives : kept given ≡ next t limit (getD run (at + 2) 0)
+    gives = toZ-ofZ g ∙ eg ∙ ap (λ (z : ℤ). next t z (getD run (at + 2) 0)) (toZ-ofZ f)
+
+    test : ltZ (kept (getD l who (pos 0))) (kept given) ≡ ltZ (getD l who none) (next t limit (getD run (at + 2) 0))
+    test = λ i. ltZ (read-limit l who h b i) (gives i)
+
+    pub step-not-raised : ltZ (kept (getD l who (pos 0))) (kept given) ≡ false → Made l p q low
+    step-not-raised k = (inl ((λ r. no k (subst T (sym test) (r .1))), refl, refl, refl), w)
+
+    module _ (k : ltZ (kept (getD l who (pos 0))) (kept given) ≡ true) where
+      -- what raises a limit is from 0 on
+      given-live : pos 0 ≼ kept given
+      given-live = omega (arith, more (getD l who none) (kept given) (w .limits who) (subst (λ (z : ℤ). T (ltZ z (kept given))) (read-limit l who h b) (yes k)))
+
+      -- and is a level
+      pub given-level : TableRule t → limit ≼ pos 255 → T (nonNeg (kept given)) × (natAbs (kept given) < 256)
+      given-level rule small = live-natural (kept given) given-live (subst (λ (z : ℤ). z ≼ pos 255) (sym gives) (next-top t rule limit (getD run (at + 2) 0) small))
+
+      pub step-raised : m ≡ true → (q′ : List ℕ) (low′ : ℕ) → Put q (natAbs (kept given)) who 1 q′ → Lowest q′ low′ → Made (set l who (kept given)) (set p who place) q′ low′
+      step-raised y q′ low′ put lowest = (
+        inr ((subst T met (yes y), subst T test (yes k)), ap (set l who) gives, refl, subst (λ (z : ℤ). Put q (natAbs z) who 1 q′) gives put),
+        record { size = put .size ∙ w .size; limits = λ y. go y (eqOr who y); lowest = lowest },
+      )
+        where
+          go : (y : ℕ) → (who ≡ y) ⊎ (who ≢ y) → (getD (set l who (kept given)) y none ≡ none) ⊎ (pos 0 ≼ getD (set l who (kept given)) y none)
+          go y (inl e) = inr (subst (λ (i : ℕ). pos 0 ≼ getD (set l who (kept given)) i none) e (subst (λ (z : ℤ). pos 0 ≼ z) (sym (getD-set-same l who (kept given) none h)) given-live))
+          go y (inr n) = subst (λ (z : ℤ). (z ≡ none) ⊎ (pos 0 ≼ z)) (sym (getD-set-other l who y (kept given) none (λ e. n (sym e)))) (w .limits y)

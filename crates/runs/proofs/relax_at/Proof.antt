@@ -1,0 +1,155 @@
+-- `runs::run::relax_at` takes the step of one record. Assumes nothing.
+use native.Mathlib.Omega.{arith}
+use borrow.Author.Needs.{needs}
+use Rattle.runs.proofs.Ways.{given-level, step-unmet, step-not-raised, step-raised}
+use Rattle.runs.proofs.relax_at.Statement.{statement}
+use Rattle.runs.proofs.relax_at.Tie as tie
+
+add-read-two : tie.Need-add-read-two
+add-read-two c = search needs
+
+read-two-requires : tie.Need-read-two-requires
+read-two-requires c κs = search needs
+
+add-read-two-2 : tie.Need-add-read-two-2
+add-read-two-2 c = search needs
+
+read-two-requires-2 : tie.Need-read-two-requires-2
+read-two-requires-2 c κs = search needs
+
+meets-requires : tie.Need-meets-requires
+meets-requires c κs = search needs
+
+add-receiver : tie.Need-add-receiver
+add-receiver c = search needs
+
+shared-slice-read-receiver : tie.Need-shared-slice-read-receiver
+shared-slice-read-receiver c = search needs
+
+cast-receiver : tie.Need-cast-receiver
+cast-receiver c = search needs
+
+add-next : tie.Need-add-next
+add-next c = search needs
+
+shared-slice-read-next : tie.Need-shared-slice-read-next
+shared-slice-read-next c = search needs
+
+next-requires : tie.Need-next-requires
+next-requires c κs = search needs
+
+mul-if2 : tie.Need-mul-if2
+mul-if2 c = search needs
+
+slice-copy-out-if2 : tie.Need-slice-copy-out-if2
+slice-copy-out-if2 c = search needs
+
+mul-given : tie.Need-mul-given
+mul-given c = search needs
+
+slice-set-from-given : tie.Need-slice-set-from-given
+slice-set-from-given c = search needs
+
+cast-parents : tie.Need-cast-parents
+cast-parents c = search needs
+
+mul-parents : tie.Need-mul-parents
+mul-parents c = search needs
+
+slice-write-parents : tie.Need-slice-write-parents
+slice-write-parents c = search needs
+
+cast-join : tie.Need-cast-join
+cast-join c =
+    let i = c .before .before in
+    let n = i .before in
+    let m = n .before .before .before .before in
+    let s = m .before .before .before .before .before .before in
+    let a = s .args in
+    let level = given-level (a .table .now) (a .run .now) (a .at) (a .place) (a .limit) (a .marks) (a .limits .now) (a .parents .now) (a .waiting .now) (a .low)
+    _ _ _ (m .before .before .read-two .ensures) (m .before .read-two2 .ensures) (m .meets .ensures) (s .pre .7)
+    _ (s .fits .limit) (omega arith) (i .if22 .given) (record { sfits = n .next .ok }) (n .next .ensures) (c .before .if2 .taken) (s .pre .2) (s .pre .3) in
+    (level .0, omega (arith, level .1))
+
+join-requires : tie.Need-join-requires
+join-requires c κs =
+    let i = c .before .before in
+    let n = i .before in
+    let m = n .before .before .before .before in
+    let s = m .before .before .before .before .before .before in
+    let a = s .args in
+    let level = given-level (a .table .now) (a .run .now) (a .at) (a .place) (a .limit) (a .marks) (a .limits .now) (a .parents .now) (a .waiting .now) (a .low)
+    _ _ _ (m .before .before .read-two .ensures) (m .before .read-two2 .ensures) (m .meets .ensures) (s .pre .7)
+    _ (s .fits .limit) (omega arith) (i .if22 .given) (record { sfits = n .next .ok }) (n .next .ensures) (c .before .if2 .taken) (s .pre .2) (s .pre .3) in
+    (s .pre .7 .size, level .1, s .pre .6, s .pre .7 .lowest)
+
+same-length : tie.Need-same-length
+same-length c = search needs
+
+same-length-2 : tie.Need-same-length-2
+same-length-2 c = search needs
+
+same-length-3 : tie.Need-same-length-3
+same-length-3 c = search needs
+
+returns : tie.Need-returns
+returns c =
+    let j = c .before .before in
+    let i = j .before .before .before in
+    let n = i .before in
+    let m = n .before .before .before .before in
+    let s = m .before .before .before .before .before .before in
+    let a = s .args in
+    step-raised (a .table .now) (a .run .now) (a .at) (a .place) (a .limit) (a .marks) (a .limits .now) (a .parents .now) (a .waiting .now) (a .low)
+    _ _ _ (m .before .before .read-two .ensures) (m .before .read-two2 .ensures) (m .meets .ensures) (s .pre .7)
+    _ (s .fits .limit) (omega arith) (i .if22 .given) (record { sfits = n .next .ok }) (n .next .ensures) (j .before .before .if2 .taken) (n .before .before .before .if1 .taken) _ _ (j .join .ensures .0) (j .join .ensures .1)
+
+returns-2 : tie.Need-returns-2
+returns-2 c =
+    let i = c .before in
+    let n = i .before in
+    let m = n .before .before .before .before in
+    let s = m .before .before .before .before .before .before in
+    let a = s .args in
+    step-not-raised (a .table .now) (a .run .now) (a .at) (a .place) (a .limit) (a .marks) (a .limits .now) (a .parents .now) (a .waiting .now) (a .low)
+    _ _ _ (m .before .before .read-two .ensures) (m .before .read-two2 .ensures) (m .meets .ensures) (s .pre .7)
+    _ (s .fits .limit) (omega arith) (i .if22 .given) (record { sfits = n .next .ok }) (n .next .ensures) (c .if2 .left)
+
+returns-3 : tie.Need-returns-3
+returns-3 c =
+    let m = c .before in
+    let s = m .before .before .before .before .before .before in
+    let a = s .args in
+    step-unmet (a .table .now) (a .run .now) (a .at) (a .place) (a .limit) (a .marks) (a .limits .now) (a .parents .now) (a .waiting .now) (a .low)
+    _ _ _ (m .before .before .read-two .ensures) (m .before .read-two2 .ensures) (m .meets .ensures) (s .pre .7) (c .if1 .left)
+
+pub relax-at-spec : {M : Type 1} → statement M
+relax-at-spec =
+    tie.close
+    (tie.spec
+    add-read-two
+    read-two-requires
+    add-read-two-2
+    read-two-requires-2
+    meets-requires
+    add-receiver
+    shared-slice-read-receiver
+    cast-receiver
+    add-next
+    shared-slice-read-next
+    next-requires
+    mul-if2
+    slice-copy-out-if2
+    mul-given
+    slice-set-from-given
+    cast-parents
+    mul-parents
+    slice-write-parents
+    cast-join
+    join-requires
+    same-length
+    same-length-2
+    same-length-3
+    returns
+    returns-2
+    returns-3)
