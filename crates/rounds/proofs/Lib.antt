@@ -1,9 +1,4 @@
 pub mod Counting
-pub mod Filling
-pub mod Lends
-pub mod Lowering
 pub mod Merging
-pub mod Parts
-pub mod Rounding
 pub mod Settling
 pub mod Writing

@@ -23,7 +23,8 @@ use Rattle.block.proofs.Encode.{decode-encode}
 use Rattle.block.proofs.Form.{encode-formed}
 use Rattle.block.proofs.Held.{held-formed, held-written}
 use Rattle.block.specs.Records.{delegationAt}
-use Rattle.rounds.specs.Rounded.{leftTo, Reckoned, RoundMade}
+use Rattle.reckoning.specs.Reckoned.{leftTo, Reckoned}
+use Rattle.rounds.specs.Rounded.{RoundMade}
 
 -- n rounds from C on changed something and left R: however it goes on from R, it goes on from C
 pub record Going (t : List ℤ) (C : Register) (n : ℕ) (R : Register) : Type 0 where

@@ -32,7 +32,7 @@ use Rattle.block.proofs.Held.{size-held, count-most, held-formed, held-written}
 use Rattle.block.proofs.Rewrite.{concatMap-append}
 use Rattle.block.specs.Records.{delegationAt}
 use Rattle.rules.proofs.Signed.{kept}
-use Rattle.rounds.specs.Rounded.{leftTo}
+use Rattle.reckoning.specs.Reckoned.{leftTo}
 
 -- ── a weight as the machine holds it ──
 negative : (z : ℤ) → ltZ z (pos 0) ≡ true → (d : Delegation) → (false ≡ ltb 0 (code z)) × ([] ≡ placed d z)

@@ -1,7 +1,5 @@
 // Rounds on a well-formed block: what is not supported is lowered or removed, until a round changes nothing.
 mod counted;
-mod lower;
-mod reaches;
 mod write;
 
 ghost use mathlib.Core.Path.{_≡_};
@@ -10,18 +8,9 @@ ghost use lib.ListN.{length};
 ghost use Rattle.rules.specs.Table.{TableRule};
 ghost use Rattle.block.specs.Block.{decode};
 ghost use Rattle.block.specs.WellFormed.{wellFormed};
-ghost use Rattle.rounds.specs.Rounded.{Reckoned, RoundMade};
+ghost use Rattle.rounds.specs.Rounded.{RoundMade};
 ghost use Rattle.rounds.specs.Settled.{SettledMade};
 use block::layout;
-
-// A decoded delegation; a round lowers the weight of one that it removes to -1.
-pub struct Delegation {
-    pub giver: u8,
-    pub receiver: u8,
-    pub weight: i16,
-    pub need: u16,
-    pub bar: u16,
-}
 
 // How many delegations were dropped, and how many were lowered but kept.
 pub struct Changes {
@@ -36,26 +25,13 @@ pub struct Answers {
     pub rounds: u32,
 }
 
-// The weights that a round leaves, all together, every reach from the block as the round began; whether one changed.
-fn reckon(block: &[u8], table: &[i16], weights: &mut [i16]) -> bool
-    requires { ⌜ (wellFormed (now block) ≡ true) × TableRule (now table) × (length (now weights) ≡ 256) ⌝ }
-    ensures { λ r. ⌜ Reckoned (now (table .entry)) (now (block .entry)) r (now (weights .exit)) ⌝ }
-{
-    let mut reaches = [-1i16; 4096];
-    reaches::fill_reaches(block, table, &mut reaches);
-    let n = block::count(block);
-    let ds = lower::decoded(block, n);
-    let left = lower::lowered(ds, n, &reaches);
-    lower::read_weights(block, left, n, weights)
-}
-
 // One round; whether it changed something.
 fn round(block: &mut [u8], table: &[i16]) -> bool
     requires { ⌜ (wellFormed (now block) ≡ true) × TableRule (now table) ⌝ }
     ensures { λ r. ⌜ RoundMade (now (table .entry)) (decode (now (block .entry))) r (now (block .exit)) ⌝ }
 {
     let mut weights = [0i16; 256];
-    if !reckon(block, table, &mut weights) {
+    if !reckoning::reckon(block, table, &mut weights) {
         return false;
     }
     write::write_left(block, &weights);

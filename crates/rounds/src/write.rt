@@ -15,7 +15,7 @@ ghost use Rattle.block.specs.Layout.{recordsAt};
 ghost use Rattle.block.specs.Block.{recordBytes, countIn, decode, encode};
 ghost use Rattle.block.specs.WellFormed.{wellFormed};
 ghost use Rattle.block.specs.Records.{recordPlace, HasRecord, HasRecords, delegationAt};
-ghost use Rattle.rounds.specs.Rounded.{leftTo};
+ghost use Rattle.reckoning.specs.Reckoned.{leftTo};
 use block::layout;
 
 // Record `from` written at the place `to` with a new weight, unless that is -1; whether it was.

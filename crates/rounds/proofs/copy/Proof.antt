@@ -4,7 +4,7 @@ use Prim.Native.Nat.{ℕ, _-_, _≤_, _<_}
 use native.Mathlib.Omega.{arith}
 use lib.ListN.{length, getD, length-set}
 use lib.Seq.{ext-getD}
-use Rattle.rounds.proofs.Lowering.{filled}
+use Rattle.reckoning.proofs.Lowering.{filled}
 use Rattle.rounds.proofs.copy.Statement.{statement}
 use Rattle.rounds.proofs.copy.Tie as tie
 

@@ -1,0 +1,116 @@
+-- The table of reaches, filled row by row. Assumes nothing.
+use mathlib.Core.Path.{_≡_, refl, sym, ap, subst, _∙_}
+use mathlib.Core.Logic.{_≢_, _⊎_, inl, inr}
+use mathlib.Core.Bool.{Bool, true, false, _||_}
+use mathlib.Core.List.{List, _++_, List·Memᴰ·head, List·Memᴰ·tail}
+use Prim.Native.Nat.{ℕ, _+_, _*_, _-_, _≤_, _<_}
+use native.Mathlib.Omega.{arith}
+use lib.ListN.{length, getD, set, take, drop, List·getD-append}
+use lib.Seq.{length-take-le, getD-append-add, getD-take, getD-drop, getD-set-same, getD-set-other}
+use borrow.Author.Tests.{eq-eqb}
+use lib.Dec.{eqb}
+use lib.IntN.{ℤ, pos}
+use Rattle.rules.specs.List.{_∈_}
+use Rattle.rules.specs.Register.{Delegation, Register, marksOf}
+use Rattle.rules.specs.Reach.{reach}
+use Rattle.rules.specs.Support.{allowed}
+use Rattle.rules.specs.Pair.{receives}
+use Rattle.rules.specs.WellFormed.{WellFormed}
+use Rattle.rules.proofs.Lists.{clash, eqOr}
+use Rattle.block.specs.Bytes.{IsBytes}
+use Rattle.block.specs.Block.{countIn, decode}
+use Rattle.block.specs.WellFormed.{wellFormed}
+use Rattle.block.proofs.Bytes.{length-tabulate}
+use Rattle.block.proofs.Held.{delegations-held}
+use Rattle.block.specs.Records.{delegationsTo}
+use Rattle.search.specs.Search.{underMarks}
+use Rattle.runs.specs.Lent.{delegationsIn}
+use Rattle.search.specs.Found.{Searched}
+use Rattle.search.proofs.Searching.{reach-marks}
+use Rattle.reckoning.specs.Reckoned.{reachAt, Row, Filled, Tabled, Copied, RowMade}
+
+-- a search finds the reach of 64 subjects
+pub row-length : (t : List ℤ) (s : List ℕ) (m : ℕ) (l : List ℤ) (p : List ℕ) → Searched t s m l p → length l ≡ 64
+row-length t s m l p h = ap length (h .limits) ∙ length-tabulate (λ u. reach t (underMarks (delegationsIn s) m) u 0) 0 64
+
+module _ {A : Type 0} (l ys : List A) (a k : ℕ) (z : A) (fits : a + k ≤ length l) (size : length ys ≡ k) where
+  front : length (take a l) ≡ a
+  front = length-take-le a l (omega arith)
+
+  -- a place of the part put back
+  pub put-in : (i : ℕ) → i < k → getD (take a l ++ (ys ++ drop k (drop a l))) (a + i) z ≡ getD ys i z
+  put-in i h =
+      ap (λ (m : ℕ). getD (take a l ++ (ys ++ drop k (drop a l))) (m + i) z) (sym front)
+      ∙ getD-append-add (take a l) (ys ++ drop k (drop a l)) i z
+      ∙ List·getD-append ys (drop k (drop a l)) z i (omega arith)
+
+  -- a place before it, or after it
+  pub put-out : (i : ℕ) → (i < a) ⊎ (a + k ≤ i) → getD (take a l ++ (ys ++ drop k (drop a l))) i z ≡ getD l i z
+  put-out i (inl h) = List·getD-append (take a l) (ys ++ drop k (drop a l)) z i (omega (arith, front)) ∙ getD-take a l i z h
+  put-out i (inr h) =
+      let e : i ≡ length (take a l) + (length ys + (i - (a + k))) = omega (arith, front) in
+      let f : a + (k + (i - (a + k))) ≡ i = omega arith in
+      ap (λ (m : ℕ). getD (take a l ++ (ys ++ drop k (drop a l))) m z) e
+      ∙ getD-append-add (take a l) (ys ++ drop k (drop a l)) (length ys + (i - (a + k))) z
+      ∙ getD-append-add ys (drop k (drop a l)) (i - (a + k)) z
+      ∙ getD-drop k (drop a l) (i - (a + k)) z
+      ∙ getD-drop a l (k + (i - (a + k))) z
+      ∙ ap (λ (m : ℕ). getD l m z) f
+
+-- nothing copied yet
+pub copied-none : (b a : ℕ) (l : List ℤ) → Copied b a 0 l l
+copied-none b a l = record { there = λ i h. absurd (omega arith); rest = λ i h. refl }
+
+-- one more place copied, from before all that are written
+pub copied-on : (b a n : ℕ) (l m : List ℤ) (x : ℤ) → b + n < a → a + n < length m → x ≡ getD m (b + n) (pos 0) → Copied b a n l m → Copied b a (n + 1) l (set m (a + n) x)
+copied-on b a n l m x before room e c = record { there = λ i h. written i h (eqOr i n); rest = kept }
+  where
+    written : (i : ℕ) → i < n + 1 → (i ≡ n) ⊎ (i ≢ n) → getD (set m (a + n) x) (a + i) (pos 0) ≡ getD l (b + i) (pos 0)
+    written i h (inl s) = rw s (getD-set-same m (a + n) x (pos 0) room ∙ e ∙ c .rest (b + n) (inl before))
+    written i h (inr s) = getD-set-other m (a + n) (a + i) x (pos 0) (λ q. s (omega arith)) ∙ c .there i (omega arith)
+
+    kept : (i : ℕ) → (i < a) ⊎ (a + (n + 1) ≤ i) → getD (set m (a + n) x) i (pos 0) ≡ getD l i (pos 0)
+    kept i (inl h) = getD-set-other m (a + n) i x (pos 0) (λ q. omega arith) ∙ c .rest i (inl h)
+    kept i (inr h) = getD-set-other m (a + n) i x (pos 0) (λ q. omega arith) ∙ c .rest i (inr (omega arith))
+
+-- the block's test of a receiver is the register's
+pub receives-held : (b : List ℕ) (bytes : IsBytes b) (formed : wellFormed b ≡ true) (v n : ℕ) (x : Bool) → n ≡ countIn b → x ≡ receives v (delegationsTo b n) → x ≡ receives v (decode b .delegations)
+receives-held b bytes formed v n x e h = rw (delegations-held b bytes formed, ← e) h
+
+-- a receiver of some delegation receives
+receives-mem : {d : Delegation} {ds : List Delegation} → d ∈ ds → receives (d .receiver) ds ≡ true
+receives-mem {d} (List·Memᴰ·head {x = x} {xs = xs} e) = rw (eq-eqb (x .receiver) (d .receiver) (ap (λ (y : Delegation). y .receiver) (sym e)))
+receives-mem {d} (List·Memᴰ·tail {x = x} {xs = xs} m) = go (eqb (x .receiver) (d .receiver)) (receives-mem m)
+  where
+    go : (b : Bool) → receives (d .receiver) xs ≡ true → (b || receives (d .receiver) xs) ≡ true
+    go true e = refl
+    go false e = e
+
+module _ (t : List ℤ) (R : Register) where
+  pub filled-none : (l : List ℤ) → Filled t R 0 l
+  filled-none l r h = absurd (omega arith)
+
+  pub filled-skip : (v : ℕ) (l : List ℤ) → Filled t R v l → receives v (R .delegations) ≡ false → Filled t R (v + 1) l
+  filled-skip v l f n r h k = go (eqOr r v)
+    where
+      go : (r ≡ v) ⊎ (r ≢ v) → Row t R r l
+      go (inl e) = clash (sym k ∙ ap (λ (x : ℕ). receives x (R .delegations)) e ∙ n)
+      go (inr e) = f r (omega arith) k
+
+  pub filled-on : (v : ℕ) (l m : List ℤ) → Filled t R v l → RowMade t R v l m → Filled t R (v + 1) m
+  filled-on v l m f made r h k = go (eqOr r v)
+    where
+      go : (r ≡ v) ⊎ (r ≢ v) → Row t R r m
+      go (inl e) = subst (λ (x : ℕ). Row t R x m) (sym e) (made .row)
+      go (inr e) = λ u q. made .rest (reachAt u r) (inl (omega arith)) ∙ f r (omega arith) k u q
+
+  -- the row of another receiver of the same marks, copied
+  pub row-copied : (w v : ℕ) (l m : List ℤ) → Row t R w l → marksOf R w ≡ marksOf R v → Copied (64 * w) (64 * v) 64 l m → RowMade t R v l m
+  row-copied w v l m row e c = record {
+    row = λ u h. c .there u h ∙ row u h ∙ reach-marks t R u w ∙ ap (λ (x : ℕ). reach t (underMarks (R .delegations) x) u 0) e ∙ sym (reach-marks t R u v);
+    rest = c .rest;
+  }
+
+  pub filled-tabled : WellFormed R → (v : ℕ) → v ≡ R .subjects → (l : List ℤ) → Filled t R v l → Tabled t R l
+  unfolding allowed
+  filled-tabled w v e l f d m = f (d .receiver) (omega (arith, w .each d m .receiver)) (receives-mem m) (d .giver) (omega (arith, w .each d m .giver, w .most))

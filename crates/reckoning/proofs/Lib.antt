@@ -1,0 +1,5 @@
+pub mod Filling
+pub mod Parts
+pub mod Lends
+pub mod Lowering
+pub mod Rounding

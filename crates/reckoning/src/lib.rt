@@ -1,0 +1,32 @@
+// The reckoning of a round on a well-formed block: the weights that it leaves.
+mod lower;
+mod reaches;
+
+ghost use mathlib.Core.Path.{_≡_};
+ghost use mathlib.Core.Bool.{true};
+ghost use lib.ListN.{length};
+ghost use Rattle.rules.specs.Table.{TableRule};
+ghost use Rattle.block.specs.WellFormed.{wellFormed};
+ghost use Rattle.reckoning.specs.Reckoned.{Reckoned};
+
+// A decoded delegation; a round lowers the weight of one that it removes to -1.
+pub struct Delegation {
+    pub giver: u8,
+    pub receiver: u8,
+    pub weight: i16,
+    pub need: u16,
+    pub bar: u16,
+}
+
+// The weights that a round leaves, all together, every reach from the block as the round began; whether one changed.
+pub fn reckon(block: &[u8], table: &[i16], weights: &mut [i16]) -> bool
+    requires { ⌜ (wellFormed (now block) ≡ true) × TableRule (now table) × (length (now weights) ≡ 256) ⌝ }
+    ensures { λ r. ⌜ Reckoned (now (table .entry)) (now (block .entry)) r (now (weights .exit)) ⌝ }
+{
+    let mut reaches = [-1i16; 4096];
+    reaches::fill_reaches(block, table, &mut reaches);
+    let n = block::count(block);
+    let ds = lower::decoded(block, n);
+    let left = lower::lowered(ds, n, &reaches);
+    lower::read_weights(block, left, n, weights)
+}
