@@ -158,3 +158,19 @@ padded-zeros s m n h l z =
     zero-take zero r h z = refl
     zero-take (suc k) [] h z = absurd (not-suc-le-zero h)
     zero-take (suc k) (x ∷ xs) h z = let e = z 0 (omega arith) in let ih = zero-take k xs (le-of-suc-le-suc h) (λ i q. z (suc i) (omega arith)) in λ j. e j ∷ ih j
+
+-- ── a place some bytes on, as the code and as the laws write it ──
+pub plus1 : (i : ℕ) → i + 1 ≡ suc i
+plus1 i = omega arith
+
+pub plus2 : (i : ℕ) → i + 2 ≡ suc (suc i)
+plus2 i = omega arith
+
+pub plus3 : (i : ℕ) → i + 3 ≡ suc (suc (suc i))
+plus3 i = omega arith
+
+pub plus4 : (i : ℕ) → i + 4 ≡ suc (suc (suc (suc i)))
+plus4 i = omega arith
+
+pub plus6 : (i : ℕ) → i + 6 ≡ suc (suc (suc (suc (suc (suc i)))))
+plus6 i = omega arith

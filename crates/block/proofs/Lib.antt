@@ -1,9 +1,7 @@
 pub mod Bytes
 pub mod Encode
 pub mod Form
-pub mod Shift
-pub mod Splice
-pub mod Rewrite
+pub mod PairPlace
 pub mod Held
 pub mod Fields
 pub mod Loops

@@ -3,4 +3,3 @@ pub mod Bytes
 pub mod Block
 pub mod Records
 pub mod WellFormed
-pub mod Shift

@@ -1,14 +1,7 @@
-// The block of 2,180 bytes: its layout, its reads, its changes.
-mod change;
+// The block of 2,180 bytes: its layout and its reads.
 pub mod layout;
 mod read;
-mod write;
 
-pub use change::add_subject;
-pub use change::insert;
-pub use change::remove;
-pub use change::set_weight;
-pub use change::write_fresh;
 pub use read::bar;
 pub use read::count;
 pub use read::find;
@@ -27,8 +20,3 @@ pub use read::subjects;
 pub use read::weight;
 pub use read::well_formed;
 pub use read::zero_range;
-pub use write::put_record;
-pub use write::put_two;
-pub use write::shift_down;
-pub use write::shift_up;
-pub use write::zero_all;

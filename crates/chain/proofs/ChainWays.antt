@@ -30,7 +30,7 @@ use Rattle.block.specs.Bytes.{IsBytes, leading}
 use Rattle.block.specs.Block.{subjectsIn, countIn, recordsIn, decode}
 use Rattle.block.specs.WellFormed.{wellFormed}
 use Rattle.block.proofs.Held.{held-formed, stands-found, stands-missing}
-use Rattle.block.proofs.Splice.{pairPlace, others}
+use Rattle.block.proofs.PairPlace.{pairPlace, others}
 use Rattle.block.specs.Records.{delegationAt, delegationsTo}
 use Rattle.search.specs.Search.{underMarks}
 use Rattle.search.specs.Found.{Searched}

@@ -24,7 +24,7 @@ use Rattle.block.specs.Bytes.{IsBytes, leading}
 use Rattle.block.specs.Block.{subjectsIn, countIn, decode}
 use Rattle.block.specs.WellFormed.{wellFormed}
 use Rattle.block.proofs.Held.{subjects-held, delegations-held, count-held, place-held}
-use Rattle.block.proofs.Splice.{pairPlace, weightAt-found}
+use Rattle.block.proofs.PairPlace.{pairPlace, weightAt-found}
 use Rattle.block.specs.Records.{delegationAt, delegationsTo}
 use Rattle.rules.proofs.Signed.{below-weight}
 

@@ -50,7 +50,7 @@ pub fn open(block: &mut [u8]) -> Answer
     if block.len() != layout::BLOCK_SIZE {
         return refused(refusal::WRONG_LENGTH);
     }
-    block::write_fresh(block);
+    change::write_fresh(block);
     answered(0, 0, 0)
 }
 
@@ -66,7 +66,7 @@ pub fn enrol(block: &mut [u8], marks: u32) -> Answer
     if subject >= layout::MOST_SUBJECTS {
         return refused(refusal::ALL_ENROLLED);
     }
-    block::add_subject(block, marks as u16);
+    change::add_subject(block, marks as u16);
     answered(subject as i32, 0, 0)
 }
 
@@ -128,7 +128,7 @@ pub fn grant(
         return refused(m);
     }
     let standing = block::count(block);
-    block::insert(
+    change::insert(
         block,
         giver as u8,
         receiver as u8,
@@ -151,7 +151,7 @@ pub fn revoke(block: &mut [u8], by: u32, giver: u32, receiver: u32) -> Answer
     if m != 0 {
         return refused(m);
     }
-    block::remove(block, giver as u8, receiver as u8);
+    change::remove(block, giver as u8, receiver as u8);
     cutting::settle(block)
 }
 
@@ -167,6 +167,6 @@ pub fn downgrade(block: &mut [u8], by: u32, giver: u32, receiver: u32, weight: u
     if m != 0 {
         return refused(m);
     }
-    block::set_weight(block, giver as u8, receiver as u8, weight as u8);
+    change::set_weight(block, giver as u8, receiver as u8, weight as u8);
     cutting::settle(block)
 }

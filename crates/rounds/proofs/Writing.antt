@@ -29,7 +29,7 @@ use Rattle.block.specs.WellFormed.{wellFormed}
 use Rattle.block.proofs.Bytes.{length-written}
 use Rattle.block.proofs.Encode.{marksPart, recordsPart, record-wide, length-marksPart}
 use Rattle.block.proofs.Held.{size-held, count-most, held-formed, held-written}
-use Rattle.block.proofs.Rewrite.{concatMap-append}
+use Rattle.change.proofs.Rewrite.{concatMap-append}
 use Rattle.block.specs.Records.{delegationAt}
 use Rattle.rules.proofs.Signed.{kept}
 use Rattle.reckoning.specs.Reckoned.{leftTo}

@@ -31,7 +31,7 @@ fn keep_at(block: &mut [u8], from: usize, to: usize, weight: i16) -> bool
     let need = block::need(block, from);
     let bar = block::bar(block, from);
     let at = layout::RECORDS_AT + layout::RECORD_SIZE * to;
-    block::put_record(block, at, giver, receiver, weight as u8, need, bar);
+    change::put_record(block, at, giver, receiver, weight as u8, need, bar);
     true
 }
 
@@ -60,6 +60,6 @@ pub fn write_left(block: &mut [u8], weights: &[i16])
     let n = block::count(block);
     let kept = keep_left(block, n, weights);
     let at = layout::RECORDS_AT + layout::RECORD_SIZE * kept;
-    block::zero_all(&mut block[at..]);
-    block::put_two(block, layout::COUNT_AT, kept as u16);
+    change::zero_all(&mut block[at..]);
+    change::put_two(block, layout::COUNT_AT, kept as u16);
 }

@@ -2,7 +2,7 @@
 use borrow.Author.Needs.{needs}
 use native.Mathlib.Omega.{arith}
 use lib.ListN.{length-set}
-use Rattle.block.proofs.Shift.{plus1, plus2, plus3}
+use Rattle.block.proofs.Bytes.{plus1, plus2, plus3}
 use Rattle.seatreg.proofs.answers.put_four.Statement.{statement}
 use Rattle.seatreg.proofs.answers.put_four.Tie as tie
 

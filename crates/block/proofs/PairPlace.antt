@@ -1,0 +1,56 @@
+-- The place of a pair in a list of delegations, and its weight there. Assumes nothing.
+use mathlib.Core.Path.{_≡_, refl, sym, _∙_}
+use mathlib.Core.Bool.{Bool, true, false, not, cond}
+use mathlib.Core.List.{List, [], _∷_}
+use Prim.Native.Nat.{ℕ, zero, suc, _-_, _≤_, _<_, zero-le, suc-le-suc}
+use native.Mathlib.Nat.{le-of-suc-le-suc, not-suc-le-zero}
+use lib.Dec.{T, not-T}
+use lib.ListN.{length, getD}
+use Rattle.rules.specs.List.{_∈_}
+use lib.IntN.{pos}
+use Rattle.rules.specs.Register.{Delegation}
+use Rattle.rules.specs.Limit.{none}
+use Rattle.rules.specs.Pair.{isPair, weightAt}
+use Rattle.rules.specs.WellFormed.{Rising}
+use Rattle.rules.proofs.WellFormed.{Before-irrefl}
+use Rattle.rules.proofs.Pairs.{test-pair}
+use Rattle.block.specs.Bytes.{leading}
+
+module _ {A : Type 0} (f : A → Bool) where
+  pub leading-most : (xs : List A) → leading f xs ≤ length xs
+  leading-most [] = zero-le
+  leading-most (x ∷ xs) = go (f x) (leading-most xs)
+    where
+      go : (b : Bool) → leading f xs ≤ length xs → cond b (suc (leading f xs)) zero ≤ suc (length xs)
+      go true h = suc-le-suc h
+      go false h = zero-le
+
+module _ (g r : ℕ) where
+  -- the place of a pair: how many delegations stand before it, or all where it does not stand
+  abbrev pub pairPlace : List Delegation → ℕ
+  pairPlace ds = leading (λ d. not (isPair g r d)) ds
+
+  -- after its delegation in a rising list no other is of the pair
+  pub others : (d : Delegation) (ds : List Delegation) → Rising (d ∷ ds) → T (isPair g r d) → (e : Delegation) → e ∈ ds → T (not (isPair g r e))
+  others d ds s t e m = not-T (isPair g r e) (λ q.
+      let a = test-pair g r d t in
+      let b = test-pair g r e q in
+      Before-irrefl d e (a .0 ∙ sym (b .0)) (a .1 ∙ sym (b .1)) (s .0 e m))
+
+  -- the weight that stands for the pair is that of the delegation at its place
+  pub weightAt-found : (ds : List Delegation) (z : Delegation) → pairPlace ds < length ds → weightAt ds g r ≡ pos (getD ds (pairPlace ds) z .weight)
+  weightAt-found [] z l = absurd (not-suc-le-zero l)
+  weightAt-found (d ∷ ds) z l = go (isPair g r d) (weightAt-found ds z) l
+    where
+      go : (b : Bool) → (pairPlace ds < length ds → weightAt ds g r ≡ pos (getD ds (pairPlace ds) z .weight)) → cond (not b) (suc (pairPlace ds)) zero < suc (length ds)
+          → let k = cond (not b) (suc (pairPlace ds)) zero in cond b (pos (d .weight)) (weightAt ds g r) ≡ pos (getD (d ∷ ds) k z .weight)
+      go true ih m = refl
+      go false ih m = ih (le-of-suc-le-suc m)
+
+  pub weightAt-missing : (ds : List Delegation) → length ds ≤ pairPlace ds → weightAt ds g r ≡ none
+  weightAt-missing [] l = refl
+  weightAt-missing (d ∷ ds) l = go (isPair g r d) (weightAt-missing ds) l
+    where
+      go : (b : Bool) → (length ds ≤ pairPlace ds → weightAt ds g r ≡ none) → suc (length ds) ≤ cond (not b) (suc (pairPlace ds)) zero → cond b (pos (d .weight)) (weightAt ds g r) ≡ none
+      go true ih m = absurd (not-suc-le-zero m)
+      go false ih m = ih (le-of-suc-le-suc m)

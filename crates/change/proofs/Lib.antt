@@ -1,0 +1,4 @@
+pub mod Shift
+pub mod Splice
+pub mod Rewrite
+pub mod Changing
