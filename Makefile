@@ -25,6 +25,8 @@ INSTALL ?= install
 
 archive := target/staticlib/libseatreg.a
 program := target/bin/seatcalls
+# The crates below both the archive and the program.
+below := rules block change queue runs search reckoning rounds refusals register demands
 sources = $(shell find $(addprefix crates/,$(1)) -name '*.rt' -o -name '*.antt')
 second := target/second/libsecond.rlib
 generate := target/second/libgenerate.rlib
@@ -42,12 +44,12 @@ linked := --extern second=$(second) --extern generate=$(generate) -L dependency=
 run: $(program)
 	@$(program) < examples/listing.calls
 
-$(program): crates.txt $(call sources,text rules block search rounds register replay callfile seatcalls)
+$(program): crates.txt $(call sources,$(below) text replay callfile seatcalls)
 	$(RT) check seatcalls
 
 lib: $(archive)
 
-$(archive): crates.txt $(call sources,rules block search rounds register seatreg)
+$(archive): crates.txt $(call sources,$(below) seatreg)
 	$(RT) staticlib seatreg
 
 host: $(host)
