@@ -80,7 +80,7 @@ module _ (text : List ℕ) (at : ℕ) (b out : List ℕ) (to : ℕ) (h : (2 ≤ 
           rest = drop next text;
           ranges = g .ranges;
           lines = g .lines;
-          none = c .none f;
+          none = c .none f .0;
           line = rw q (then-written to (answerLines b (g .calls)) (malformed number) out end out′ k last m (g .answers) w);
           fits = omega (arith, m, then-written to (answerLines b (g .calls)) (malformed number) out end out′ k last m (g .answers) w .next);
         }

@@ -44,7 +44,7 @@ pub record RowRead (text : List ℕ) (at : ℕ) (r : Row) : Type 0 where
 pub record CallRead (text : List ℕ) (at : ℕ) (r : Row) : Type 0 where
   pub known : r .found ≡ true → T (isCall (r .call))
   pub read : r .found ≡ true → InRange (callOfRow r) × (r .next ≡ at + length (callLine (callOfRow r))) × (drop at text ≡ callLine (callOfRow r) ++ drop (r .next) text)
-  pub none : r .found ≡ false → NoCall (drop at text)
+  pub none : r .found ≡ false → NoCall (drop at text) × (r .next ≡ at)
 
 -- a call was made on the block b, and its line of answers was written at `at`; n is the place after it
 pub record Answered (c : Call) (b out : List ℕ) (at n : ℕ) (b′ out′ : List ℕ) : Type 0 where

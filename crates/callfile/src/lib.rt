@@ -27,7 +27,7 @@ pub struct Printed {
     pub length: usize,
 }
 
-// One line of a call file, and where the text goes on.
+// One line of a call file, and where the text goes on: at the same place where no call was found.
 struct Row {
     call: u32,
     by: u32,
@@ -40,8 +40,8 @@ struct Row {
     found: bool,
 }
 
-fn no_row() -> Row
-    ensures { λ r. ⌜ r .found ≡ false ⌝ }
+fn no_row(at: usize) -> Row
+    ensures { λ r. ⌜ (r .found ≡ false) × (r .next ≡ at) ⌝ }
 {
     Row {
         call: 0,
@@ -51,7 +51,7 @@ fn no_row() -> Row
         weight: 0,
         need: 0,
         bar: 0,
-        next: 0,
+        next: at,
         found: false,
     }
 }
@@ -125,7 +125,7 @@ fn read_row(text: &[u8], at: usize) -> Row
     let mut values = [0i64; 7];
     let line = text::read_line(text, at, false, &mut values);
     if !line.found {
-        return no_row();
+        return no_row(at);
     }
     row_of(&values, line.next)
 }
@@ -137,10 +137,10 @@ fn read_call(text: &[u8], at: usize) -> Row
 {
     let r = read_row(text, at);
     if !r.found {
-        return no_row();
+        return no_row(at);
     }
     if !is_row(r) {
-        return no_row();
+        return no_row(at);
     }
     r
 }
@@ -151,24 +151,20 @@ struct CallReader<'a> {
     at: usize,
 }
 
-fn reader<'a>(text: &'a [u8]) -> CallReader<'a>
-    ensures { λ r. ⌜ (r .text ≡ text .entry) × (r .at ≡ 0) ⌝ }
+fn reader<'a>(text: &'a [u8], at: usize) -> CallReader<'a>
+    ensures { λ r. ⌜ (r .text ≡ text .entry) × (r .at ≡ at) ⌝ }
 {
-    CallReader { text, at: 0 }
+    CallReader { text, at }
 }
 
-fn moved<'a>(r: CallReader<'a>, at: usize) -> CallReader<'a>
-    ensures { λ q. ⌜ (q .text ≡ r .entry .text) × (q .at ≡ at) ⌝ }
+// Reads the call of the present line and moves on to the next line; stays where there is no call.
+fn read_next<'s, 'a>(r: &'s mut CallReader<'a>) -> Row
+    requires { ⌜ now r .at ≤ length (now (now r .text)) ⌝ }
+    ensures { λ q. ⌜ CallRead (now (now (r .entry) .text)) (now (r .entry) .at) q × (now (r .exit) .text ≡ now (r .entry) .text) × (now (r .exit) .at ≡ q .next) ⌝ }
 {
-    CallReader { text: r.text, at }
-}
-
-// The call of the present line.
-fn present<'a>(r: CallReader<'a>) -> Row
-    requires { ⌜ r .at ≤ length (now (r .text)) ⌝ }
-    ensures { λ q. ⌜ CallRead (now (r .entry .text)) (r .entry .at) q ⌝ }
-{
-    read_call(r.text, r.at)
+    let q = read_call(r.text, r.at);
+    r.at = q.next;
+    q
 }
 
 // The call of the line from `at` on, through a reader.
@@ -176,7 +172,8 @@ fn row_from(text: &[u8], at: usize) -> Row
     requires { ⌜ at ≤ length (now text) ⌝ }
     ensures { λ r. ⌜ CallRead (now (text .entry)) at r ⌝ }
 {
-    present(moved(reader(text), at))
+    let mut r = reader(text, at);
+    read_next(&mut r)
 }
 
 // Makes the call of a row and writes its line of answers; the place after it.
