@@ -8,7 +8,7 @@ ghost use Rattle.text.specs.Text.{AllAllowed};
 ghost use Rattle.text.specs.Write.{Written};
 ghost use Rattle.replay.specs.Replay.{isCall};
 ghost use Rattle.callfile.specs.CallFile.{malformed, mostText, outSize, printedTo, RunMade};
-ghost use Rattle.callfile.specs.Row.{zeros, isRow, rowOf, callOfRow, RowRead, CallRead, Answered, Finished};
+ghost use Rattle.callfile.specs.Row.{zeros, isRow, rowOf, callOfRow, RowRead, CallRead, Answered, Answerable, RowAnswered, Finished};
 use block::layout;
 use rules::refusal;
 
@@ -167,15 +167,6 @@ fn read_next<'s, 'a>(r: &'s mut CallReader<'a>) -> Row
     q
 }
 
-// The call of the line from `at` on, through a reader.
-fn row_from(text: &[u8], at: usize) -> Row
-    requires { ⌜ at ≤ length (now text) ⌝ }
-    ensures { λ r. ⌜ CallRead (now (text .entry)) at r ⌝ }
-{
-    let mut r = reader(text, at);
-    read_next(&mut r)
-}
-
 // Makes the call of a row and writes its line of answers; the place after it.
 fn write_answer(block: &mut [u8], r: Row, out: &mut [u8], at: usize) -> usize
     requires { ⌜ T (isCall (r .call)) × (at + 48 ≤ length (now out)) ⌝ }
@@ -209,24 +200,52 @@ fn write_malformed(out: &mut [u8], at: usize, number: usize) -> usize
     text::write_line(out, at, &line)
 }
 
+// Where the output goes on, the number of the present line, and whether one is left.
+struct Place {
+    to: usize,
+    number: usize,
+    more: bool,
+}
+
+// Makes and answers the call of a row, or writes that its line is malformed; `size` is the length of the text.
+fn answer_row(block: &mut [u8], row: Row, out: &mut [u8], p: Place, size: usize) -> Place
+    requires { ⌜ Answerable row p (length (now out)) ⌝ }
+    ensures { λ n. ⌜ RowAnswered row p size (now (block .entry)) (now (out .entry)) n (now (block .exit)) (now (out .exit)) ⌝ }
+{
+    let number = p.number;
+    if !row.found {
+        let to = write_malformed(out, p.to, number);
+        return Place {
+            to,
+            number,
+            more: false,
+        };
+    }
+    let to = write_answer(block, row, out, p.to);
+    Place {
+        to,
+        number: number + 1,
+        more: row.next < size,
+    }
+}
+
 // Runs the text from `at` on, where line 2 begins, and writes what it prints at `to`; the place after it.
 fn run_calls(text: &[u8], at: usize, block: &mut [u8], out: &mut [u8], to: usize) -> usize
     requires { ⌜ (2 ≤ at) × (at ≤ length (now text)) × (length (now text) ≤ mostText) × (to + 24 ≤ 4 * at) × (outSize ≤ length (now out)) ⌝ }
     ensures { λ n. ⌜ Finished (now (text .entry)) at (now (block .entry)) (now (out .entry)) to n (now (out .exit)) ⌝ }
 {
-    let mut next = at;
-    let mut end = to;
-    let mut number: usize = 2;
-    while next < text.len() {
-        let r = row_from(text, next);
-        if !r.found {
-            return write_malformed(out, end, number);
-        }
-        end = write_answer(block, r, out, end);
-        next = r.next;
-        number += 1;
+    let size = text.len();
+    let mut r = reader(text, at);
+    let mut p = Place {
+        to,
+        number: 2,
+        more: at < size,
+    };
+    while p.more {
+        let row = read_next(&mut r);
+        p = answer_row(block, row, out, p, size);
     }
-    end
+    p.to
 }
 
 fn accepted(length: usize) -> Printed
