@@ -1,22 +1,26 @@
 -- The run over a text, line by line: the calls made so far, and what is left of the text. Assumes nothing.
 use mathlib.Core.Path.{_≡_, refl, sym, ap, subst, _∙_}
-use mathlib.Core.Bool.{true, false}
+use mathlib.Core.Bool.{Bool, true, false}
 use mathlib.Core.List.{List, [], _∷_, _++_, append-assoc, append-nil}
-use Prim.Native.Nat.{ℕ, _+_, _*_, _≤_, _<_}
+use Prim.Native.Nat.{ℕ, suc, _+_, _-_, _*_, _≤_, _<_}
 use native.Mathlib.Omega.{arith}
+use lib.Dec.{ltb}
 use lib.IntN.{pos}
 use lib.ListN.{length, drop, length-append, length-drop, drop-of-length-le}
 use lib.Seq.{drop-cons}
+use borrow.Author.Tests.{ltb-true, ltb-false}
 use Rattle.rules.specs.Table.{steps}
 use Rattle.rules.specs.Call.{Call}
 use Rattle.register.specs.CallOn.{callOn}
 use Rattle.text.specs.Text.{line, AllAllowed}
 use Rattle.text.specs.Write.{Room, Written}
 use Rattle.text.proofs.Sizes.{line-short, line-long}
+use Rattle.text.proofs.Reading.{clash}
 use Rattle.text.proofs.Writing.{put-nil, then-written}
 use Rattle.callfile.specs.CallFile.{values, InRange, AllInRange, callLine, callLines, answerLine, answerLines, malformed, ending, NoCall, mostText, outSize}
-use Rattle.callfile.specs.Row.{callOfRow, CallRead, Answered, Finished}
+use Rattle.callfile.specs.Row.{callOfRow, CallRead, Answered, Answerable, RowAnswered, Finished}
 use Rattle.callfile.specs.declared.Row.{Row}
+use Rattle.callfile.specs.declared.Place.{Place}
 use Rattle.callfile.proofs.Lines.{seven-values}
 
 -- the block that calls leave
@@ -65,11 +69,11 @@ pub record Going (text : List ℕ) (at : ℕ) (b out : List ℕ) (to next end nu
   pub size : length out′ ≡ length out
 
 module _ (text : List ℕ) (at : ℕ) (b out : List ℕ) (to : ℕ) (h : (2 ≤ at) × (at ≤ length text) × (length text ≤ mostText) × (to + 24 ≤ 4 * at) × (outSize ≤ length out)) where
-  pub going-start : Going text at b out to at to 2 b out
+  going-start : Going text at b out to at to 2 b out
   going-start = record { calls = []; ranges = tt; lines = refl; count = refl; block = refl; answers = record { next = omega arith; bytes = sym (put-nil to out) }; within = h .1; room = h .3; few = h .0; blockSize = refl; size = refl }
 
   module _ (next end number : ℕ) (b′ out′ : List ℕ) (g : Going text at b out to next end number b′ out′) where
-    pub going-stop : next < length text → (r : Row) → CallRead text next r → r .found ≡ false → (k : ℕ) (last : List ℕ) → Written end (malformed number) out′ k last → Finished text at b out to k last
+    going-stop : next < length text → (r : Row) → CallRead text next r → r .found ≡ false → (k : ℕ) (last : List ℕ) → Written end (malformed number) out′ k last → Finished text at b out to k last
     going-stop l r c f k last w =
         let a : AllAllowed true (pos 7 ∷ pos number ∷ []) = (omega arith, (omega (arith, g .few, h .2), tt)) in
         let q : ending (2 + length (g .calls)) (drop next text) ≡ malformed number = ap (λ (s : List ℕ). ending (2 + length (g .calls)) s) (drop-cons text next 0 l) ∙ ap malformed (sym (g .count)) in
@@ -80,12 +84,12 @@ module _ (text : List ℕ) (at : ℕ) (b out : List ℕ) (to : ℕ) (h : (2 ≤ 
           rest = drop next text;
           ranges = g .ranges;
           lines = g .lines;
-          none = c .none f;
+          none = c .none f .0;
           line = rw q (then-written to (answerLines b (g .calls)) (malformed number) out end out′ k last m (g .answers) w);
           fits = omega (arith, m, then-written to (answerLines b (g .calls)) (malformed number) out end out′ k last m (g .answers) w .next);
         }
 
-    pub going-end : length text ≤ next → Finished text at b out to end out′
+    going-end : length text ≤ next → Finished text at b out to end out′
     going-end l =
         let e : drop next text ≡ [] = drop-of-length-le text l in
         record {
@@ -100,13 +104,13 @@ module _ (text : List ℕ) (at : ℕ) (b out : List ℕ) (to : ℕ) (h : (2 ≤ 
 
     module _ (r : Row) (c : CallRead text next r) (f : r .found ≡ true) where
       -- the line lies within the text
-      pub line-inside : (next + 14 ≤ r .next) × (r .next ≤ length text)
+      line-inside : (next + 14 ≤ r .next) × (r .next ≤ length text)
       line-inside =
           let q = c .read f in
           let w : length (drop next text) ≡ length (callLine (callOfRow r)) + length (drop (r .next) text) = ap length (q .2) ∙ length-append (callLine (callOfRow r)) (drop (r .next) text) in
           (omega (arith, q .1, line-min (callOfRow r)), omega (arith, q .1, w, length-drop next text, length-drop (r .next) text, g .within, line-min (callOfRow r)))
 
-      pub going-more : (n : ℕ) (b″ out″ : List ℕ) → Answered (callOfRow r) b′ out′ end n b″ out″ → length b″ ≡ length b′ → length out″ ≡ length out′ → Going text at b out to (r .next) n (number + 1) b″ out″
+      going-more : (n : ℕ) (b″ out″ : List ℕ) → Answered (callOfRow r) b′ out′ end n b″ out″ → length b″ ≡ length b′ → length out″ ≡ length out′ → Going text at b out to (r .next) n (number + 1) b″ out″
       going-more n b″ out″ w x y =
           let d = callOfRow r in
           let q = c .read f in
@@ -126,3 +130,85 @@ module _ (text : List ℕ) (at : ℕ) (b out : List ℕ) (to : ℕ) (h : (2 ≤ 
             blockSize = x ∙ g .blockSize;
             size = y ∙ g .size;
           }
+
+-- ── a turn ──
+
+-- the run goes on at a line of the text, or is over
+pub record Turn (text : List ℕ) (at : ℕ) (b out : List ℕ) (to next : ℕ) (p : Place) (b′ out′ : List ℕ) : Type 0 where
+  pub blockSize : length b′ ≡ length b
+  pub size : length out′ ≡ length out
+  pub on : p .more ≡ true → (next < length text) × Going text at b out to next (p .to) (p .number) b′ out′
+  pub over : p .more ≡ false → Finished text at b out to (p .to) out′
+
+-- how many turns are left at most, where n bytes are
+abbrev pub turns : Bool → ℕ → ℕ
+turns true n = suc n
+turns false n = 0
+
+turns-most : (m : Bool) (n : ℕ) → turns m n ≤ suc n
+turns-most true n = omega arith
+turns-most false n = omega arith
+
+module _ (text : List ℕ) (at : ℕ) (b out : List ℕ) (to : ℕ) (h : (2 ≤ at) × (at ≤ length text) × (length text ≤ mostText) × (to + 24 ≤ 4 * at) × (outSize ≤ length out)) where
+  -- a line was read, and the run goes on where bytes are left
+  placed : (next : ℕ) (p : Place) (b′ out′ : List ℕ) → p .more ≡ ltb next (length text) → Going text at b out to next (p .to) (p .number) b′ out′ → Turn text at b out to next p b′ out′
+  placed next p b′ out′ m g = record {
+    blockSize = g .blockSize;
+    size = g .size;
+    on = λ t. (ltb-true next (length text) (sym m ∙ t), g);
+    over = λ f. going-end text at b out to h next (p .to) (p .number) b′ out′ g (ltb-false next (length text) (sym m ∙ f));
+  }
+
+  pub turn-start : (p : Place) → p ≡ record { to = to; number = 2; more = ltb at (length text) } → Turn text at b out to at p b out
+  turn-start p e = subst (λ (x : Place). Turn text at b out to at x b out) (sym e) (placed at _ b out refl (going-start text at b out to h))
+
+  module _ (next : ℕ) (p : Place) (b′ out′ : List ℕ) (u : Turn text at b out to next p b′ out′) (m : p .more ≡ true) (r : Row) (c : CallRead text next r) where
+    pub turn-asks : Answerable r p (length out′)
+    turn-asks =
+        let g = u .on m .1 in (
+          omega (arith, g .few, g .within, h .2),
+          omega (arith, g .room, g .within, g .size, h .2, h .4),
+          λ f.
+              let i = line-inside text at b out to h next (p .to) (p .number) b′ out′ g r c f in
+              (c .known f, omega (arith, g .room, g .size, h .2, h .4, i .0, i .1)),
+        )
+
+    module _ (p′ : Place) (b″ out″ : List ℕ) (a : RowAnswered r p (length text) b′ out′ p′ b″ out″) (x : length b″ ≡ length b′) (y : length out″ ≡ length out′) where
+      abbrev After : Type 0
+      After = Turn text at b out to (r .next) p′ b″ out″ × (turns (p′ .more) (length text - r .next) < turns (p .more) (length text - next))
+
+      after-call : r .found ≡ true → After
+      after-call f =
+          let g = u .on m .1 in
+          let d = a .made f in
+          let i = line-inside text at b out to h next (p .to) (p .number) b′ out′ g r c f in
+          let w = going-more text at b out to h next (p .to) (p .number) b′ out′ g r c f (p′ .to) b″ out″ (d .0) x y in
+          (placed (r .next) p′ b″ out″ (d .2) (subst (λ (k : ℕ). Going text at b out to (r .next) (p′ .to) k b″ out″) (sym (d .1)) w), rw m (omega (arith, turns-most (p′ .more) (length text - r .next), i .0, i .1)))
+
+      after-none : r .found ≡ false → After
+      after-none f =
+          let g = u .on m in
+          let d = a .none f in (
+            record {
+              blockSize = x ∙ u .blockSize;
+              size = y ∙ u .size;
+              on = λ t. clash (sym (d .1) ∙ t);
+              over = λ t. going-stop text at b out to h next (p .to) (p .number) b′ out′ (g .1) (g .0) r c f (p′ .to) out″ (d .0);
+            },
+            rw (m, d .1) (omega arith),
+          )
+
+      pub turn-made : After
+      turn-made = go (r .found) refl
+        where
+          go : (z : Bool) → r .found ≡ z → After
+          go true f = after-call f
+          go false f = after-none f
+
+-- where a run stands between two turns
+pub record Stand (text : List ℕ) (at : ℕ) (b out : List ℕ) (to : ℕ) : Type 0 where
+  pub next : ℕ
+  pub place : Place
+  pub block : List ℕ
+  pub output : List ℕ
+  pub turn : Turn text at b out to next place block output

@@ -67,18 +67,18 @@ seven-values (askReach g r) = refl
 seven-values (askUse r) = refl
 
 module _ (text : List ℕ) (at : ℕ) (w : Row) (l : RowRead text at w) where
-  pub call-missing : (r : Row) → w .found ≡ false → r .found ≡ false → CallRead text at r
+  pub call-missing : (r : Row) → w .found ≡ false → (r .found ≡ false) × (r .next ≡ at) → CallRead text at r
   call-missing r f g = record {
-    known = λ t. clash (sym g ∙ t);
-    read = λ t. clash (sym g ∙ t);
-    none = λ t c rest a d. clash (sym f ∙ l .each (values c) rest (seven-values c) a d .0);
+    known = λ t. clash (sym (g .0) ∙ t);
+    read = λ t. clash (sym (g .0) ∙ t);
+    none = λ t. (λ c rest a d. clash (sym f ∙ l .each (values c) rest (seven-values c) a d .0), g .1);
   }
 
-  pub call-other : (r : Row) → isRow (w .call) (w .by) (w .giver) (w .receiver) (w .weight) (w .need) (w .bar) ≡ false → r .found ≡ false → CallRead text at r
+  pub call-other : (r : Row) → isRow (w .call) (w .by) (w .giver) (w .receiver) (w .weight) (w .need) (w .bar) ≡ false → (r .found ≡ false) × (r .next ≡ at) → CallRead text at r
   call-other r f g = record {
-    known = λ t. clash (sym g ∙ t);
-    read = λ t. clash (sym g ∙ t);
-    none = λ t c rest a d. row-none (w .call) (w .by) (w .giver) (w .receiver) (w .weight) (w .need) (w .bar) f c (l .each (values c) rest (seven-values c) a d .1);
+    known = λ t. clash (sym (g .0) ∙ t);
+    read = λ t. clash (sym (g .0) ∙ t);
+    none = λ t. (λ c rest a d. row-none (w .call) (w .by) (w .giver) (w .receiver) (w .weight) (w .need) (w .bar) f c (l .each (values c) rest (seven-values c) a d .1), g .1);
   }
 
   pub call-there : isRow (w .call) (w .by) (w .giver) (w .receiver) (w .weight) (w .need) (w .bar) ≡ true → w .found ≡ true → CallRead text at w

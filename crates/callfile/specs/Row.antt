@@ -3,7 +3,7 @@ use mathlib.Core.Path.{_≡_}
 use mathlib.Core.Bool.{Bool, true, false, cond, _&&_}
 use mathlib.Core.List.{List, _++_}
 use Prim.Native.Nat.{ℕ, _+_, _≤_}
-use lib.Dec.{T, eqb}
+use lib.Dec.{T, eqb, ltb}
 use lib.IntN.{ℤ}
 use lib.ListN.{length, drop}
 use Rattle.rules.specs.Call.{Call}
@@ -12,8 +12,9 @@ use Rattle.register.specs.CallOn.{callOn}
 use Rattle.text.specs.Text.{line, AllAllowed}
 use Rattle.text.specs.Write.{Written}
 use Rattle.replay.specs.Replay.{isCall, callOf}
-use Rattle.callfile.specs.CallFile.{row, InRange, AllInRange, callLine, callLines, answerLine, answerLines, ending, NoCall}
+use Rattle.callfile.specs.CallFile.{row, InRange, AllInRange, callLine, callLines, answerLine, answerLines, malformed, ending, NoCall, mostText}
 use Rattle.callfile.specs.declared.Row.{Row}
+use Rattle.callfile.specs.declared.Place.{Place}
 
 abbrev pub zeros : (a b c d e : ℕ) → Bool
 zeros a b c d e = eqb a 0 && (eqb b 0 && (eqb c 0 && (eqb d 0 && eqb e 0)))
@@ -44,13 +45,22 @@ pub record RowRead (text : List ℕ) (at : ℕ) (r : Row) : Type 0 where
 pub record CallRead (text : List ℕ) (at : ℕ) (r : Row) : Type 0 where
   pub known : r .found ≡ true → T (isCall (r .call))
   pub read : r .found ≡ true → InRange (callOfRow r) × (r .next ≡ at + length (callLine (callOfRow r))) × (drop at text ≡ callLine (callOfRow r) ++ drop (r .next) text)
-  pub none : r .found ≡ false → NoCall (drop at text)
+  pub none : r .found ≡ false → NoCall (drop at text) × (r .next ≡ at)
 
 -- a call was made on the block b, and its line of answers was written at `at`; n is the place after it
 pub record Answered (c : Call) (b out : List ℕ) (at n : ℕ) (b′ out′ : List ℕ) : Type 0 where
   pub block : b′ ≡ callOn steps b c .bytes
   pub line : Written at (answerLine (callOn steps b c)) out n out′
   pub short : n ≤ at + 48
+
+-- what answering a row needs: room in the output, and a call where one was found
+abbrev pub Answerable : Row → Place → ℕ → Type 0
+Answerable r p room = (p .number ≤ mostText) × (p .to + 24 ≤ room) × (r .found ≡ true → T (isCall (r .call)) × (p .to + 48 ≤ room))
+
+-- a row of a text of `size` bytes was answered: its call was made, or its line is malformed and the run is over
+pub record RowAnswered (r : Row) (p : Place) (size : ℕ) (b out : List ℕ) (p′ : Place) (b′ out′ : List ℕ) : Type 0 where
+  pub made : r .found ≡ true → Answered (callOfRow r) b out (p .to) (p′ .to) b′ out′ × (p′ .number ≡ p .number + 1) × (p′ .more ≡ ltb (r .next) size)
+  pub none : r .found ≡ false → Written (p .to) (malformed (p .number)) out (p′ .to) out′ × (p′ .more ≡ false)
 
 -- the text from `at` on was run on the block b, and what it prints was written at `to`; n is the place after it
 pub record Finished (text : List ℕ) (at : ℕ) (b out : List ℕ) (to n : ℕ) (out′ : List ℕ) : Type 0 where

@@ -8,7 +8,7 @@ ghost use Rattle.text.specs.Text.{AllAllowed};
 ghost use Rattle.text.specs.Write.{Written};
 ghost use Rattle.replay.specs.Replay.{isCall};
 ghost use Rattle.callfile.specs.CallFile.{malformed, mostText, outSize, printedTo, RunMade};
-ghost use Rattle.callfile.specs.Row.{zeros, isRow, rowOf, callOfRow, RowRead, CallRead, Answered, Finished};
+ghost use Rattle.callfile.specs.Row.{zeros, isRow, rowOf, callOfRow, RowRead, CallRead, Answered, Answerable, RowAnswered, Finished};
 use block::layout;
 use rules::refusal;
 
@@ -27,7 +27,7 @@ pub struct Printed {
     pub length: usize,
 }
 
-// One line of a call file, and where the text goes on.
+// One line of a call file, and where the text goes on: at the same place where no call was found.
 struct Row {
     call: u32,
     by: u32,
@@ -40,8 +40,8 @@ struct Row {
     found: bool,
 }
 
-fn no_row() -> Row
-    ensures { λ r. ⌜ r .found ≡ false ⌝ }
+fn no_row(at: usize) -> Row
+    ensures { λ r. ⌜ (r .found ≡ false) × (r .next ≡ at) ⌝ }
 {
     Row {
         call: 0,
@@ -51,7 +51,7 @@ fn no_row() -> Row
         weight: 0,
         need: 0,
         bar: 0,
-        next: 0,
+        next: at,
         found: false,
     }
 }
@@ -125,7 +125,7 @@ fn read_row(text: &[u8], at: usize) -> Row
     let mut values = [0i64; 7];
     let line = text::read_line(text, at, false, &mut values);
     if !line.found {
-        return no_row();
+        return no_row(at);
     }
     row_of(&values, line.next)
 }
@@ -137,10 +137,10 @@ fn read_call(text: &[u8], at: usize) -> Row
 {
     let r = read_row(text, at);
     if !r.found {
-        return no_row();
+        return no_row(at);
     }
     if !is_row(r) {
-        return no_row();
+        return no_row(at);
     }
     r
 }
@@ -151,32 +151,20 @@ struct CallReader<'a> {
     at: usize,
 }
 
-fn reader<'a>(text: &'a [u8]) -> CallReader<'a>
-    ensures { λ r. ⌜ (r .text ≡ text .entry) × (r .at ≡ 0) ⌝ }
+fn reader<'a>(text: &'a [u8], at: usize) -> CallReader<'a>
+    ensures { λ r. ⌜ (r .text ≡ text .entry) × (r .at ≡ at) ⌝ }
 {
-    CallReader { text, at: 0 }
+    CallReader { text, at }
 }
 
-fn moved<'a>(r: CallReader<'a>, at: usize) -> CallReader<'a>
-    ensures { λ q. ⌜ (q .text ≡ r .entry .text) × (q .at ≡ at) ⌝ }
+// Reads the call of the present line and moves on to the next line; stays where there is no call.
+fn read_next<'s, 'a>(r: &'s mut CallReader<'a>) -> Row
+    requires { ⌜ now r .at ≤ length (now (now r .text)) ⌝ }
+    ensures { λ q. ⌜ CallRead (now (now (r .entry) .text)) (now (r .entry) .at) q × (now (r .exit) .text ≡ now (r .entry) .text) × (now (r .exit) .at ≡ q .next) ⌝ }
 {
-    CallReader { text: r.text, at }
-}
-
-// The call of the present line.
-fn present<'a>(r: CallReader<'a>) -> Row
-    requires { ⌜ r .at ≤ length (now (r .text)) ⌝ }
-    ensures { λ q. ⌜ CallRead (now (r .entry .text)) (r .entry .at) q ⌝ }
-{
-    read_call(r.text, r.at)
-}
-
-// The call of the line from `at` on, through a reader.
-fn row_from(text: &[u8], at: usize) -> Row
-    requires { ⌜ at ≤ length (now text) ⌝ }
-    ensures { λ r. ⌜ CallRead (now (text .entry)) at r ⌝ }
-{
-    present(moved(reader(text), at))
+    let q = read_call(r.text, r.at);
+    r.at = q.next;
+    q
 }
 
 // Makes the call of a row and writes its line of answers; the place after it.
@@ -212,24 +200,52 @@ fn write_malformed(out: &mut [u8], at: usize, number: usize) -> usize
     text::write_line(out, at, &line)
 }
 
+// Where the output goes on, the number of the present line, and whether one is left.
+struct Place {
+    to: usize,
+    number: usize,
+    more: bool,
+}
+
+// Makes and answers the call of a row, or writes that its line is malformed; `size` is the length of the text.
+fn answer_row(block: &mut [u8], row: Row, out: &mut [u8], p: Place, size: usize) -> Place
+    requires { ⌜ Answerable row p (length (now out)) ⌝ }
+    ensures { λ n. ⌜ RowAnswered row p size (now (block .entry)) (now (out .entry)) n (now (block .exit)) (now (out .exit)) ⌝ }
+{
+    let number = p.number;
+    if !row.found {
+        let to = write_malformed(out, p.to, number);
+        return Place {
+            to,
+            number,
+            more: false,
+        };
+    }
+    let to = write_answer(block, row, out, p.to);
+    Place {
+        to,
+        number: number + 1,
+        more: row.next < size,
+    }
+}
+
 // Runs the text from `at` on, where line 2 begins, and writes what it prints at `to`; the place after it.
 fn run_calls(text: &[u8], at: usize, block: &mut [u8], out: &mut [u8], to: usize) -> usize
     requires { ⌜ (2 ≤ at) × (at ≤ length (now text)) × (length (now text) ≤ mostText) × (to + 24 ≤ 4 * at) × (outSize ≤ length (now out)) ⌝ }
     ensures { λ n. ⌜ Finished (now (text .entry)) at (now (block .entry)) (now (out .entry)) to n (now (out .exit)) ⌝ }
 {
-    let mut next = at;
-    let mut end = to;
-    let mut number: usize = 2;
-    while next < text.len() {
-        let r = row_from(text, next);
-        if !r.found {
-            return write_malformed(out, end, number);
-        }
-        end = write_answer(block, r, out, end);
-        next = r.next;
-        number += 1;
+    let size = text.len();
+    let mut r = reader(text, at);
+    let mut p = Place {
+        to,
+        number: 2,
+        more: at < size,
+    };
+    while p.more {
+        let row = read_next(&mut r);
+        p = answer_row(block, row, out, p, size);
     }
-    end
+    p.to
 }
 
 fn accepted(length: usize) -> Printed

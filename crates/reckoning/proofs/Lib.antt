@@ -1,5 +1,4 @@
 pub mod Filling
-pub mod Parts
 pub mod Lends
 pub mod Lowering
 pub mod Rounding

@@ -19,7 +19,7 @@ returns : tie.Need-returns
 returns c =
     let s = c .before .before .before .before .before .before .before in
     let l = c .before .before .before .before .read-line in
-    row-missing (s .args .text .now) (s .args .at) _ (l .result) (l .last .1 .1 .1 .0) (l .ensures) (c .no-row .result) refl (not-true _ (c .before .if1 .taken)) (c .no-row .ensures)
+    row-missing (s .args .text .now) (s .args .at) _ (l .result) (l .last .1 .1 .1 .0) (l .ensures) (c .no-row .result) refl (not-true _ (c .before .if1 .taken)) (c .no-row .ensures .0)
 
 slice-aggregate-row-of : tie.Need-slice-aggregate-row-of
 slice-aggregate-row-of c = search needs

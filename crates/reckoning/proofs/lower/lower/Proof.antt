@@ -55,7 +55,7 @@ use Rattle.reckoning.specs.declared.Delegation.{Delegation}
 use Rattle.reckoning.proofs.Delegation as T
 use Rattle.reckoning.proofs.Delegation.Laws as T′
 use Rattle.reckoning.proofs.Lowering.{eachTo, as-long, each-all}
-use Rattle.reckoning.proofs.Parts.{after, head, inside}
+use Rattle.walks.proofs.Parts.{after, head, inside}
 use Rattle.reckoning.proofs.lower.lowered_weight as weigh
 use Rattle.reckoning.proofs.lower.lowered_weight.Symbol as weigh-def
 use Rattle.reckoning.proofs.lower.lowered_weight.Symbol.{name as #reckoning·lower·lowered-weight}
