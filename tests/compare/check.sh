@@ -1,7 +1,8 @@
 #!/usr/bin/env bash
 # The C side: the archive, the header, a short comparison with the second
 # implementation on fixed random calls, its self test, the example host, the
-# host in README.md, the stack of every call, and the drawing.
+# host in README.md, the stack of every call, the drawing, and a build of the
+# measurement.
 set -euo pipefail
 
 here="$(cd "$(dirname "${BASH_SOURCE[0]}")" && pwd)"
@@ -116,6 +117,7 @@ step "host in 64 KiB of stack" small_stack
 step "host of README.md" readme
 step "stack of every call" stack
 step "drawing" drawing
+step "build of the measurement" make -s target/bench/bench
 step "host with what is installed" installed
 if command -v g++ >/dev/null; then
     step "header in C++" cpp

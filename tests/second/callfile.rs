@@ -10,7 +10,10 @@ pub const NAMES_IN: &[u8] = b"call by giver receiver weight need bar\n";
 pub const NAMES_OUT: &[u8] = b"refusal first second third\n";
 
 /// The largest call number of a call file is 5.
-const CALLS_IN_FILE: usize = 6;
+pub const CALLS_IN_FILE: usize = 6;
+
+/// The refusal of a malformed line.
+pub const MALFORMED: u32 = 7;
 
 /// What the program prints for an input.
 pub fn print(engine: &Engine, input: &[u8]) -> Vec<u8> {
@@ -114,7 +117,7 @@ pub fn outcome_line(outcome: &Outcome) -> Vec<u8> {
 }
 
 fn malformed(line: usize) -> Vec<u8> {
-    format!("7 {line}\n").into_bytes()
+    format!("{MALFORMED} {line}\n").into_bytes()
 }
 
 /// Numbers with one space between.

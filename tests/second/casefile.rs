@@ -3,7 +3,10 @@
 //! the call file, 6 is open, 7 is chain with its buffer's length as the weight.
 //! BLOCK is `=`, the block as the line before left it, or `LENGTH:BYTES`.
 //! The expected line is `refusal first second third BLOCK`, with `=` if no byte
-//! changed. An accepted chain answers 1 if the chain written is right.
+//! changed. Chain is called twice, by the function that counts its links and by
+//! the one that hands back its part, each on a fresh buffer: accepted, the first
+//! answer is 1 if the chain counted is right, the second if the one handed back
+//! is; refused, both are 0 if nothing was written.
 
 use crate::call::{chain, run, Outcome};
 use crate::callfile::{from_values, joined, read_values, used_only, values_of};
@@ -92,12 +95,17 @@ pub fn expected_line(engine: &Engine, case: &Case, current: &mut Vec<u8>) -> Str
     }
     let before = current.clone();
     let outcome = answer(engine, &case.passed, current);
+    left_line(&outcome, &before, current)
+}
+
+/// `refusal first second third BLOCK` for a call and the block before and after it.
+pub fn left_line(outcome: &Outcome, before: &[u8], after: &[u8]) -> String {
     let [first, second, third] = outcome.answers;
-    let block = if *current == before { "=".to_string() } else { block_text(current) };
+    let block = if after == before { "=".to_string() } else { block_text(after) };
     format!("{} {first} {second} {third} {block}\n", outcome.refusal)
 }
 
-/// The outcome of any call; for chain the first answer is 1 if it is right.
+/// The outcome of any call; for chain the first two answers are 1 if it is right.
 pub fn answer(engine: &Engine, n: &Passed, block: &mut [u8]) -> Outcome {
     let n = used_only(n);
     match n.call {
@@ -114,7 +122,7 @@ fn chain_outcome(n: &Passed, block: &[u8]) -> Outcome {
         return Outcome { refusal: written.refusal, answers: [0, 0, 0] };
     }
     let right = rest_kept && judge(block, n.giver, n.receiver, &buffer[..written.filled]).is_ok();
-    Outcome { refusal: 0, answers: [right as i32, 0, 0] }
+    Outcome { refusal: 0, answers: [right as i32, right as i32, 0] }
 }
 
 /// The expected text of a whole case file, or the number of a line that is no case.

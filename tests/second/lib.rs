@@ -9,6 +9,7 @@ pub mod cut;
 pub mod engine;
 pub mod host;
 pub mod judge;
+pub mod listfile;
 pub mod random;
 pub mod refusal;
 pub mod remainder;

@@ -1,6 +1,6 @@
 // Reading a block's text.
 use crate::out::put_byte;
-use crate::text;
+use crate::reading;
 
 // A block's length, and where the text goes on.
 pub struct Block {
@@ -25,7 +25,7 @@ fn no_block() -> Block {
 
 // `=` leaves the block of `size` bytes as it is; else LENGTH:BYTES is put into it.
 pub fn read_block(text: &[u8], from: usize, block: &mut [u8], size: usize) -> Block {
-    let same = text::step_over(text, from, b'=');
+    let same = reading::step_over(text, from, b'=');
     if same.is_read {
         return Block {
             size: size,
@@ -33,7 +33,7 @@ pub fn read_block(text: &[u8], from: usize, block: &mut [u8], size: usize) -> Bl
             is_read: true,
         };
     }
-    let number = text::read_number(text, from, b':');
+    let number = reading::read_number(text, from, b':');
     if !number.is_read {
         return no_block();
     }
@@ -41,7 +41,7 @@ pub fn read_block(text: &[u8], from: usize, block: &mut [u8], size: usize) -> Bl
     if given > block.len() {
         return no_block();
     }
-    let n = text::within(given, block);
+    let n = reading::within(given, block);
     Block {
         size: n,
         after: read_bytes(text, number.after, &mut block[..n]),
@@ -81,12 +81,12 @@ fn read_byte(text: &[u8], at: usize) -> Byte {
     if at + 1 >= text.len() {
         return nothing;
     }
-    let high = text::digit_of(text[at]);
-    let low = text::digit_of(text[at + 1]);
-    if high >= text::NO_DIGIT {
+    let high = reading::digit_of(text[at]);
+    let low = reading::digit_of(text[at + 1]);
+    if high >= reading::NO_DIGIT {
         return nothing;
     }
-    if low >= text::NO_DIGIT {
+    if low >= reading::NO_DIGIT {
         return nothing;
     }
     Byte {

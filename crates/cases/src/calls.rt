@@ -1,6 +1,6 @@
 // The columns of a line, and the register's call that they ask for.
 use crate::chains;
-use crate::text;
+use crate::reading;
 use register::Answer;
 
 // The seven numbers of a line, and where the text goes on.
@@ -22,13 +22,13 @@ pub enum Outcome {
 }
 
 pub fn read_columns(text: &[u8], from: usize) -> Columns {
-    let call = text::read_number(text, from, b' ');
-    let by = text::next_column(text, call);
-    let giver = text::next_column(text, by);
-    let receiver = text::next_column(text, giver);
-    let weight = text::next_column(text, receiver);
-    let need = text::next_column(text, weight);
-    let bar = text::next_column(text, need);
+    let call = reading::read_number(text, from, b' ');
+    let by = reading::next_column(text, call);
+    let giver = reading::next_column(text, by);
+    let receiver = reading::next_column(text, giver);
+    let weight = reading::next_column(text, receiver);
+    let need = reading::next_column(text, weight);
+    let bar = reading::next_column(text, need);
     Columns {
         call: call.value,
         by: by.value,

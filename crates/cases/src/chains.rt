@@ -1,5 +1,5 @@
 // The chain call, and a judge of the links that it writes: document 01's definition, link by link.
-use crate::text;
+use crate::reading;
 use register::Answer;
 
 // The lent buffer has at most this many bytes.
@@ -41,20 +41,70 @@ fn no_record() -> Record {
     }
 }
 
-// The call on a lent buffer of `size` bytes, and what is judged of it.
+// The call by each of its two functions on a lent buffer of `size` bytes, and what is judged of them: the first answer is of
+// the one that counts the links, the second of the one that hands back its part, 3 where that tells another refusal.
 pub fn judge_call(block: &[u8], giver: u32, receiver: u32, size: usize) -> Answer {
     let mut buf = [PATTERN; 4096];
-    let n = text::within(size, &buf);
-    judge_on(block, giver, receiver, &mut buf[..n])
+    let n = reading::within(size, &buf);
+    let counted = judge_counted(block, giver, receiver, &mut buf[..n]);
+    let mut other = [PATTERN; 4096];
+    let n = reading::within(size, &other);
+    let handed = judge_handed(block, giver, receiver, &mut other[..n]);
+    let second = if handed.refusal == counted.refusal {
+        handed.first
+    } else {
+        3
+    };
+    Answer {
+        refusal: counted.refusal,
+        first: counted.first,
+        second: second,
+        third: 0,
+    }
+}
+
+fn judge_counted(block: &[u8], giver: u32, receiver: u32, buf: &mut [u8]) -> Answer {
+    let written = chain::write_chain(block, giver, receiver, buf);
+    judge(block, giver, receiver, buf, written.refusal, written.links)
+}
+
+// The part is judged, and the whole buffer once the part is given back; the first answer is 2 where they differ.
+fn judge_handed(block: &[u8], giver: u32, receiver: u32, buf: &mut [u8]) -> Answer {
+    let mut refusal = 0;
+    let part = chain::chain(block, giver, receiver, &mut refusal, buf);
+    let links = links_of(part.len());
+    let of_part = judge(block, giver, receiver, part, refusal, links);
+    let of_all = judge(block, giver, receiver, buf, refusal, links);
+    Answer {
+        refusal: refusal,
+        first: if of_part.first == of_all.first {
+            of_all.first
+        } else {
+            2
+        },
+        second: 0,
+        third: 0,
+    }
+}
+
+// How many links a part of n bytes has: too many where one is half.
+fn links_of(n: usize) -> usize {
+    if n % 2 == 0 { n / 2 } else { MOST_LINKS + 1 }
 }
 
 // Accepted, the first answer is 1 where the chain is right; refused, it is 1 where something was written.
-fn judge_on(block: &[u8], giver: u32, receiver: u32, buf: &mut [u8]) -> Answer {
-    let written = chain::write_chain(block, giver, receiver, buf);
-    if written.refusal == 0 {
-        return judged(0, is_right(block, giver, receiver, buf, written.links));
+fn judge(
+    block: &[u8],
+    giver: u32,
+    receiver: u32,
+    buf: &[u8],
+    refusal: u32,
+    links: usize,
+) -> Answer {
+    if refusal == 0 {
+        return judged(0, is_right(block, giver, receiver, buf, links));
     }
-    judged(written.refusal, written.links > 0 || !is_kept(buf, 0))
+    judged(refusal, links > 0 || !is_kept(buf, 0))
 }
 
 fn judged(refusal: u32, first: bool) -> Answer {
@@ -172,21 +222,21 @@ fn end_of(buf: &[u8], n: u8) -> u8 {
 }
 
 fn giver_of(buf: &[u8], i: u8) -> u8 {
-    text::byte_at(buf, 2 * i as usize)
+    reading::byte_at(buf, 2 * i as usize)
 }
 
 fn receiver_of(buf: &[u8], i: u8) -> u8 {
-    text::byte_at(buf, 2 * i as usize + 1)
+    reading::byte_at(buf, 2 * i as usize + 1)
 }
 
 fn marks_of(block: &[u8], subject: u8) -> u16 {
     let at = 4 + 2 * subject as usize;
-    both(text::byte_at(block, at), text::byte_at(block, at + 1))
+    both(reading::byte_at(block, at), reading::byte_at(block, at + 1))
 }
 
 // The pair's record among those that the block counts.
 fn standing(block: &[u8], giver: u8, receiver: u8) -> Record {
-    let n = both(text::byte_at(block, 2), text::byte_at(block, 3));
+    let n = both(reading::byte_at(block, 2), reading::byte_at(block, 3));
     let mut i = 0;
     while i < n {
         let record = record_at(block, i);
@@ -201,11 +251,17 @@ fn standing(block: &[u8], giver: u8, receiver: u8) -> Record {
 fn record_at(block: &[u8], i: u16) -> Record {
     let at = RECORDS_AT + 8 * i as usize;
     Record {
-        giver: text::byte_at(block, at),
-        receiver: text::byte_at(block, at + 1),
-        weight: text::byte_at(block, at + 2),
-        need: both(text::byte_at(block, at + 4), text::byte_at(block, at + 5)),
-        bar: both(text::byte_at(block, at + 6), text::byte_at(block, at + 7)),
+        giver: reading::byte_at(block, at),
+        receiver: reading::byte_at(block, at + 1),
+        weight: reading::byte_at(block, at + 2),
+        need: both(
+            reading::byte_at(block, at + 4),
+            reading::byte_at(block, at + 5),
+        ),
+        bar: both(
+            reading::byte_at(block, at + 6),
+            reading::byte_at(block, at + 7),
+        ),
         is_standing: true,
     }
 }

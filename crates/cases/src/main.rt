@@ -1,75 +1,81 @@
-// Runs the recorded cases of data/ through the register's public calls, its call files through the call file's function, and prints what comes out.
+// Runs the recorded files of data/, which its arguments name, through the register's public calls, and prints what comes out.
 mod blocks;
-mod callfiles;
 mod calls;
 mod chains;
+mod lists;
 mod out;
+mod reading;
 mod run;
-mod text;
 
-// A file of cases has at most this many bytes.
+ghost use mathlib.Core.Path.{_≡_};
+ghost use lib.ListN.{length};
+
+// A file of cases or of lists has at most this many bytes.
 const MOST_TEXT: usize = 65536;
 
-// Each kind of cases, with how many files it has.
+// Each argument's file, in order.
 fn main() {
-    run_kind(b"base", 2);
-    run_kind(b"reach", 3);
-    run_kind(b"chain", 2);
-    run_kind(b"cut", 7);
-    callfiles::run_all(115);
-}
-
-fn run_kind(kind: &[u8], files: u64) {
-    let mut k = 0;
-    while k < files {
-        run_file(kind, k);
-        k += 1;
+    let n = os::arg_count();
+    let mut i = 1;
+    while i < n {
+        run_argument(i);
+        i += 1;
     }
 }
 
 // One file, and a line `unreadable` where it cannot be read to its end.
-fn run_file(kind: &[u8], number: u64) {
-    let mut space = [0u8; 65537];
-    let got = read_file(kind, number, &mut space);
-    if !run_text(&space, got) {
+fn run_argument(i: usize) {
+    let mut name = [0u8; 64];
+    let n = os::arg(i, &mut name);
+    if !run_file(&name[..n]) {
         out::print(b"unreadable\n");
     }
 }
 
-// Reads the file into space; answers its length, and more than MOST_TEXT where it cannot be opened.
-fn read_file(kind: &[u8], number: u64, space: &mut [u8]) -> usize {
-    let fd = open_file(kind, number);
+// Reads one byte more than a text may have.
+fn run_file(name: &[u8]) -> bool {
+    let fd = os::open_read(name);
     if fd < 0 {
-        return MOST_TEXT + 1;
-    }
-    let got = io::read_full(fd, space);
-    libc::close(fd);
-    got
-}
-
-// Opens KIND-NN.cases.
-fn open_file(kind: &[u8], number: u64) -> i32 {
-    let mut path = [0u8; 64];
-    let at = out::put_bytes(&mut path, 0, kind);
-    let at = put_rest(&mut path, at, number);
-    let n = text::within(at, &path);
-    os::open_read(&path[..n])
-}
-
-// What follows the kind in a file's name.
-fn put_rest(path: &mut [u8], at: usize, number: u64) -> usize {
-    let tens = out::last_digit(number / 10);
-    let ones = out::last_digit(number);
-    let rest = [b'-', tens, ones, b'.', b'c', b'a', b's', b'e', b's'];
-    out::put_bytes(path, at, &rest)
-}
-
-// Runs the first `got` bytes of space; false where a line, or the file, cannot be read.
-fn run_text(space: &[u8], got: usize) -> bool {
-    if got > MOST_TEXT {
         return false;
     }
-    let n = text::within(got, space);
+    let mut space = [0u8; 65537];
+    let got = io::read_full(fd, &mut space);
+    libc::close(fd);
+    run_text(reading::byte_at(name, 0), &space[..got])
+}
+
+// Runs a text by the first byte of its file's name, a digit for a call file; false where it cannot be read to its end.
+fn run_text(kind: u8, text: &[u8]) -> bool {
+    if kind <= b'9' {
+        print_calls(text);
+        return true;
+    }
+    if text.len() > MOST_TEXT {
+        return false;
+    }
+    if kind == b'l' {
+        return lists::run_lines(text);
+    }
     let mut block = [0u8; 4096];
-    run::run_lines(&space[..n], &mut block)
+    run::run_lines(text, &mut block)
+}
+
+// What the program prints for a call file.
+fn print_calls(text: &[u8]) {
+    let mut space = output();
+    let length = run_calls(text, &mut space);
+    let n = reading::within(length, &space);
+    out::print(&space[..n]);
+}
+
+// The `ensures` hides the bytes, so that no caller's proof computes them.
+fn output() -> [u8; 262144]
+    ensures { λ r. ⌜ 262144 ≡ length r ⌝ }
+{
+    [0; 262144]
+}
+
+fn run_calls(text: &[u8], space: &mut [u8]) -> usize {
+    let printed = callfile::run(text, space);
+    printed.length
 }

@@ -1,6 +1,6 @@
 // Writing: to standard output, and into a buffer. A function that writes into a buffer answers where the text goes on; what
 // does not fit is left out.
-use crate::text;
+use crate::reading;
 use libc::STDOUT_FILENO;
 
 pub fn print(bytes: &[u8]) {
@@ -32,14 +32,14 @@ pub fn print_block(block: &[u8]) {
     print(b":");
     let mut space = [0u8; 8192];
     let at = put_all_hex(&mut space, block, used(block));
-    let n = text::within(at, &space);
+    let n = reading::within(at, &space);
     print(&space[..n]);
 }
 
 // How many bytes the block has up to its last that is not zero.
 fn used(block: &[u8]) -> usize {
     let mut n = block.len();
-    while n > 0 && text::byte_at(block, n - 1) == 0 {
+    while n > 0 && reading::byte_at(block, n - 1) == 0 {
         n -= 1;
     }
     n
@@ -50,7 +50,7 @@ fn put_all_hex(out: &mut [u8], block: &[u8], n: usize) -> usize {
     let mut at = 0;
     let mut i = 0;
     while i < n {
-        at = put_hex(out, at, text::byte_at(block, i));
+        at = put_hex(out, at, reading::byte_at(block, i));
         i += 1;
     }
     at
@@ -74,11 +74,6 @@ fn hex_digit(n: u8) -> u8 {
         return b'a' + (n - 10);
     }
     b'?'
-}
-
-// The last decimal digit of n.
-pub fn last_digit(n: u64) -> u8 {
-    b'0' + (n % 10) as u8
 }
 
 pub fn put_byte(out: &mut [u8], at: usize, byte: u8) -> usize {

@@ -6,7 +6,7 @@ use crate::calls;
 use crate::calls::Columns;
 use crate::calls::Outcome;
 use crate::out;
-use crate::text;
+use crate::reading;
 use register::Answer;
 
 // Where the next line begins, 0 where a line cannot be read, and the length of the block that is left.
@@ -41,11 +41,11 @@ fn run_line(text: &[u8], from: usize, block: &mut [u8], size: usize) -> Place {
         return nowhere();
     }
     let read = blocks::read_block(text, columns.after, block, size);
-    let end = text::step_over(text, read.after, b'\n');
+    let end = reading::step_over(text, read.after, b'\n');
     if !read.is_read || !end.is_read {
         return nowhere();
     }
-    let n = text::within(read.size, block);
+    let n = reading::within(read.size, block);
     if !run_call(columns, &mut block[..n]) {
         return nowhere();
     }
@@ -78,7 +78,7 @@ fn kept(block: &[u8]) -> [u8; 4096]
 }
 
 // Prints `refusal first second third BLOCK`.
-fn print_outcome(answer: Answer, before: &[u8], block: &[u8]) {
+pub fn print_outcome(answer: Answer, before: &[u8], block: &[u8]) {
     print_answer(answer);
     print_left(before, block);
     out::print(b"\n");
@@ -97,8 +97,8 @@ fn print_answer(answer: Answer) {
 }
 
 // The block that the call left, or `=` if no byte has changed.
-fn print_left(before: &[u8], block: &[u8]) {
-    let n = text::within(block.len(), before);
+pub fn print_left(before: &[u8], block: &[u8]) {
+    let n = reading::within(block.len(), before);
     if check::same(&before[..n], block) {
         out::print(b"=");
         return;

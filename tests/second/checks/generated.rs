@@ -133,7 +133,8 @@ fn chains_are_right() {
     for case in KINDS.iter().flat_map(with_blocks).filter(|case| case.passed.call == Call::Chain) {
         let mut block = case.block.unwrap_or_default();
         let outcome = answer(&FAST, &case.passed, &mut block);
-        assert_eq!(outcome.answers[0], (outcome.refusal == 0) as i32);
+        let right = (outcome.refusal == 0) as i32;
+        assert_eq!(outcome.answers, [right, right, 0]);
         accepted += outcome.answers[0];
     }
     assert!(accepted > 100);

@@ -11,6 +11,7 @@ mod examples;
 mod faults;
 mod generated;
 mod hosts;
+mod listfiles;
 mod pairs;
 mod relaxed;
 mod searches;

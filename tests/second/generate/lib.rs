@@ -1,5 +1,5 @@
 //! The cases that every implementation is compared on: block-level ones in
-//! three kinds, and call files.
+//! three kinds, lists of calls, and call files.
 
 pub mod broken;
 pub mod callfiles;
@@ -7,6 +7,7 @@ pub mod deep;
 pub mod examples;
 pub mod full;
 pub mod limits;
+pub mod listfiles;
 pub mod lists;
 pub mod malformed;
 pub mod refusals;
@@ -14,7 +15,7 @@ pub mod rounds;
 pub mod unsupported;
 mod write;
 
-pub use write::{files, write_all};
+pub use write::{files, list_files, write_all};
 
 use second::block::{Delegation, Register};
 use second::call::blank;

@@ -1,9 +1,10 @@
 //! Writes the cases: files of at most 65,536 bytes, an index and the counts.
 
-use super::{callfiles, cases, Call, Kind, KINDS};
+use super::{callfiles, cases, listfiles, Call, Kind, KINDS};
 use second::callfile::{print, MOST_INPUT};
 use second::casefile::{case_line, expected_line, Case};
 use second::engine::FAST;
+use second::listfile::{expected_lines, list_line, List};
 use std::fs;
 use std::io;
 use std::path::Path;
@@ -28,6 +29,19 @@ pub fn files(cases: &[Case]) -> Vec<File> {
         match files.last_mut() {
             Some(file) if file.holds(&case_line(&short), &expected) => file.add(&case_line(&short), &expected),
             _ => files.push(File { cases: case_line(&whole), expected }),
+        }
+    }
+    files
+}
+
+/// Distributes lists over files.
+pub fn list_files(lists: &[List]) -> Vec<File> {
+    let mut files: Vec<File> = Vec::new();
+    for list in lists {
+        let (line, expected) = (list_line(list), expected_lines(&FAST, list));
+        match files.last_mut() {
+            Some(file) if file.holds(&line, &expected) => file.add(&line, &expected),
+            _ => files.push(File { cases: line, expected }),
         }
     }
     files
@@ -80,8 +94,19 @@ pub fn write_all(folder: &Path) -> io::Result<()> {
             fs::write(folder.join(format!("{name}-{at:02}.expected")), &file.expected)?;
         }
     }
+    counts.push_str(&format!("list {}\n", write_list_files(folder)?));
     counts.push_str(&format!("calls {}\n", write_call_files(folder)?));
     fs::write(folder.join("counts.txt"), counts)
+}
+
+/// Writes the list files; answers how many lists there are.
+fn write_list_files(folder: &Path) -> io::Result<usize> {
+    let lists = listfiles::all();
+    for (at, file) in list_files(&lists).iter().enumerate() {
+        fs::write(folder.join(format!("list-{at:02}.lists")), &file.cases)?;
+        fs::write(folder.join(format!("list-{at:02}.expected")), &file.expected)?;
+    }
+    Ok(lists.len())
 }
 
 /// Writes the call files and their index; answers how many there are.

@@ -1,9 +1,9 @@
--- `cases::text::within` answers a number of the buffer's bytes. Assumes nothing.
+-- `cases::reading::within` answers a number of the buffer's bytes. Assumes nothing.
 use borrow.Author.Needs.{needs}
 use mathlib.Core.Path.{sym}
 use lib.Seq.{length-take-le}
-use Rattle.cases.proofs.text.within.Statement.{statement}
-use Rattle.cases.proofs.text.within.Tie as tie
+use Rattle.cases.proofs.reading.within.Statement.{statement}
+use Rattle.cases.proofs.reading.within.Tie as tie
 
 returns : tie.Need-returns
 returns c = (search needs, sym (length-take-le _ _ (search needs)))

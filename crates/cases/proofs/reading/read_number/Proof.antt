@@ -1,9 +1,9 @@
--- `cases::text::read_number` is safe and ends: the value stays within 32 bits, and `at` goes up to the text's end. Assumes nothing.
+-- `cases::reading::read_number` is safe and ends: the value stays within 32 bits, and `at` goes up to the text's end. Assumes nothing.
 use Prim.Native.Nat.{_≤_, _-_}
 use lib.ListN.{length}
 use borrow.Author.Needs.{needs}
-use Rattle.cases.proofs.text.read_number.Statement.{statement}
-use Rattle.cases.proofs.text.read_number.Tie as tie
+use Rattle.cases.proofs.reading.read_number.Statement.{statement}
+use Rattle.cases.proofs.reading.read_number.Tie as tie
 
 abbrev Inv-loop : tie.InvT-loop
 Inv-loop text from end value₀ at₀ value at = value ≤ 4294967295

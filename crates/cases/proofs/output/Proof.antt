@@ -1,0 +1,12 @@
+-- `cases::output` answers an array of its length. Assumes nothing.
+use mathlib.Core.Path.{sym}
+use Prim.Native.Nat.{ℕ}
+use lib.ListN.{length-replicate}
+use Rattle.cases.proofs.output.Statement.{statement}
+use Rattle.cases.proofs.output.Tie as tie
+
+returns : tie.Need-returns
+returns c = sym (length-replicate {A = ℕ} 262144 0)
+
+pub output-spec : {M : Type 1} → statement M
+output-spec = tie.close (tie.spec returns)

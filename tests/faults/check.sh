@@ -1,0 +1,81 @@
+#!/usr/bin/env bash
+# Faults put in on purpose, each into a copy of the crates: what the program of
+# crates/cases prints must then differ, and must not where there is none. The
+# copies are run and not proved. Needs what tests/second/check.sh generates.
+set -euo pipefail
+
+here="$(cd "$(dirname "${BASH_SOURCE[0]}")" && pwd)"
+root="$(cd "$here/../.." && pwd)"
+out="$root/target/faults"
+rm -rf "$out" && mkdir -p "$out"
+
+part="faults"
+. "$root/tests/step.sh"
+
+# A copy of the sources, whose program runs one file of chain calls and one of
+# lists.
+copy() {
+    local crate="$out/copy/crates/cases" from="$root/target/second/cases"
+    rm -rf "$out/copy" && mkdir -p "$crate/data" &&
+        cp "$root/crates.txt" "$out/copy/" &&
+        (cd "$root/crates" && cp -r --parents */src "$out/copy/crates/") &&
+        cp "$from/chain-00.cases" "$from/list-00.lists" "$crate/data/" &&
+        printf '%s\n' chain-00.cases list-00.lists >"$crate/args" &&
+        cat "$from/chain-00.expected" "$from/list-00.expected" >"$crate/stdout"
+}
+
+# edit OLD NEW: puts a text in the place of a line that the copy has once.
+edit() {
+    local places file
+    places="$(grep -rnxF --include='*.rt' -e "$1" "$out/copy/crates")" || return 1
+    test "$(wc -l <<<"$places")" -eq 1 || return 1
+    file="${places%%:*}"
+    OLD="$1" NEW="$2" awk '{ print ($0 == ENVIRON["OLD"] ? ENVIRON["NEW"] : $0) }' "$file" >"$out/edited" &&
+        mv "$out/edited" "$file"
+}
+
+# The program, compiled in three ways: as many lines as that say the same.
+try() {
+    (cd "$out/copy" && rt try cases) >"$out/run" 2>&1
+    local status=$?
+    cat "$out/run"
+    return "$status"
+}
+
+says() {
+    test "$(grep -cF -e "$1" "$out/run")" -eq 3
+}
+
+# Without a fault it prints what is expected.
+unharmed() {
+    copy && try && says "ended and wrote what is expected"
+}
+
+# found OLD NEW DUE PRINTED: with a line replaced it prints, at the first byte
+# that differs, something else than is due.
+found() {
+    copy && edit "$1" "$2" || return 1
+    if try; then
+        return 1
+    fi
+    says "ended, but did not write what is expected" &&
+        says "expected \"$3" && says "found \"$4"
+}
+
+end='    let end = 2 * written.links;'
+after='    if written.refusal == 0 && end < buf.len() {
+        buf[end] = 0;
+    }'
+front='    if written.refusal != 0 && buf.len() > 0 {
+        buf[0] = 0;
+    }'
+sized='    if !is_sized(calls.len(), blocks.len(), refusals.len(), answers.len()) {'
+first='        if blocks.len() > 0 {
+            blocks[0] = 0;
+        }'
+
+step "no fault" unharmed
+step "chain spoils the byte after its part" found "$end" "$end"$'\n'"$after" '1 0 =' '2 0 ='
+step "a refused chain spoils a byte" found "$end" "$end"$'\n'"$front" '0 0 =' '2 0 ='
+step "a refused list spoils a byte" found "$sized" "$sized"$'\n'"$first" '=' '2180:'
+step "a list does not copy its blocks" found '    copy_slot(blocks, i);' '' '0 1 0 0 2180:' '8 0 0 0 '

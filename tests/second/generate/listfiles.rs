@@ -1,0 +1,101 @@
+//! The lists of calls that are made by one call.
+
+use super::*;
+use second::block::BLOCK_LEN;
+use second::callfile::{used_columns, values_of};
+use second::listfile::{lengths, List, NUMBERS};
+use second::random::Random;
+
+/// The program that runs the lists has room for so many calls.
+pub const MOST_CALLS: usize = 200;
+
+const MOST: u32 = 4_294_967_295;
+
+pub fn all() -> Vec<List> {
+    let mut all = vec![list(&[]), list(&few())];
+    all.extend(examples());
+    all.push(unused_columns());
+    all.extend(parts_of_calls());
+    all.extend(wrong_lengths());
+    all.extend(no_calls());
+    all.extend(random_lists());
+    all
+}
+
+/// A list of calls with the lengths that they need.
+pub fn list(calls: &[Passed]) -> List {
+    List { lengths: lengths(calls.len()), numbers: calls.iter().flat_map(values_of).collect() }
+}
+
+/// Accepted calls and refused ones.
+fn few() -> Vec<Passed> {
+    vec![enrol(3), enrol(MOST), grant(0, 1, 9, 0, 0), grant(0, 1, 9, 0, 0), revoke(0, 0, 1), reach(0, 1), use_right(1)]
+}
+
+fn examples() -> Vec<List> {
+    let mut examples = examples::proved();
+    examples.push(examples::counting(5));
+    examples.iter().map(|example| list(&example.calls())).collect()
+}
+
+/// A number in every column that a call does not use.
+fn unused_columns() -> List {
+    let mut list = list(&few());
+    for (call, n) in list.numbers.chunks_exact_mut(NUMBERS).zip(few()) {
+        for (number, used) in call[1..].iter_mut().zip(used_columns(n.call)) {
+            if !used {
+                *number = MOST;
+            }
+        }
+    }
+    list
+}
+
+/// Every number of numbers from 1 to 15, with the lengths of the whole calls
+/// and of one call more.
+fn parts_of_calls() -> Vec<List> {
+    let mut lists = Vec::new();
+    for count in 1..=15 {
+        let numbers = list(&few()).numbers[..count].to_vec();
+        for calls in [count / NUMBERS, count / NUMBERS + 1] {
+            lists.push(List { lengths: lengths(calls), numbers: numbers.clone() });
+        }
+    }
+    lists
+}
+
+/// Each buffer too short and too long, by one and by a call's share, and empty.
+fn wrong_lengths() -> Vec<List> {
+    let right = list(&few());
+    let mut lists = Vec::new();
+    for (buffer, share) in [BLOCK_LEN, 1, 3].into_iter().enumerate() {
+        let length = right.lengths[buffer];
+        let mut wrong = vec![0, length - share, length - 1, length + 1, length + share];
+        wrong.dedup();
+        for wrong in wrong {
+            let mut list = right.clone();
+            list.lengths[buffer] = wrong;
+            lists.push(list);
+        }
+    }
+    lists
+}
+
+/// A number that is no call's, first, last and between, also where a length is
+/// wrong.
+fn no_calls() -> Vec<List> {
+    let mut lists = Vec::new();
+    for (at, number) in [(0, 6), (3, 7), (6, 6), (0, 256), (6, MOST)] {
+        let mut list = list(&few());
+        list.numbers[NUMBERS * at] = number;
+        lists.push(list.clone());
+        list.lengths[1] += 1;
+        lists.push(list);
+    }
+    lists
+}
+
+fn random_lists() -> Vec<List> {
+    let mut random = Random::new(0x4E91);
+    [30, 30, 30, 30, MOST_CALLS].map(|length| list(&lists::list(&mut random, &lists::FILE, length))).to_vec()
+}
