@@ -1,16 +1,13 @@
 #!/usr/bin/env bash
 # The program seatcalls itself, on call files and on 0, 65,536, 65,537 and far
 # more bytes, from a file and through a pipe: it prints what the second
-# implementation prints. `rt ci` builds the program and removes all else, so
-# the inputs and what is expected are written before it, into a folder that it
-# leaves.
-#   check.sh expect DIR   writes them; needs what tests/second/check.sh builds
-#   check.sh run DIR      runs the program on them
+# implementation prints. Needs what tests/second/check.sh builds.
 set -euo pipefail
 
 here="$(cd "$(dirname "${BASH_SOURCE[0]}")" && pwd)"
 cd "$here/../.."
-out="$2"
+out="target/program"
+rm -rf "$out" && mkdir -p "$out"
 
 part="program"
 . tests/step.sh
@@ -60,16 +57,7 @@ runs() {
     test "$ran" -eq 15
 }
 
-case "$1" in
-expect)
-    step "inputs" inputs
-    step "what the second implementation prints" outputs
-    ;;
-run)
-    step "seatcalls on call files and on 0, 65,536 and 65,537 bytes" runs
-    ;;
-*)
-    echo "usage: check.sh expect|run DIR" >&2
-    exit 2
-    ;;
-esac
+step "build" make -s target/bin/seatcalls
+step "inputs" inputs
+step "what the second implementation prints" outputs
+step "seatcalls on call files and on 0, 65,536 and 65,537 bytes" runs
