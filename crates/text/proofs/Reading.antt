@@ -136,6 +136,22 @@ sound-from end (b ∷ s) at = go (isDigit b) refl
         let w : readOn end (b - 48) s (suc at) .next - at ≡ suc (readOn end (b - 48) s (suc at) .next - suc at) = omega (arith, g .1) in
         (g .0, omega (arith, g .1), omega (arith, g .2, m), rw w (rw n at (g .3))))
 
+-- ── where nothing is found ──
+abbrev None : Number → Type 0
+None r = r .found ≡ false → r ≡ noNumber
+
+either : (b : Bool) (x y : Number) → None x → None y → None (cond b x y)
+either true x y f g = f
+either false x y f g = g
+
+none-on : (end v : ℕ) (s : List ℕ) (at : ℕ) → None (readOn end v s at)
+none-on end v [] at = λ e. refl
+none-on end v (b ∷ s) at = either (isDigit b) _ _ (either (eqb v 0) _ _ (λ e. refl) (either (ltb most (grown v b)) _ _ (λ e. refl) (none-on end (grown v b) s (suc at)))) (either (eqb b end) _ _ (λ e. clash (sym e)) (λ e. refl))
+
+none-from : (end : ℕ) (s : List ℕ) (at : ℕ) → None (readFrom end s at)
+none-from end [] at = λ e. refl
+none-from end (b ∷ s) at = either (isDigit b) _ _ (none-on end (b - 48) s (suc at)) (λ e. refl)
+
 -- ── a rendering is read ──
 -- past a rendering and the byte after it
 pub drop-end : (xs : List ℕ) (b : ℕ) (ys : List ℕ) → drop (suc (length xs)) (xs ++ (b ∷ ys)) ≡ ys
@@ -176,6 +192,7 @@ module _ (end : ℕ) (e : end < 48) where
         let m : suc (at + length (digits n)) ≡ at + suc (length (digits n)) = omega arith in
         let w : drop (suc (at + length (digits n))) text ≡ rest = ap (λ (k : ℕ). drop k text) m ∙ sym (drop-drop (suc (length (digits n))) at text) ∙ ap (λ (s : List ℕ). drop (suc (length (digits n))) s) d ∙ drop-end (digits n) end rest in
         (ap (λ (x : Number). x .found) p, ap (λ (x : Number). x .value) p, ap (λ (x : Number). drop (x .next) text) p ∙ w);
+    none = rw q (none-from end (drop at text) at);
   }
 
 -- ── the loop: the whole answer is the answer from i on ──

@@ -51,7 +51,7 @@ valueAt z n = record { value = z; next = n; found = true }
 
 -- where nothing is read
 none-read : (text : List ℕ) (at end : ℕ) (signed : Bool) (r : Value) → r ≡ noValue → ((z : ℤ) (rest : List ℕ) → Allowed signed z → drop at text ≡ number z ++ (end ∷ rest) → ⊥) → ValueRead text at end signed r
-none-read text at end signed r q f = record { read = λ t. clash (sym (ap (λ (x : Value). x .found) q) ∙ t); each = λ z rest l d. absurd (f z rest l d) }
+none-read text at end signed r q f = record { read = λ t. clash (sym (ap (λ (x : Value). x .found) q) ∙ t); each = λ z rest l d. absurd (f z rest l d); none = λ t. q }
 
 -- ── a number without sign ──
 module _ (text : List ℕ) (at end : ℕ) (n : Number) (m : NumberRead text at end n) (r : Value) where
@@ -63,7 +63,7 @@ module _ (text : List ℕ) (at end : ℕ) (n : Number) (m : NumberRead text at e
       never (negsuc k) rest l d = l
 
   pub plain-some : n .found ≡ true → r ≡ valueAt (pos (n .value)) (n .next) → ValueRead text at end false r
-  plain-some f q = subst (λ (x : Value). ValueRead text at end false x) (sym q) record { read = λ t. m .read f; each = some }
+  plain-some f q = subst (λ (x : Value). ValueRead text at end false x) (sym q) record { read = λ t. m .read f; each = some; none = λ t. clash (sym t) }
     where
       some : (z : ℤ) (rest : List ℕ) → Allowed false z → drop at text ≡ number z ++ (end ∷ rest) → (true ≡ true) × (pos (n .value) ≡ z) × (drop (n .next) text ≡ rest)
       some (pos k) rest l d = let e = m .each k rest l d in (refl, ap pos (e .1), e .2)
@@ -72,7 +72,7 @@ module _ (text : List ℕ) (at end : ℕ) (n : Number) (m : NumberRead text at e
 -- without a sign, one may be allowed
 pub plain-signed : (text : List ℕ) (at end : ℕ) (signed : Bool) (r : Value) → hasSign text at signed ≡ false → ValueRead text at end false r → ValueRead text at end signed r
 plain-signed text at end false r h v = v
-plain-signed text at end true r h v = record { read = λ t. let g = v .read t in (up (r .value) (g .0), g .1, g .2); each = each }
+plain-signed text at end true r h v = record { read = λ t. let g = v .read t in (up (r .value) (g .0), g .1, g .2); each = each; none = v .none }
   where
     up : (z : ℤ) → Allowed false z → Allowed true z
     up (pos k) l = l
@@ -117,7 +117,7 @@ module _ (text : List ℕ) (at end : ℕ) (low : end < 48) (h : at < length text
       where
         go : (v : ℕ) → n .value ≡ v → v ≢ 0 → r ≡ valueAt (negℤ (pos v)) (n .next) → ValueRead text at end true r
         go zero e w q = absurd (w refl)
-        go (suc v) e w q = subst (λ (x : Value). ValueRead text at end true x) (sym q) record { read = read; each = each }
+        go (suc v) e w q = subst (λ (x : Value). ValueRead text at end true x) (sym q) record { read = read; each = each; none = λ t. clash (sym t) }
           where
             read : true ≡ true → (suc v ≤ most) × (n .next ≡ at + suc (suc (length (digits (suc v))))) × (drop at text ≡ 45 ∷ digits (suc v) ++ (end ∷ drop (n .next) text))
             read t =

@@ -5,7 +5,7 @@ ghost use Prim.Native.Nat.{suc, _-_, _≤_, _<_};
 ghost use lib.Dec.{eqb};
 ghost use lib.ListN.{length, getD};
 ghost use Rattle.text.specs.Text.{most};
-ghost use Rattle.text.specs.Read.{isDigit, hasSign, noNumber, noValue, NumberRead, ValueRead, LineRead, Begins};
+ghost use Rattle.text.specs.Read.{isDigit, hasSign, noNumber, noValue, noLine, NumberRead, ValueRead, LineRead, Begins};
 use crate::Line;
 use crate::MINUS;
 use crate::MOST;
@@ -155,27 +155,37 @@ pub fn read_value(text: &[u8], at: usize, end: u8, signed: bool) -> Value
     read_plain(text, at, end)
 }
 
-// The line from `at` on, with as many values as there is room for.
+fn no_line() -> Line
+    ensures { λ r. ⌜ r ≡ noLine ⌝ }
+{
+    Line {
+        next: 0,
+        found: false,
+    }
+}
+
+// The line from `at` on, with as many values as there is room for. A value is stored only after the rest of the line was found.
 pub fn read_line(text: &[u8], at: usize, signed: bool, values: &mut [i64]) -> Line
     requires { ⌜ at ≤ length (now text) ⌝ }
     ensures { λ r. ⌜ LineRead (now (text .entry)) at signed (now (values .entry)) r (now (values .exit)) ⌝ }
 {
-    let mut next = at;
-    let mut i: usize = 0;
-    while i < values.len() {
-        let r = read_value(text, next, column_end(i, values.len()), signed);
-        if !r.found {
-            return Line {
-                next: 0,
-                found: false,
-            };
-        }
-        let value = r.value;
-        values[i] = value;
-        next = r.next;
-        i += 1;
+    if values.len() == 0 {
+        return Line {
+            next: at,
+            found: true,
+        };
     }
-    Line { next, found: true }
+    let first = read_value(text, at, column_end(0, values.len()), signed);
+    if !first.found {
+        return no_line();
+    }
+    let rest = read_line(text, first.next, signed, &mut values[1..]);
+    if !rest.found {
+        return rest;
+    }
+    let value = first.value;
+    values[0] = value;
+    rest
 }
 
 // The text begins with these bytes.
