@@ -55,6 +55,12 @@ pub no-call-end : NoCall []
 no-call-end c rest a e = absurd (omega (arith, line-min c, ap length e, length-append (callLine c) rest))
 
 -- ── the loop ──
+
+-- what `run_calls` asks
+abbrev pub Asked : (text : List ℕ) (at : ℕ) (out : List ℕ) (to : ℕ) → Type 0
+Asked text at out to = (2 ≤ at) × (at ≤ length text) × (length text ≤ mostText) × (to + 24 ≤ 4 * at) × (outSize ≤ length out)
+
+-- the calls that were made on the block and answered, up to the line at next
 pub record Going (text : List ℕ) (at : ℕ) (b out : List ℕ) (to next end number : ℕ) (b′ out′ : List ℕ) : Type 0 where
   pub calls : List Call
   pub ranges : AllInRange calls
@@ -68,7 +74,7 @@ pub record Going (text : List ℕ) (at : ℕ) (b out : List ℕ) (to next end nu
   pub blockSize : length b′ ≡ length b
   pub size : length out′ ≡ length out
 
-module _ (text : List ℕ) (at : ℕ) (b out : List ℕ) (to : ℕ) (h : (2 ≤ at) × (at ≤ length text) × (length text ≤ mostText) × (to + 24 ≤ 4 * at) × (outSize ≤ length out)) where
+module _ (text : List ℕ) (at : ℕ) (b out : List ℕ) (to : ℕ) (h : Asked text at out to) where
   going-start : Going text at b out to at to 2 b out
   going-start = record { calls = []; ranges = tt; lines = refl; count = refl; block = refl; answers = record { next = omega arith; bytes = sym (put-nil to out) }; within = h .1; room = h .3; few = h .0; blockSize = refl; size = refl }
 
@@ -149,7 +155,7 @@ turns-most : (m : Bool) (n : ℕ) → turns m n ≤ suc n
 turns-most true n = omega arith
 turns-most false n = omega arith
 
-module _ (text : List ℕ) (at : ℕ) (b out : List ℕ) (to : ℕ) (h : (2 ≤ at) × (at ≤ length text) × (length text ≤ mostText) × (to + 24 ≤ 4 * at) × (outSize ≤ length out)) where
+module _ (text : List ℕ) (at : ℕ) (b out : List ℕ) (to : ℕ) (h : Asked text at out to) where
   -- a line was read, and the run goes on where bytes are left
   placed : (next : ℕ) (p : Place) (b′ out′ : List ℕ) → p .more ≡ ltb next (length text) → Going text at b out to next (p .to) (p .number) b′ out′ → Turn text at b out to next p b′ out′
   placed next p b′ out′ m g = record {
@@ -159,8 +165,8 @@ module _ (text : List ℕ) (at : ℕ) (b out : List ℕ) (to : ℕ) (h : (2 ≤ 
     over = λ f. going-end text at b out to h next (p .to) (p .number) b′ out′ g (ltb-false next (length text) (sym m ∙ f));
   }
 
-  pub turn-start : (p : Place) → p ≡ record { to = to; number = 2; more = ltb at (length text) } → Turn text at b out to at p b out
-  turn-start p e = subst (λ (x : Place). Turn text at b out to at x b out) (sym e) (placed at _ b out refl (going-start text at b out to h))
+  pub turn-start : Turn text at b out to at record { to = to; number = 2; more = ltb at (length text) } b out
+  turn-start = placed at _ b out refl (going-start text at b out to h)
 
   module _ (next : ℕ) (p : Place) (b′ out′ : List ℕ) (u : Turn text at b out to next p b′ out′) (m : p .more ≡ true) (r : Row) (c : CallRead text next r) where
     pub turn-asks : Answerable r p (length out′)

@@ -1,7 +1,7 @@
 -- `callfile::run_calls` runs a text line by line through one reader: a walk by hand, with a loop and two calls in each turn. Assumes nothing.
 use mathlib.Core.Path.{_≡_, refl, sym, ap, subst, _∙_}
 use mathlib.Core.WellFounded.{WellFounded, InvImage·wf}
-use Prim.Native.Nat.{ℕ, _+_, _-_, _*_, _≤_, _<_, _^_}
+use Prim.Native.Nat.{ℕ, _-_, _≤_, _<_, _^_}
 use mathlib.Core.List.{List, [], _∷_}
 use lib.Dec.{T as Holds, ltb, lit<}
 use lib.Ieee.Bits.{is-true, is-false}
@@ -48,7 +48,6 @@ use denote.Triple.Table.{entered, cited}
 use denote.Triple.Walked.{says, needs, Stays, stay-slice, stay-none-slice, stay-none, walkOf, AllGo, goes-slice, goes-none-slice, goes-none, Walks, ends-at, walked, walk-meets}
 use denote.Exit.{yes}
 use Rattle.walks.proofs.Parts.{after, head, inside}
-use Rattle.callfile.specs.CallFile.{mostText, outSize}
 use Rattle.callfile.specs.Row.{CallRead, Answerable, RowAnswered, Finished}
 use Rattle.callfile.specs.declared.CallReader.{CallReader}
 use Rattle.callfile.specs.declared.Place.{Place}
@@ -60,7 +59,7 @@ use Rattle.callfile.proofs.Place.Laws as P′
 use Rattle.callfile.proofs.Row as S
 use Rattle.callfile.proofs.Row.Laws as S′
 use Rattle.callfile.proofs.Lends.{cell, own, ref, Ref, tokens, lent, lends, back, bytes, Bytes, bytes-lent, lends-bytes, bytes-back}
-use Rattle.callfile.proofs.Going.{Turn, turns, turn-start, turn-asks, turn-made, Stand}
+use Rattle.callfile.proofs.Going.{Asked, Turn, turns, turn-start, turn-asks, turn-made, Stand}
 use Rattle.callfile.proofs.reader as reader
 use Rattle.callfile.proofs.reader.Symbol as reader-def
 use Rattle.callfile.proofs.reader.Symbol.{name as #callfile·reader}
@@ -108,10 +107,6 @@ module _ {M : Type 1} (𝓤 : URA M) (H : Heap 𝓤) (A : Atoms 𝓤) (mem : Mem
 
   abbrev Answer : Contract 𝓤
   Answer = tripleOf 𝓤 H A answer.signature (answer.spec 𝓤 H A mem run)
-
--- what the function asks
-abbrev Asked : List ℕ → ℕ → List ℕ → ℕ → Type 0
-Asked text n out to = (2 ≤ n) × (n ≤ length text) × (length text ≤ mostText) × (to + 24 ≤ 4 * n) × (outSize ≤ length out)
 
 module _ {M : Type 1} (𝓤 : URA M) (H : Heap 𝓤) (A : Atoms 𝓤) (W : Given 𝓤 H A) (mem : Memory → SProp 𝓤) (run : Routine → Fun 𝓤) (κ κ₁ κ₂ : Lft) (bounds : AllOutlive 3 (f.signature .outlives) (κ, (κ₁, (κ₂, tt)))) (q q₁ q₂ : Share)
     (s : RefT (List ℕ)) (n : ℕ) (n-fits : n < 2 ^ 64) (b₁ o₁ : ℕ) (γ₁ : GName) (ys : List ℕ) (b₂ o₂ : ℕ) (γ₂ : GName) (zs : List ℕ) (to : ℕ) (to-fits : to < 2 ^ 64)
@@ -371,7 +366,7 @@ module _ {M : Type 1} (𝓤 : URA M) (H : Heap 𝓤) (A : Atoms 𝓤) (W : Given
   p₀ = record { to = to; number = 2; more = ltb n size }
 
   abbrev start : St
-  start = (record { next = n; place = p₀; block = ys; output = zs; turn = turn-start (s .now) n ys zs to asked p₀ refl }, LL.owes P.the-type P′.the-laws p₀ ((refl, to-fits), ((refl, lit< tt), (refl, tt))))
+  start = (record { next = n; place = p₀; block = ys; output = zs; turn = turn-start (s .now) n ys zs to asked }, LL.owes P.the-type P′.the-laws p₀ ((refl, to-fits), ((refl, lit< tt), (refl, tt))))
 
   walk : (𝓣 : Tables 𝓤 H) → Triple 𝓤 (𝓣 .C #callfile·reader) (Reader 𝓤 H A mem run) → Triple 𝓤 (𝓣 .C #callfile·read-next) (ReadNext 𝓤 H A mem run) → Triple 𝓤 (𝓣 .C #callfile·answer-row) (Answer 𝓤 H A mem run)
       → ent 𝓤 (onEntry 𝓤 H A f.signature (κ, (κ₁, (κ₂, tt))) (q, (q₁, (q₂, tt))) x at) (WpFn 𝓤 H (𝓣 .C) (𝓣 .Λ) code.function (v ∷ vint w64 n ∷ sliceVal (b₁, o₁) (length ys) ∷ sliceVal (b₂, o₂) (length zs) ∷ vint w64 to ∷ []) Post)
