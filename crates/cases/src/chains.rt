@@ -2,9 +2,6 @@
 use crate::reading;
 use register::Answer;
 
-// The lent buffer has at most this many bytes.
-pub const MOST_BUFFER: u32 = 4096;
-
 // Every byte of the lent buffer before the call.
 const PATTERN: u8 = 170;
 
@@ -44,7 +41,7 @@ fn no_record() -> Record {
     }
 }
 
-// The call by each of its two functions on a lent buffer of `size` bytes. Accepted, an answer is 1 where the chain is right; refused,
+// The call by each of its two functions on a lent buffer of `size` bytes, at most 4,096. Accepted, an answer is 1 where the chain is right; refused,
 // it is 1 where something was written. The first is of the function that counts the links, the others of the one that hands back its
 // part: of the whole buffer, and of the part.
 pub fn judge_call(block: &[u8], giver: u32, receiver: u32, size: usize) -> Answer {
