@@ -26,10 +26,12 @@ copy() {
 
 # edit OLD NEW: puts a text in the place of a line that the copy has once.
 edit() {
-    local places file
-    places="$(grep -rnxF --include='*.rt' -e "$1" "$out/copy/crates")" || return 1
-    test "$(wc -l <<<"$places")" -eq 1 || return 1
-    file="${places%%:*}"
+    local file
+    if [ "$(grep -rhxF --include='*.rt' -e "$1" "$out/copy/crates" | wc -l)" -ne 1 ]; then
+        echo "not one line of the crates is: $1"
+        return 1
+    fi
+    file="$(grep -rlxF --include='*.rt' -e "$1" "$out/copy/crates")" || return 1
     OLD="$1" NEW="$2" awk '{ print ($0 == ENVIRON["OLD"] ? ENVIRON["NEW"] : $0) }' "$file" >"$out/edited" &&
         mv "$out/edited" "$file"
 }
@@ -75,7 +77,7 @@ first='        if blocks.len() > 0 {
         }'
 
 step "no fault" unharmed
-step "chain spoils the byte after its part" found "$end" "$end"$'\n'"$after" '1 0 =' '2 0 ='
-step "a refused chain spoils a byte" found "$end" "$end"$'\n'"$front" '0 0 =' '2 0 ='
+step "chain spoils the byte after its part" found "$end" "$end"$'\n'"$after" '1 1 =' '0 1 ='
+step "a refused chain spoils a byte" found "$end" "$end"$'\n'"$front" '0 0 =' '1 0 ='
 step "a refused list spoils a byte" found "$sized" "$sized"$'\n'"$first" '=' '2180:'
 step "a list does not copy its blocks" found '    copy_slot(blocks, i);' '' '0 1 0 0 2180:' '8 0 0 0 '

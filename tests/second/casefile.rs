@@ -3,10 +3,11 @@
 //! the call file, 6 is open, 7 is chain with its buffer's length as the weight.
 //! BLOCK is `=`, the block as the line before left it, or `LENGTH:BYTES`.
 //! The expected line is `refusal first second third BLOCK`, with `=` if no byte
-//! changed. Chain is called twice, by the function that counts its links and by
-//! the one that hands back its part, each on a fresh buffer: accepted, the first
-//! answer is 1 if the chain counted is right, the second if the one handed back
-//! is; refused, both are 0 if nothing was written.
+//! changed. Chain is called twice, each time on a fresh buffer: by the function
+//! that counts its links, which gives the first answer, and by the one that
+//! hands back its part, which gives the second of the whole buffer afterwards
+//! and the third of the part. Accepted, an answer is 1 if the chain is right;
+//! refused, 0 if nothing was written.
 
 use crate::call::{chain, run, Outcome};
 use crate::callfile::{from_values, joined, read_values, used_only, values_of};
@@ -105,7 +106,7 @@ pub fn left_line(outcome: &Outcome, before: &[u8], after: &[u8]) -> String {
     format!("{} {first} {second} {third} {block}\n", outcome.refusal)
 }
 
-/// The outcome of any call; for chain the first two answers are 1 if it is right.
+/// The outcome of any call; for chain each answer is 1 if it is right.
 pub fn answer(engine: &Engine, n: &Passed, block: &mut [u8]) -> Outcome {
     let n = used_only(n);
     match n.call {
@@ -122,7 +123,7 @@ fn chain_outcome(n: &Passed, block: &[u8]) -> Outcome {
         return Outcome { refusal: written.refusal, answers: [0, 0, 0] };
     }
     let right = rest_kept && judge(block, n.giver, n.receiver, &buffer[..written.filled]).is_ok();
-    Outcome { refusal: 0, answers: [right as i32, right as i32, 0] }
+    Outcome { refusal: 0, answers: [right as i32; 3] }
 }
 
 /// The expected text of a whole case file, or the number of a line that is no case.

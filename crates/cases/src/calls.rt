@@ -16,10 +16,8 @@ pub struct Columns {
     pub is_read: bool,
 }
 
-pub enum Outcome {
-    Answered(Answer),
-    NoSuchCall,
-}
+// What stands for the refusal where there is no such call.
+const NO_CALL: u32 = 99;
 
 pub fn read_columns(text: &[u8], from: usize) -> Columns {
     let call = reading::read_number(text, from, b' ');
@@ -42,33 +40,27 @@ pub fn read_columns(text: &[u8], from: usize) -> Columns {
     }
 }
 
-// One arm for each call of the register, by its number in the files.
-pub fn make(c: Columns, block: &mut [u8]) -> Outcome {
+// One arm for each call of the register, by its number in the files; the chain call's lent buffer has as many bytes as the weight says.
+pub fn make(c: Columns, block: &mut [u8]) -> Answer {
     let call = c.call;
     match call {
-        0 => Outcome::Answered(register::enrol(block, c.need)),
-        1 => Outcome::Answered(register::grant(
-            block,
-            c.giver,
-            c.receiver,
-            c.weight,
-            c.need,
-            c.bar,
-        )),
-        2 => Outcome::Answered(register::revoke(block, c.by, c.giver, c.receiver)),
-        3 => Outcome::Answered(register::downgrade(block, c.by, c.giver, c.receiver, c.weight)),
-        4 => Outcome::Answered(register::reach(block, c.giver, c.receiver)),
-        5 => Outcome::Answered(register::use_right(block, c.receiver)),
-        6 => Outcome::Answered(register::open(block)),
-        7 => make_chain(c, block),
-        _ => Outcome::NoSuchCall,
+        0 => register::enrol(block, c.need),
+        1 => register::grant(block, c.giver, c.receiver, c.weight, c.need, c.bar),
+        2 => register::revoke(block, c.by, c.giver, c.receiver),
+        3 => register::downgrade(block, c.by, c.giver, c.receiver, c.weight),
+        4 => register::reach(block, c.giver, c.receiver),
+        5 => register::use_right(block, c.receiver),
+        6 => register::open(block),
+        7 => chains::judge_call(block, c.giver, c.receiver, c.weight as usize),
+        _ => no_answer(),
     }
 }
 
-// The chain call; its lent buffer has as many bytes as the weight says.
-fn make_chain(c: Columns, block: &[u8]) -> Outcome {
-    if c.weight > chains::MOST_BUFFER {
-        return Outcome::NoSuchCall;
+fn no_answer() -> Answer {
+    Answer {
+        refusal: NO_CALL,
+        first: 0,
+        second: 0,
+        third: 0,
     }
-    Outcome::Answered(chains::judge_call(block, c.giver, c.receiver, c.weight as usize))
 }

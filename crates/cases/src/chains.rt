@@ -2,9 +2,6 @@
 use crate::reading;
 use register::Answer;
 
-// The lent buffer has at most this many bytes.
-pub const MOST_BUFFER: u32 = 4096;
-
 // Every byte of the lent buffer before the call.
 const PATTERN: u8 = 170;
 
@@ -20,6 +17,9 @@ const UNLIMITED: u16 = 255;
 
 // What stands for the limit -1, and for links that are no chain.
 const NO_CHAIN: u16 = 256;
+
+// What stands for the refusal where the two functions tell different ones.
+const DIFFERENT: u32 = 99;
 
 struct Record {
     giver: u8,
@@ -41,8 +41,9 @@ fn no_record() -> Record {
     }
 }
 
-// The call by each of its two functions on a lent buffer of `size` bytes, and what is judged of them: the first answer is of
-// the one that counts the links, the second of the one that hands back its part, 3 where that tells another refusal.
+// The call by each of its two functions on a lent buffer of `size` bytes, at most 4,096. Accepted, an answer is 1 where the chain is right; refused,
+// it is 1 where something was written. The first is of the function that counts the links, the others of the one that hands back its
+// part: of the whole buffer, and of the part.
 pub fn judge_call(block: &[u8], giver: u32, receiver: u32, size: usize) -> Answer {
     let mut buf = [PATTERN; 4096];
     let n = reading::within(size, &buf);
@@ -50,40 +51,45 @@ pub fn judge_call(block: &[u8], giver: u32, receiver: u32, size: usize) -> Answe
     let mut other = [PATTERN; 4096];
     let n = reading::within(size, &other);
     let handed = judge_handed(block, giver, receiver, &mut other[..n]);
-    let second = if handed.refusal == counted.refusal {
-        handed.first
-    } else {
-        3
-    };
     Answer {
-        refusal: counted.refusal,
+        refusal: agreed(counted.refusal, handed.refusal),
         first: counted.first,
-        second: second,
-        third: 0,
+        second: handed.second,
+        third: handed.third,
+    }
+}
+
+// The refusal that both functions tell.
+fn agreed(counted: u32, handed: u32) -> u32 {
+    if counted == handed {
+        counted
+    } else {
+        DIFFERENT
     }
 }
 
 fn judge_counted(block: &[u8], giver: u32, receiver: u32, buf: &mut [u8]) -> Answer {
     let written = chain::write_chain(block, giver, receiver, buf);
-    judge(block, giver, receiver, buf, written.refusal, written.links)
+    Answer {
+        refusal: written.refusal,
+        first: judge(block, giver, receiver, buf, written.refusal, written.links),
+        second: 0,
+        third: 0,
+    }
 }
 
-// The part is judged, and the whole buffer once the part is given back; the first answer is 2 where they differ.
+// The whole buffer is judged once its part is given back.
 fn judge_handed(block: &[u8], giver: u32, receiver: u32, buf: &mut [u8]) -> Answer {
     let mut refusal = 0;
     let part = chain::chain(block, giver, receiver, &mut refusal, buf);
     let links = links_of(part.len());
-    let of_part = judge(block, giver, receiver, part, refusal, links);
-    let of_all = judge(block, giver, receiver, buf, refusal, links);
+    let third = judge(block, giver, receiver, part, refusal, links);
+    let second = judge(block, giver, receiver, buf, refusal, links);
     Answer {
         refusal: refusal,
-        first: if of_part.first == of_all.first {
-            of_all.first
-        } else {
-            2
-        },
-        second: 0,
-        third: 0,
+        first: 0,
+        second: second,
+        third: third,
     }
 }
 
@@ -92,28 +98,15 @@ fn links_of(n: usize) -> usize {
     if n % 2 == 0 { n / 2 } else { MOST_LINKS + 1 }
 }
 
-// Accepted, the first answer is 1 where the chain is right; refused, it is 1 where something was written.
-fn judge(
-    block: &[u8],
-    giver: u32,
-    receiver: u32,
-    buf: &[u8],
-    refusal: u32,
-    links: usize,
-) -> Answer {
+fn judge(block: &[u8], giver: u32, receiver: u32, buf: &[u8], refusal: u32, links: usize) -> i32 {
     if refusal == 0 {
-        return judged(0, is_right(block, giver, receiver, buf, links));
+        return number(is_right(block, giver, receiver, buf, links));
     }
-    judged(refusal, links > 0 || !is_kept(buf, 0))
+    number(links > 0 || !is_kept(buf, 0))
 }
 
-fn judged(refusal: u32, first: bool) -> Answer {
-    Answer {
-        refusal: refusal,
-        first: if first { 1 } else { 0 },
-        second: 0,
-        third: 0,
-    }
+fn number(is_so: bool) -> i32 {
+    if is_so { 1 } else { 0 }
 }
 
 // Whether so many links at the front of the buffer are what the call must write.

@@ -4,7 +4,6 @@ ghost use lib.ListN.{length};
 use crate::blocks;
 use crate::calls;
 use crate::calls::Columns;
-use crate::calls::Outcome;
 use crate::out;
 use crate::reading;
 use register::Answer;
@@ -46,26 +45,18 @@ fn run_line(text: &[u8], from: usize, block: &mut [u8], size: usize) -> Place {
         return nowhere();
     }
     let n = reading::within(read.size, block);
-    if !run_call(columns, &mut block[..n]) {
-        return nowhere();
-    }
+    run_call(columns, &mut block[..n]);
     Place {
         at: end.after,
         size: n,
     }
 }
 
-// Makes the call and prints what comes out; false where there is no such call.
-fn run_call(columns: Columns, block: &mut [u8]) -> bool {
+// Makes the call and prints what comes out.
+fn run_call(columns: Columns, block: &mut [u8]) {
     let before = kept(block);
-    let outcome = calls::make(columns, block);
-    match outcome {
-        Outcome::Answered(answer) => {
-            print_outcome(answer, &before, block);
-            true
-        }
-        Outcome::NoSuchCall => false,
-    }
+    let answer = calls::make(columns, block);
+    print_outcome(answer, &before, block);
 }
 
 // A copy of the block.

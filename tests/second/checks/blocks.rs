@@ -75,7 +75,7 @@ fn calls_on_the_valid_block_are_accepted() {
             let mut block = encode(&broken::valid());
             let outcome = answer(&FAST, &n, &mut block);
             assert_eq!(outcome.refusal, 0, "{n:?}");
-            assert!(call != Call::Chain || outcome.answers == [1, 1, 0]);
+            assert!(call != Call::Chain || outcome.answers == [1, 1, 1]);
         }
     }
 }
