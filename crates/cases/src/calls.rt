@@ -1,6 +1,5 @@
 // The columns of a line, and the register's call that they ask for.
-use crate::chains;
-use crate::reading;
+use casefile::reading;
 use register::Answer;
 
 // The seven numbers of a line, and where the text goes on.
@@ -51,7 +50,7 @@ pub fn make(c: Columns, block: &mut [u8]) -> Answer {
         4 => register::reach(block, c.giver, c.receiver),
         5 => register::use_right(block, c.receiver),
         6 => register::open(block),
-        7 => chains::judge_call(block, c.giver, c.receiver, c.weight as usize),
+        7 => judge::judge_call(block, c.giver, c.receiver, c.weight as usize),
         _ => no_answer(),
     }
 }

@@ -1,14 +1,11 @@
 // Runs the recorded files of data/, which its arguments name, through the register's public calls, and prints what comes out.
-mod blocks;
 mod calls;
-mod chains;
-mod lists;
-mod out;
-mod reading;
 mod run;
 
 ghost use mathlib.Core.Path.{_≡_};
 ghost use lib.ListN.{length};
+use casefile::out;
+use casefile::reading;
 
 // A file of cases or of lists has at most this many bytes.
 const MOST_TEXT: usize = 65536;

@@ -1,12 +1,11 @@
 // Runs the lines of a text, each on the block that it gives or that the line before left.
 ghost use mathlib.Core.Path.{_≡_};
 ghost use lib.ListN.{length};
-use crate::blocks;
 use crate::calls;
 use crate::calls::Columns;
-use crate::out;
-use crate::reading;
-use register::Answer;
+use casefile::blocks;
+use casefile::out;
+use casefile::reading;
 
 // Where the next line begins, 0 where a line cannot be read, and the length of the block that is left.
 struct Place {
@@ -56,7 +55,14 @@ fn run_line(text: &[u8], from: usize, block: &mut [u8], size: usize) -> Place {
 fn run_call(columns: Columns, block: &mut [u8]) {
     let before = kept(block);
     let answer = calls::make(columns, block);
-    print_outcome(answer, &before, block);
+    out::print_outcome(
+        answer.refusal,
+        answer.first,
+        answer.second,
+        answer.third,
+        &before,
+        block,
+    );
 }
 
 // A copy of the block.
@@ -66,33 +72,4 @@ fn kept(block: &[u8]) -> [u8; 4096]
     let mut copy = [0u8; 4096];
     out::put_bytes(&mut copy, 0, block);
     copy
-}
-
-// Prints `refusal first second third BLOCK`.
-pub fn print_outcome(answer: Answer, before: &[u8], block: &[u8]) {
-    print_answer(answer);
-    print_left(before, block);
-    out::print(b"\n");
-}
-
-// The four numbers, and a space after each.
-fn print_answer(answer: Answer) {
-    out::print_number(answer.refusal as u64);
-    out::print(b" ");
-    out::print_signed(answer.first);
-    out::print(b" ");
-    out::print_signed(answer.second);
-    out::print(b" ");
-    out::print_signed(answer.third);
-    out::print(b" ");
-}
-
-// The block that the call left, or `=` if no byte has changed.
-pub fn print_left(before: &[u8], block: &[u8]) {
-    let n = reading::within(block.len(), before);
-    if check::same(&before[..n], block) {
-        out::print(b"=");
-        return;
-    }
-    out::print_block(block);
 }

@@ -1,0 +1,126 @@
+// Writing: to standard output, and into a buffer. A function that writes into a buffer answers where the text goes on; what
+// does not fit is left out.
+use crate::reading;
+use libc::STDOUT_FILENO;
+
+pub fn print(bytes: &[u8]) {
+    io::write_all(STDOUT_FILENO, bytes);
+}
+
+pub fn print_number(n: u64) {
+    io::print_decimal(STDOUT_FILENO, n);
+}
+
+// v where it is not below 0, else -1 - v.
+fn size(v: i32) -> u32 {
+    if v < 0 { (-1 - v) as u32 } else { v as u32 }
+}
+
+pub fn print_signed(v: i32) {
+    let n = size(v) as u64;
+    if v < 0 {
+        print(b"-");
+        print_number(n + 1);
+        return;
+    }
+    print_number(n);
+}
+
+// The length, `:` and the bytes without the zeros at the end.
+pub fn print_block(block: &[u8]) {
+    print_number(block.len() as u64);
+    print(b":");
+    let mut space = [0u8; 8192];
+    let at = put_all_hex(&mut space, block, used(block));
+    let n = reading::within(at, &space);
+    print(&space[..n]);
+}
+
+// How many bytes the block has up to its last that is not zero.
+fn used(block: &[u8]) -> usize {
+    let mut n = block.len();
+    while n > 0 && reading::byte_at(block, n - 1) == 0 {
+        n -= 1;
+    }
+    n
+}
+
+// The first n bytes of the block.
+fn put_all_hex(out: &mut [u8], block: &[u8], n: usize) -> usize {
+    let mut at = 0;
+    let mut i = 0;
+    while i < n {
+        at = put_hex(out, at, reading::byte_at(block, i));
+        i += 1;
+    }
+    at
+}
+
+// A byte of a block: `.` for zero, else two hex digits.
+fn put_hex(out: &mut [u8], at: usize, byte: u8) -> usize {
+    if byte == 0 {
+        return put_byte(out, at, b'.');
+    }
+    let at = put_byte(out, at, hex_digit(byte / 16));
+    put_byte(out, at, hex_digit(byte % 16))
+}
+
+// A lower-case hex digit for a number up to 15.
+fn hex_digit(n: u8) -> u8 {
+    if n < 10 {
+        return b'0' + n;
+    }
+    if n < 16 {
+        return b'a' + (n - 10);
+    }
+    b'?'
+}
+
+pub fn put_byte(out: &mut [u8], at: usize, byte: u8) -> usize {
+    if at >= out.len() {
+        return at;
+    }
+    out[at] = byte;
+    at + 1
+}
+
+pub fn put_bytes(out: &mut [u8], from: usize, bytes: &[u8]) -> usize {
+    let mut at = from;
+    let mut i = 0;
+    while i < bytes.len() {
+        at = put_byte(out, at, bytes[i]);
+        i += 1;
+    }
+    at
+}
+
+// Prints `refusal first second third BLOCK`.
+pub fn print_outcome(
+    refusal: u32,
+    first: i32,
+    second: i32,
+    third: i32,
+    before: &[u8],
+    block: &[u8],
+) {
+    print_number(refusal as u64);
+    print(b" ");
+    print_signed(first);
+    print(b" ");
+    print_signed(second);
+    print(b" ");
+    print_signed(third);
+    print(b" ");
+    print_left(before, block);
+    print(b"\n");
+}
+
+// The block that the call left, or `=` if no byte has changed.
+pub fn print_left(before: &[u8], block: &[u8]) {
+    let n = reading::within(block.len(), before);
+    if check::same(&before[..n], block) {
+        print(b"=");
+        return;
+    }
+    print_block(block);
+}

@@ -1,0 +1,265 @@
+// The chain call, and a judge of the links that it writes: document 01's definition, link by link.
+use casefile::reading;
+use register::Answer;
+
+// Every byte of the lent buffer before the call.
+const PATTERN: u8 = 170;
+
+// No chain has more links: each receiver is another subject.
+const MOST_LINKS: usize = 63;
+
+const MOST_SUBJECT: u32 = 63;
+
+const RECORDS_AT: usize = 132;
+
+// The unlimited weight, which is also the limit at the owner.
+const UNLIMITED: u16 = 255;
+
+// What stands for the limit -1, and for links that are no chain.
+const NO_CHAIN: u16 = 256;
+
+// What stands for the refusal where the two functions tell different ones.
+const DIFFERENT: u32 = 99;
+
+struct Record {
+    giver: u8,
+    receiver: u8,
+    weight: u8,
+    need: u16,
+    bar: u16,
+    is_standing: bool,
+}
+
+fn no_record() -> Record {
+    Record {
+        giver: 0,
+        receiver: 0,
+        weight: 0,
+        need: 0,
+        bar: 0,
+        is_standing: false,
+    }
+}
+
+// The call by each of its two functions on a lent buffer of `size` bytes, at most 4,096. Accepted, an answer is 1 where the chain is right; refused,
+// it is 1 where something was written. The first is of the function that counts the links, the others of the one that hands back its
+// part: of the whole buffer, and of the part.
+pub fn judge_call(block: &[u8], giver: u32, receiver: u32, size: usize) -> Answer {
+    let mut buf = [PATTERN; 4096];
+    let n = reading::within(size, &buf);
+    let counted = judge_counted(block, giver, receiver, &mut buf[..n]);
+    let mut other = [PATTERN; 4096];
+    let n = reading::within(size, &other);
+    let handed = judge_handed(block, giver, receiver, &mut other[..n]);
+    Answer {
+        refusal: agreed(counted.refusal, handed.refusal),
+        first: counted.first,
+        second: handed.second,
+        third: handed.third,
+    }
+}
+
+// The refusal that both functions tell.
+fn agreed(counted: u32, handed: u32) -> u32 {
+    if counted == handed {
+        counted
+    } else {
+        DIFFERENT
+    }
+}
+
+fn judge_counted(block: &[u8], giver: u32, receiver: u32, buf: &mut [u8]) -> Answer {
+    let written = chain::write_chain(block, giver, receiver, buf);
+    Answer {
+        refusal: written.refusal,
+        first: judge(block, giver, receiver, buf, written.refusal, written.links),
+        second: 0,
+        third: 0,
+    }
+}
+
+// The whole buffer is judged once its part is given back.
+fn judge_handed(block: &[u8], giver: u32, receiver: u32, buf: &mut [u8]) -> Answer {
+    let mut refusal = 0;
+    let part = chain::chain(block, giver, receiver, &mut refusal, buf);
+    let links = links_of(part.len());
+    let third = judge(block, giver, receiver, part, refusal, links);
+    let second = judge(block, giver, receiver, buf, refusal, links);
+    Answer {
+        refusal: refusal,
+        first: 0,
+        second: second,
+        third: third,
+    }
+}
+
+// How many links a part of n bytes has: too many where one is half.
+fn links_of(n: usize) -> usize {
+    if n % 2 == 0 { n / 2 } else { MOST_LINKS + 1 }
+}
+
+fn judge(block: &[u8], giver: u32, receiver: u32, buf: &[u8], refusal: u32, links: usize) -> i32 {
+    if refusal == 0 {
+        return number(is_right(block, giver, receiver, buf, links));
+    }
+    number(links > 0 || !is_kept(buf, 0))
+}
+
+fn number(is_so: bool) -> i32 {
+    if is_so { 1 } else { 0 }
+}
+
+// Whether so many links at the front of the buffer are what the call must write.
+fn is_right(block: &[u8], giver: u32, receiver: u32, buf: &[u8], links: usize) -> bool {
+    if giver > MOST_SUBJECT || receiver > MOST_SUBJECT || links > MOST_LINKS {
+        return false;
+    }
+    is_chain(block, giver as u8, receiver as u8, buf, links as u8)
+}
+
+// Whether the first n links are a chain of the standing pair that carries its weight, and the bytes past them are kept.
+fn is_chain(block: &[u8], giver: u8, receiver: u8, buf: &[u8], n: u8) -> bool {
+    let own = standing(block, giver, receiver);
+    if !own.is_standing || end_of(buf, n) != giver {
+        return false;
+    }
+    let limit = limit_of(block, buf, n, marks_of(block, receiver));
+    if limit == NO_CHAIN || limit < own.weight as u16 {
+        return false;
+    }
+    is_kept(buf, 2 * n as usize)
+}
+
+// Whether the bytes from `from` on are as they were before the call.
+fn is_kept(buf: &[u8], from: usize) -> bool {
+    let mut i = from;
+    while i < buf.len() {
+        if buf[i] != PATTERN {
+            return false;
+        }
+        i += 1;
+    }
+    true
+}
+
+// The limit of the first n links for a receiver with these marks, or NO_CHAIN.
+fn limit_of(block: &[u8], buf: &[u8], n: u8, marks: u16) -> u16 {
+    let mut limit = UNLIMITED;
+    let mut i = 0;
+    while i < n {
+        limit = limit_after(block, buf, i, marks, limit);
+        if limit == NO_CHAIN {
+            return NO_CHAIN;
+        }
+        i += 1;
+    }
+    limit
+}
+
+// The limit after link i, where it was `limit` before: NO_CHAIN where the link does not stand, does not go on from the link
+// before it, goes to a subject that is on the chain, or has a condition that the marks do not meet.
+fn limit_after(block: &[u8], buf: &[u8], i: u8, marks: u16, limit: u16) -> u16 {
+    let giver = giver_of(buf, i);
+    let receiver = receiver_of(buf, i);
+    if giver != end_of(buf, i) || is_on(buf, i, receiver) {
+        return NO_CHAIN;
+    }
+    let record = standing(block, giver, receiver);
+    if !record.is_standing || !meets(marks, record.need, record.bar) {
+        return NO_CHAIN;
+    }
+    entry(smaller(limit, record.weight as u16))
+}
+
+// The step table's entry for a weight.
+fn entry(weight: u16) -> u16 {
+    if weight == 0 {
+        return NO_CHAIN;
+    }
+    if weight == UNLIMITED {
+        return UNLIMITED;
+    }
+    weight - 1
+}
+
+fn smaller(a: u16, b: u16) -> u16 {
+    if a < b { a } else { b }
+}
+
+// Whether the marks include all of need and none of bar.
+fn meets(marks: u16, need: u16, bar: u16) -> bool {
+    marks & need == need && marks & bar == 0
+}
+
+// Whether the subject is the owner or the receiver of one of the first n links.
+fn is_on(buf: &[u8], n: u8, subject: u8) -> bool {
+    if subject == 0 {
+        return true;
+    }
+    let mut i = 0;
+    while i < n {
+        if receiver_of(buf, i) == subject {
+            return true;
+        }
+        i += 1;
+    }
+    false
+}
+
+// Where the first n links end: the owner where there is none.
+fn end_of(buf: &[u8], n: u8) -> u8 {
+    if n == 0 {
+        return 0;
+    }
+    receiver_of(buf, n - 1)
+}
+
+fn giver_of(buf: &[u8], i: u8) -> u8 {
+    reading::byte_at(buf, 2 * i as usize)
+}
+
+fn receiver_of(buf: &[u8], i: u8) -> u8 {
+    reading::byte_at(buf, 2 * i as usize + 1)
+}
+
+fn marks_of(block: &[u8], subject: u8) -> u16 {
+    let at = 4 + 2 * subject as usize;
+    both(reading::byte_at(block, at), reading::byte_at(block, at + 1))
+}
+
+// The pair's record among those that the block counts.
+fn standing(block: &[u8], giver: u8, receiver: u8) -> Record {
+    let n = both(reading::byte_at(block, 2), reading::byte_at(block, 3));
+    let mut i = 0;
+    while i < n {
+        let record = record_at(block, i);
+        if record.giver == giver && record.receiver == receiver {
+            return record;
+        }
+        i += 1;
+    }
+    no_record()
+}
+
+fn record_at(block: &[u8], i: u16) -> Record {
+    let at = RECORDS_AT + 8 * i as usize;
+    Record {
+        giver: reading::byte_at(block, at),
+        receiver: reading::byte_at(block, at + 1),
+        weight: reading::byte_at(block, at + 2),
+        need: both(
+            reading::byte_at(block, at + 4),
+            reading::byte_at(block, at + 5),
+        ),
+        bar: both(
+            reading::byte_at(block, at + 6),
+            reading::byte_at(block, at + 7),
+        ),
+        is_standing: true,
+    }
+}
+
+// The number of two bytes.
+fn both(low: u8, high: u8) -> u16 {
+    low as u16 + 256 * high as u16
+}

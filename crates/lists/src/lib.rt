@@ -1,0 +1,178 @@
+// Lists of calls, each made by one call of `replay`. A line is the lengths of its three buffers, the numbers of the list and a full stop.
+ghost use mathlib.Core.Path.{_≡_};
+ghost use lib.ListN.{length};
+use casefile::out;
+use casefile::reading;
+
+const SLOT: usize = 2180;
+
+// A list has at most this many calls.
+const MOST_CALLS: usize = 200;
+
+// What every place of a buffer holds before the call.
+const BYTE: u8 = 170;
+
+const NUMBER: u32 = 77;
+
+const SIGNED: i32 = -7;
+
+// What stands for lengths above those of the buffers.
+const TOO_LONG: u32 = 99;
+
+// The lengths of the list and of the three buffers.
+struct Sizes {
+    numbers: usize,
+    blocks: usize,
+    refusals: usize,
+    answers: usize,
+}
+
+// How many numbers were read, and where the text goes on.
+struct Numbers {
+    count: usize,
+    after: usize,
+}
+
+// Runs every line; false where one cannot be read.
+pub fn run_lines(text: &[u8]) -> bool {
+    let mut at = 0;
+    while at < text.len() {
+        let next = run_line(text, at);
+        if next <= at {
+            return false;
+        }
+        at = next;
+    }
+    true
+}
+
+// Runs the list on the line at `from`; where the next line begins, 0 where this one cannot be read.
+fn run_line(text: &[u8], from: usize) -> usize {
+    let blocks = reading::read_number(text, from, b' ');
+    let refusals = reading::next_column(text, blocks);
+    let answers = reading::next_column(text, refusals);
+    if !answers.is_read {
+        return 0;
+    }
+    let mut numbers = [0u32; 1407];
+    let read = read_numbers(text, answers.after, &mut numbers);
+    let dot = reading::step_over(text, read.after, b'.');
+    let end = reading::step_over(text, dot.after, b'\n');
+    if !dot.is_read || !end.is_read {
+        return 0;
+    }
+    let sizes = Sizes {
+        numbers: read.count,
+        blocks: blocks.value as usize,
+        refusals: refusals.value as usize,
+        answers: answers.value as usize,
+    };
+    run_list(&numbers, sizes);
+    end.after
+}
+
+// Puts the numbers from `from` on, a space after each, into the list.
+fn read_numbers(text: &[u8], from: usize, numbers: &mut [u32]) -> Numbers {
+    let mut at = from;
+    let mut i = 0;
+    while i < numbers.len() {
+        let number = reading::read_number(text, at, b' ');
+        if !number.is_read {
+            break;
+        }
+        numbers[i] = number.value;
+        at = number.after;
+        i += 1;
+    }
+    Numbers {
+        count: i,
+        after: at,
+    }
+}
+
+// Makes the calls and prints what every buffer holds afterwards, a line for each call.
+fn run_list(numbers: &[u32], sizes: Sizes) {
+    let mut blocks = unwritten();
+    let mut refusals = [NUMBER; 200];
+    let mut answers = [SIGNED; 600];
+    let refusal = make(numbers, sizes, &mut blocks, &mut refusals, &mut answers);
+    print_first(refusal, &blocks);
+    print_rows(sizes.numbers / 7, &blocks, &refusals, &answers);
+}
+
+// A slot more than calls.
+fn unwritten() -> [u8; 438180]
+    ensures { λ r. ⌜ 438180 ≡ length r ⌝ }
+{
+    [BYTE; 438180]
+}
+
+// One call of `replay` on the fronts that have these lengths.
+fn make(
+    numbers: &[u32],
+    sizes: Sizes,
+    blocks: &mut [u8],
+    refusals: &mut [u32],
+    answers: &mut [i32],
+) -> u32 {
+    let n = sizes.numbers;
+    let b = sizes.blocks;
+    let r = sizes.refusals;
+    let a = sizes.answers;
+    if n > numbers.len() || b > blocks.len() || r > refusals.len() || a > answers.len() {
+        return TOO_LONG;
+    }
+    replay::replay(
+        &numbers[..n],
+        &mut blocks[..b],
+        &mut refusals[..r],
+        &mut answers[..a],
+    )
+}
+
+// Prints the refusal and slot 0, `=` where it was not written.
+fn print_first(refusal: u32, blocks: &[u8]) {
+    let before = [BYTE; SLOT];
+    out::print_number(refusal as u64);
+    out::print(b" ");
+    let n = reading::within(SLOT, blocks);
+    out::print_left(&before, &blocks[..n]);
+    out::print(b"\n");
+}
+
+fn print_rows(n: usize, blocks: &[u8], refusals: &[u32], answers: &[i32]) {
+    let mut i = 0;
+    while i < n {
+        print_row(i, blocks, refusals, answers);
+        i += 1;
+    }
+}
+
+// What is kept of call `i`: its answer, and its slot, `=` where that is the slot before.
+fn print_row(i: usize, blocks: &[u8], refusals: &[u32], answers: &[i32]) {
+    if i >= MOST_CALLS {
+        return;
+    }
+    let from = SLOT * i;
+    let to = from + SLOT;
+    let end = to + SLOT;
+    if end > blocks.len() {
+        return;
+    }
+    out::print_outcome(
+        number_at(refusals, i),
+        signed_at(answers, 3 * i),
+        signed_at(answers, 3 * i + 1),
+        signed_at(answers, 3 * i + 2),
+        &blocks[from..to],
+        &blocks[to..end],
+    );
+}
+
+fn number_at(numbers: &[u32], i: usize) -> u32 {
+    if i < numbers.len() { numbers[i] } else { 0 }
+}
+
+fn signed_at(numbers: &[i32], i: usize) -> i32 {
+    if i < numbers.len() { numbers[i] } else { 0 }
+}
