@@ -36,7 +36,7 @@ edit() {
         mv "$out/edited" "$file"
 }
 
-# The program, compiled in three ways: as many lines as that say the same.
+# Runs the copy's program, compiled in three ways.
 try() {
     (cd "$out/copy" && rt try cases) >"$out/run" 2>&1
     local status=$?
@@ -44,6 +44,7 @@ try() {
     return "$status"
 }
 
+# Each of the three runs says so.
 says() {
     test "$(grep -cF -e "$1" "$out/run")" -eq 3
 }

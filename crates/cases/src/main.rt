@@ -29,13 +29,13 @@ fn run_argument(i: usize) {
     }
 }
 
-// Reads one byte more than a text may have.
+// Reads more than a text may have.
 fn run_file(name: &[u8]) -> bool {
     let fd = os::open_read(name);
     if fd < 0 {
         return false;
     }
-    let mut space = [0u8; 65537];
+    let mut space = zeros();
     let got = io::read_full(fd, &mut space);
     libc::close(fd);
     run_text(reading::byte_at(name, 0), &space[..got])
@@ -59,14 +59,14 @@ fn run_text(kind: u8, text: &[u8]) -> bool {
 
 // What the program prints for a call file.
 fn print_calls(text: &[u8]) {
-    let mut space = output();
+    let mut space = zeros();
     let length = run_calls(text, &mut space);
     let n = reading::within(length, &space);
     out::print(&space[..n]);
 }
 
 // The `ensures` hides the bytes, so that no caller's proof computes them.
-fn output() -> [u8; 262144]
+fn zeros() -> [u8; 262144]
     ensures { λ r. ⌜ 262144 ≡ length r ⌝ }
 {
     [0; 262144]

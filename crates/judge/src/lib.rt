@@ -41,9 +41,9 @@ fn no_record() -> Record {
     }
 }
 
-// The call by each of its two functions on a lent buffer of `size` bytes, at most 4,096. Accepted, an answer is 1 where the chain is right; refused,
-// it is 1 where something was written. The first is of the function that counts the links, the others of the one that hands back its
-// part: of the whole buffer, and of the part.
+// The call by each of its two functions, each on a lent buffer of `size` bytes, at most 4,096. Accepted, an answer is 1 where
+// the chain is right; refused, it is 1 where something was written. The first is of the function that counts the links, the
+// others are of the one that hands back its part: the second of the whole buffer, the third of the part.
 pub fn judge_call(block: &[u8], giver: u32, receiver: u32, size: usize) -> Answer {
     let mut buf = [PATTERN; 4096];
     let n = reading::within(size, &buf);
