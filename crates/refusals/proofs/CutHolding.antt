@@ -12,7 +12,7 @@ use Rattle.rules.specs.Pair.{isPair, weightAt, stands}
 use Rattle.rules.specs.Call.{revoke, downgrade}
 use Rattle.rules.specs.Refusal.{firstOf, held, notBelow}
 use Rattle.rules.proofs.Lists.{not-not, T-true}
-use Rattle.rules.proofs.Refusals.{numbered, firstOf-none, firstOf-some, firstOf-passes}
+use Rattle.rules.proofs.Refusals.{numbered, firstOf-none, firstOf-some, passes-of}
 use Rattle.block.specs.Bytes.{IsBytes, leading}
 use Rattle.block.specs.Block.{subjectsIn, countIn, decode}
 use Rattle.block.specs.WellFormed.{wellFormed}
@@ -29,7 +29,7 @@ module _ (t : List ℤ) (R : Register) (y g r : ℕ) where
   -- the pair of a revocation that is not refused stands
   pub revoke-stands : firstOf (held t R (revoke y g r)) ≡ 0 → stands R g r ≡ true
   unfolding held
-  revoke-stands e = let p = firstOf-passes (held t R (revoke y g r)) tt e in T-true (stands R g r) (not-not (stands R g r) (p .1 .0))
+  revoke-stands e = let p = passes-of (held t R (revoke y g r)) tt e in T-true (stands R g r) (not-not (stands R g r) (p 13))
 
   module _ (w : ℕ) where
     downgrade-list : held t R (downgrade y g r w) ≡ held t R (revoke y g r) ++ (notBelow R g r w ∷ [])
@@ -44,7 +44,7 @@ module _ (t : List ℤ) (R : Register) (y g r : ℕ) where
 
     pub downgrade-stands : firstOf (held t R (downgrade y g r w)) ≡ 0 → stands R g r ≡ true
     unfolding held
-    downgrade-stands e = let p = firstOf-passes (held t R (downgrade y g r w)) tt e in T-true (stands R g r) (not-not (stands R g r) (p .1 .0))
+    downgrade-stands e = let p = passes-of (held t R (downgrade y g r w)) tt e in T-true (stands R g r) (not-not (stands R g r) (p 13))
 
 -- ── on a block ──
 module _ (t : List ℤ) (b : List ℕ) (bytes : IsBytes b) (formed : wellFormed b ≡ true) (y g r : ℕ) where

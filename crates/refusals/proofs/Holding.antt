@@ -19,7 +19,7 @@ use Rattle.rules.specs.Pair.{isPair, weightAt, stands}
 use Rattle.rules.specs.Call.{grant, granted}
 use Rattle.rules.specs.Refusal.{firstOf, held}
 use Rattle.rules.proofs.Lists.{either, getD-tabulate}
-use Rattle.rules.proofs.Refusals.{firstOf-passes}
+use Rattle.rules.proofs.Refusals.{passes-of}
 use Rattle.block.specs.Bytes.{IsBytes, leading}
 use Rattle.block.specs.Block.{subjectsIn, countIn, decode}
 use Rattle.block.specs.WellFormed.{wellFormed}
@@ -90,5 +90,5 @@ module _ (t : List ℤ) (b : List ℕ) (bytes : IsBytes b) (formed : wellFormed 
 pub grant-room : (t : List ℤ) (b : List ℕ) (bytes : IsBytes b) (formed : wellFormed b ≡ true) (g r w n m : ℕ) → firstOf (held t (decode b) (grant g r w n m)) ≡ 0 → countIn b < 256
 unfolding held
 grant-room t b bytes formed g r w n m e =
-    let p = firstOf-passes (held t (decode b) (grant g r w n m)) tt e in
-    subst (λ (k : ℕ). k < 256) (count-held b bytes formed) (nleb→lt 256 (length (decode b .delegations)) (p .1 .1 .0))
+    let p = passes-of (held t (decode b) (grant g r w n m)) tt e in
+    subst (λ (k : ℕ). k < 256) (count-held b bytes formed) (nleb→lt 256 (length (decode b .delegations)) (p 12))

@@ -9,7 +9,7 @@ use Rattle.rules.specs.List.{any}
 use Rattle.rules.specs.Call.{Call, enrol, grant, revoke, downgrade, askReach, askUse}
 use Rattle.rules.specs.Refusal.{firstOf, passed}
 use Rattle.rules.proofs.Lists.{not-or-left, not-or-right}
-use Rattle.rules.proofs.Refusals.{Passes, firstOf-passes, passed-numbered}
+use Rattle.rules.proofs.Refusals.{Passes, passes-of, passed-numbered}
 
 abbrev pub Subjects : List ℕ → Type 0
 Subjects [] = Unit {0}
@@ -30,14 +30,14 @@ subjects (x ∷ xs) h = (nltb→le 63 x (not-or-left (ltb 63 x) (any (λ y. ltb 
 
 passes-within : (c : Call) → Passes (passed c) → Within c
 unfolding passed
-passes-within (enrol m) p = nltb→le 65535 m (p .0)
+passes-within (enrol m) p = nltb→le 65535 m (p 4)
 passes-within (grant g r w n m) p =
-    let masks = not-or-left (ltb 65535 n || ltb 65535 m) (not (eqb (bitAnd n m) 0)) (p .1 .1 .0) in
-    (subjects (g ∷ r ∷ []) (p .0), nltb→le 255 w (p .1 .0), nltb→le 65535 n (not-or-left (ltb 65535 n) (ltb 65535 m) masks), nltb→le 65535 m (not-or-right (ltb 65535 n) (ltb 65535 m) masks))
-passes-within (revoke y g r) p = subjects (y ∷ g ∷ r ∷ []) (p .0)
-passes-within (downgrade y g r w) p = (subjects (y ∷ g ∷ r ∷ []) (p .0), nltb→le 255 w (p .1 .0))
-passes-within (askReach g r) p = subjects (g ∷ r ∷ []) (p .0)
-passes-within (askUse r) p = subjects (r ∷ []) (p .0)
+    let masks = not-or-left (ltb 65535 n || ltb 65535 m) (not (eqb (bitAnd n m) 0)) (p 4) in
+    (subjects (g ∷ r ∷ []) (p 2), nltb→le 255 w (p 3), nltb→le 65535 n (not-or-left (ltb 65535 n) (ltb 65535 m) masks), nltb→le 65535 m (not-or-right (ltb 65535 n) (ltb 65535 m) masks))
+passes-within (revoke y g r) p = subjects (y ∷ g ∷ r ∷ []) (p 2)
+passes-within (downgrade y g r w) p = (subjects (y ∷ g ∷ r ∷ []) (p 2), nltb→le 255 w (p 3))
+passes-within (askReach g r) p = subjects (g ∷ r ∷ []) (p 2)
+passes-within (askUse r) p = subjects (r ∷ []) (p 2)
 
 pub within : (c : Call) → firstOf (passed c) ≡ 0 → Within c
-within c e = passes-within c (firstOf-passes (passed c) (passed-numbered c) e)
+within c e = passes-within c (passes-of (passed c) (passed-numbered c) e)

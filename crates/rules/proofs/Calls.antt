@@ -129,24 +129,24 @@ cut-formed t C f = settles-formed t (settle t C .changed) C (settle t C .left) (
 
 accepted-formed : (t : List ℤ) (R : Register) (c : Call) → Passes (passed c ++ held t R c) → WellFormed R → WellFormed (accepted t R c .left)
 unfolding accepted passed held
-accepted-formed t R (enrol m) p f = enrol-formed R m (nltb→le 65535 m (p .0)) (nleb→lt 64 (R .subjects) (p .1 .0)) f
+accepted-formed t R (enrol m) p f = enrol-formed R m (nltb→le 65535 m (p 4)) (nleb→lt 64 (R .subjects) (p 10)) f
 accepted-formed t R (grant g r w n b) p f =
     insert-formed R (granted g r w n b) record {
-      giver = nleb→lt (R .subjects) g (not-or-left (leb (R .subjects) g) (leb (R .subjects) r || false) (p .1 .1 .1 .1 .1 .0));
-      receiver = nleb→lt (R .subjects) r (not-or-left (leb (R .subjects) r) false (not-or-right (leb (R .subjects) g) (leb (R .subjects) r || false) (p .1 .1 .1 .1 .1 .0)));
-      differ = test-ne g r (p .1 .1 .1 .0);
-      notOwner = test-ne r 0 (p .1 .1 .1 .1 .0);
-      weight = nltb→le 255 w (p .1 .0);
+      giver = nleb→lt (R .subjects) g (not-or-left (leb (R .subjects) g) (leb (R .subjects) r || false) (p 9));
+      receiver = nleb→lt (R .subjects) r (not-or-left (leb (R .subjects) r) false (not-or-right (leb (R .subjects) g) (leb (R .subjects) r || false) (p 9)));
+      differ = test-ne g r (p 5);
+      notOwner = test-ne r 0 (p 6);
+      weight = nltb→le 255 w (p 3);
       need = nltb→le 65535 n (not-or-left (ltb 65535 n) (ltb 65535 b) masks);
       bar = nltb→le 65535 b (not-or-right (ltb 65535 n) (ltb 65535 b) masks);
-      disjoint = eqb→eq (bitAnd n b) 0 (not-not (eqb (bitAnd n b) 0) (not-or-right (ltb 65535 n || ltb 65535 b) (not (eqb (bitAnd n b) 0)) (p .1 .1 .0)));
+      disjoint = eqb→eq (bitAnd n b) 0 (not-not (eqb (bitAnd n b) 0) (not-or-right (ltb 65535 n || ltb 65535 b) (not (eqb (bitAnd n b) 0)) (p 4)));
     }
-    (nleb→lt 256 (length (R .delegations)) (p .1 .1 .1 .1 .1 .1 .1 .0)) (none-stands R g r (p .1 .1 .1 .1 .1 .1 .0)) f
+    (nleb→lt 256 (length (R .delegations)) (p 12)) (none-stands R g r (p 11)) f
   where
     masks : T (not (ltb 65535 n || ltb 65535 b))
-    masks = not-or-left (ltb 65535 n || ltb 65535 b) (not (eqb (bitAnd n b) 0)) (p .1 .1 .0)
+    masks = not-or-left (ltb 65535 n || ltb 65535 b) (not (eqb (bitAnd n b) 0)) (p 4)
 accepted-formed t R (revoke y g r) p f = cut-formed t (named R (removal g r)) (removed-formed R g r f)
-accepted-formed t R (downgrade y g r w) p f = cut-formed t (named R (lowering g r w)) (lowered-formed R g r w (nltb→le 255 w (p .1 .0)) f)
+accepted-formed t R (downgrade y g r w) p f = cut-formed t (named R (lowering g r w)) (lowered-formed R g r w (nltb→le 255 w (p 3)) f)
 accepted-formed t R (askReach g r) p f = f
 accepted-formed t R (askUse r) p f = f
 
@@ -188,7 +188,7 @@ module _ (t : List ℤ) (rule : TableRule t) where
   accepted-supported R (enrol m) p f s = enrol-supported R m f s
   accepted-supported R (grant g r w n b) p f s =
       let d = granted g r w n b in
-      insert-supported R d (nltb→le (code (allowed t R d)) (suc w) (not-or-left (ltb (code (allowed t R d)) (suc w)) false (p .1 .1 .1 .1 .1 .1 .1 .1 .0))) s
+      insert-supported R d (nltb→le (code (allowed t R d)) (suc w) (not-or-left (ltb (code (allowed t R d)) (suc w)) false (p 16))) s
   accepted-supported R (revoke y g r) p f s = cut-supported (named R (removal g r))
   accepted-supported R (downgrade y g r w) p f s = cut-supported (named R (lowering g r w))
   accepted-supported R (askReach g r) p f s = s

@@ -88,13 +88,13 @@ use-range false = (0, refl, zero-le, zero-le)
 
 accepted-range : (t : List ℤ) → TableRule t → (R : Register) (c : Call) → Passes (passed c ++ held t R c) → WellFormed R → let o = accepted t R c in InRange c (o .first) (o .second) (o .third)
 unfolding accepted passed held
-accepted-range t rule R (enrol m) p f = ((R .subjects, refl, f .some, omega (arith, nleb→lt 64 (R .subjects) (p .1 .0))), refl, refl)
+accepted-range t rule R (enrol m) p f = ((R .subjects, refl, f .some, omega (arith, nleb→lt 64 (R .subjects) (p 10))), refl, refl)
 accepted-range t rule R (grant g r w n b) p f =
     let e = insert-length (granted g r w n b) (R .delegations) in
-    ((_, refl, omega (arith, e), omega (arith, e, nleb→lt 256 (length (R .delegations)) (p .1 .1 .1 .1 .1 .1 .1 .0))), refl, refl)
-accepted-range t rule R (revoke y g r) p f = cut-range t (named R (removal g r)) (removed-formed R g r f) (rounds-below t rule R (removal g r) f (not-not (stands R g r) (p .1 .1 .1 .1 .0)))
+    ((_, refl, omega (arith, e), omega (arith, e, nleb→lt 256 (length (R .delegations)) (p 12))), refl, refl)
+accepted-range t rule R (revoke y g r) p f = cut-range t (named R (removal g r)) (removed-formed R g r f) (rounds-below t rule R (removal g r) f (not-not (stands R g r) (p 13)))
 accepted-range t rule R (downgrade y g r w) p f =
-    cut-range t (named R (lowering g r w)) (lowered-formed R g r w (nltb→le 255 w (p .1 .0)) f) (rounds-below t rule R (lowering g r w) f (nleb→lt (code (weightAt (R .delegations) g r)) (suc w) (p .1 .1 .1 .1 .1 .1 .1 .0)))
+    cut-range t (named R (lowering g r w)) (lowered-formed R g r w (nltb→le 255 w (p 3)) f) (rounds-below t rule R (lowering g r w) f (nleb→lt (code (weightAt (R .delegations) g r)) (suc w) (p 15)))
 accepted-range t rule R (askReach g r) p f = let (a, b) = reach-range t rule R g r in (a, b, refl, refl)
 accepted-range t rule R (askUse r) p f = (use-range (eqb r 0 || receives r (R .delegations)), refl, refl)
 

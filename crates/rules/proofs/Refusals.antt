@@ -13,10 +13,14 @@ use Rattle.rules.specs.Call.{Call, enrol, grant, revoke, downgrade, askR
 use Rattle.rules.specs.Refusal.{firstOf, passed, held, refusalOf}
 use Rattle.rules.proofs.Lists.{T-left, T-right}
 
--- no test of the list applies
+-- the test that has the number n, the first of them if there are several; false if there is none
+abbrev pub testOf : ℕ → List (ℕ × Bool) → Bool
+testOf n [] = false
+testOf n (p ∷ ps) = cond (eqb (p .0) n) (p .1) (testOf n ps)
+
+-- no test of the list applies: a test is looked up by its number
 abbrev pub Passes : List (ℕ × Bool) → Type 0
-Passes [] = Unit {0}
-Passes (p ∷ ps) = T (not (p .1)) × Passes ps
+Passes ps = (n : ℕ) → T (not (testOf n ps))
 
 -- every number is above 0
 abbrev pub numbered : List (ℕ × Bool) → Bool
@@ -42,22 +46,23 @@ firstOf-none ps qs h e = firstOf-append ps qs h ∙ rw (eq-eqb (firstOf ps) 0 e)
 pub firstOf-some : (ps qs : List (ℕ × Bool)) (n : ℕ) → T (numbered ps) → firstOf ps ≡ n → n ≢ 0 → firstOf (ps ++ qs) ≡ n
 firstOf-some ps qs n h e k = firstOf-append ps qs h ∙ rw (e, ne-eqb n 0 k)
 
-pub firstOf-passes : (ps : List (ℕ × Bool)) → T (numbered ps) → firstOf ps ≡ 0 → Passes ps
-firstOf-passes [] h e = tt
-firstOf-passes (p ∷ ps) h e = go (p .1) (firstOf-passes ps (T-right (ltb 0 (p .0)) (numbered ps) h)) e
+pub passes-of : (ps : List (ℕ × Bool)) → T (numbered ps) → firstOf ps ≡ 0 → Passes ps
+passes-of [] h e n = tt
+passes-of (p ∷ ps) h e n = go (p .1) (eqb (p .0) n) (passes-of ps (T-right (ltb 0 (p .0)) (numbered ps) h)) e
   where
-    go : (b : Bool) → (firstOf ps ≡ 0 → Passes ps) → cond b (p .0) (firstOf ps) ≡ 0 → T (not b) × Passes ps
-    go true f q = absurd (omega (arith, ltb→lt 0 (p .0) (T-left (ltb 0 (p .0)) (numbered ps) h)))
-    go false f q = (tt, f q)
+    go : (b here : Bool) → (firstOf ps ≡ 0 → Passes ps) → cond b (p .0) (firstOf ps) ≡ 0 → T (not (cond here b (testOf n ps)))
+    go true here f q = absurd (omega (arith, ltb→lt 0 (p .0) (T-left (ltb 0 (p .0)) (numbered ps) h)))
+    go false true f q = tt
+    go false false f q = f q n
 
 pub passes : (t : List ℤ) (R : Register) (c : Call) → refusalOf t R c ≡ 0 → Passes (passed c ++ held t R c)
 unfolding refusalOf passed held
-passes t R (enrol m) e = firstOf-passes (passed (enrol m) ++ held t R (enrol m)) tt e
-passes t R (grant g r w n b) e = firstOf-passes (passed (grant g r w n b) ++ held t R (grant g r w n b)) tt e
-passes t R (revoke y g r) e = firstOf-passes (passed (revoke y g r) ++ held t R (revoke y g r)) tt e
-passes t R (downgrade y g r w) e = firstOf-passes (passed (downgrade y g r w) ++ held t R (downgrade y g r w)) tt e
-passes t R (askReach g r) e = firstOf-passes (passed (askReach g r) ++ held t R (askReach g r)) tt e
-passes t R (askUse r) e = firstOf-passes (passed (askUse r) ++ held t R (askUse r)) tt e
+passes t R (enrol m) e = passes-of (passed (enrol m) ++ held t R (enrol m)) tt e
+passes t R (grant g r w n b) e = passes-of (passed (grant g r w n b) ++ held t R (grant g r w n b)) tt e
+passes t R (revoke y g r) e = passes-of (passed (revoke y g r) ++ held t R (revoke y g r)) tt e
+passes t R (downgrade y g r w) e = passes-of (passed (downgrade y g r w) ++ held t R (downgrade y g r w)) tt e
+passes t R (askReach g r) e = passes-of (passed (askReach g r) ++ held t R (askReach g r)) tt e
+passes t R (askUse r) e = passes-of (passed (askUse r) ++ held t R (askUse r)) tt e
 
 pub passed-numbered : (c : Call) → T (numbered (passed c))
 unfolding passed
