@@ -13,8 +13,22 @@ ghost use Rattle.rules.specs.Refusal.{firstOf};
 ghost use Rattle.block.specs.Block.{subjectsIn, decode};
 ghost use Rattle.block.specs.WellFormed.{wellFormed};
 ghost use Rattle.refusals.specs.Early.{wrongLength, notWellFormed};
+ghost use Rattle.refusals.specs.Joined.{orElse};
 use block::layout;
 use rules::refusal;
+
+// `n`, or, where that is 0, the number of a test that applies.
+fn tested(n: u32, number: u32, applies: bool) -> u32
+    ensures { λ r. ⌜ r ≡ orElse n (number, applies) ⌝ }
+{
+    if n != 0 {
+        return n;
+    }
+    if applies {
+        return number;
+    }
+    0
+}
 
 // The first that applies of 1, the refusal by what was passed, which is `number` or 0 where there is none, and 8; or 0.
 pub fn early(block: &[u8], number: u32) -> u32
