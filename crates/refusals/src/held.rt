@@ -9,8 +9,8 @@ ghost use lib.Signed.{ltZ};
 ghost use Rattle.rules.specs.Table.{steps};
 ghost use Rattle.rules.specs.Reach.{reach};
 ghost use Rattle.rules.specs.Pair.{stands};
-ghost use Rattle.rules.specs.Call.{grant, revoke, downgrade};
-ghost use Rattle.rules.specs.Refusal.{firstOf, notEnrolled, allStand, mayNot, notBelow, held};
+ghost use Rattle.rules.specs.Call.{grant, revoke, downgrade, askReach};
+ghost use Rattle.rules.specs.Refusal.{firstOf, notEnrolled, allEnrolled, allStand, mayNot, notBelow, held};
 ghost use Rattle.block.specs.Block.{subjectsIn, decode};
 ghost use Rattle.block.specs.WellFormed.{wellFormed};
 ghost use Rattle.refusals.specs.Joined.{orElse};
@@ -41,7 +41,7 @@ fn stands(block: &[u8], giver: u32, receiver: u32) -> bool
 }
 
 // 9: a subject is not enrolled.
-fn not_enrolled(n: u32, block: &[u8], subject: u32) -> u32
+pub fn not_enrolled(n: u32, block: &[u8], subject: u32) -> u32
     requires { ⌜ wellFormed (now block) ≡ true ⌝ }
     ensures { λ r. ⌜ r ≡ orElse n (notEnrolled (decode (now (block .entry))) (subject ∷ [])) ⌝ }
 {
@@ -49,6 +49,18 @@ fn not_enrolled(n: u32, block: &[u8], subject: u32) -> u32
         n,
         refusal::NOT_ENROLLED,
         subject >= block::subjects(block) as u32,
+    )
+}
+
+// 10: 64 subjects enrolled.
+pub fn all_enrolled(n: u32, block: &[u8]) -> u32
+    requires { ⌜ wellFormed (now block) ≡ true ⌝ }
+    ensures { λ r. ⌜ r ≡ orElse n (allEnrolled (decode (now (block .entry)))) ⌝ }
+{
+    tested(
+        n,
+        refusal::ALL_ENROLLED,
+        block::subjects(block) >= layout::MOST_SUBJECTS,
     )
 }
 
@@ -104,6 +116,15 @@ fn overweight(n: u32, block: &[u8], giver: u32, receiver: u32, weight: u32) -> u
         refusal::OVERWEIGHT,
         reach_of(block, giver as usize, receiver as usize) < weight as i16,
     )
+}
+
+// Of a reach.
+pub fn reach_held(block: &[u8], giver: u32, receiver: u32) -> u32
+    requires { ⌜ wellFormed (now block) ≡ true ⌝ }
+    ensures { λ r. ⌜ r ≡ firstOf (held steps (decode (now (block .entry))) (askReach giver receiver)) ⌝ }
+{
+    let n = not_enrolled(0, block, giver);
+    not_enrolled(n, block, receiver)
 }
 
 // Of a grant.

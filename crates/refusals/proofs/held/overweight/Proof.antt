@@ -1,7 +1,5 @@
 -- `refusals::overweight` joins the test of 16, which searches only where no test before applies. Assumes nothing.
 use borrow.Author.Needs.{needs}
-use mathlib.Core.Path.{sym, ap, _∙_}
-use mathlib.Core.Bool.{Bool}
 use native.Mathlib.Omega.{arith}
 use borrow.Author.Tests.{eq-eqb, ne-eqb}
 use mir.Syntax.{w16}
