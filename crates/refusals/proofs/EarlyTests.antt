@@ -1,5 +1,6 @@
--- The refusals of a call that come before those by what the register holds: 1, those by what was passed, 8. Assumes nothing.
+-- The refusals of a call that come before those by what the register holds: 1, those by what was passed, 8; and the whole refusal. Assumes nothing.
 use mathlib.Core.Path.{_≡_, refl, sym, ap, subst, _∙_}
+use mathlib.Core.Logic.{_≢_, _⊎_, inl, inr}
 use mathlib.Core.Bool.{Bool, true, false, not, cond}
 use mathlib.Core.List.{List, [], _∷_}
 use Prim.Native.Nat.{ℕ}
@@ -7,11 +8,14 @@ use native.Mathlib.Omega.{arith}
 use borrow.Author.Tests.{eq-eqb}
 use lib.Dec.{T, eqb, eqb→eq}
 use lib.ListN.{length}
-use Rattle.rules.specs.Call.{Call}
-use Rattle.rules.specs.Refusal.{firstOf, passed}
-use Rattle.rules.proofs.Refusals.{passed-numbered, firstOf-append}
+use lib.IntN.{ℤ}
+use Rattle.rules.specs.Call.{Call, enrol, grant, revoke, downgrade, askReach, askUse}
+use Rattle.rules.specs.Refusal.{firstOf, passed, held}
+use Rattle.rules.proofs.Refusals.{numbered, passed-numbered, firstOf-append, firstOf-none, firstOf-some}
+use Rattle.rules.proofs.Lists.{eqOr}
+use Rattle.block.specs.Block.{decode}
 use Rattle.block.specs.WellFormed.{wellFormed}
-use Rattle.refusals.specs.Early.{wrongLength, notWellFormed, early}
+use Rattle.refusals.specs.Early.{wrongLength, notWellFormed, early, refusalOn}
 
 -- none of them applies
 pub record Early (b : List ℕ) (c : Call) : Type 0 where
@@ -55,3 +59,34 @@ module _ (b : List ℕ) (c : Call) where
 
     pub past-early : n ≡ 0 → Early b c
     past-early z = early-none (early-found ∙ z)
+
+-- ── the whole refusal ──
+early-numbered : (b : List ℕ) (c : Call) → T (numbered (early b c))
+unfolding passed
+early-numbered b (enrol m) = tt
+early-numbered b (grant g r w n m) = tt
+early-numbered b (revoke y g r) = tt
+early-numbered b (downgrade y g r w) = tt
+early-numbered b (askReach g r) = tt
+early-numbered b (askUse r) = tt
+
+-- no refusal applies
+pub record Through (t : List ℤ) (b : List ℕ) (c : Call) : Type 0 where
+  pub early : Early b c
+  pub held : firstOf (held t (decode b) c) ≡ 0
+
+module _ (t : List ℤ) (b : List ℕ) (c : Call) where
+  pub refused-early : (n : ℕ) → firstOf (early b c) ≡ n → n ≢ 0 → n ≡ refusalOn t b c
+  unfolding refusalOn
+  refused-early n e k = sym (firstOf-some (early b c) (held t (decode b) c) n (early-numbered b c) e k)
+
+  pub refused-held : Early b c → refusalOn t b c ≡ firstOf (held t (decode b) c)
+  unfolding refusalOn
+  refused-held h = firstOf-none (early b c) (held t (decode b) c) (early-numbered b c) (none-early b c h)
+
+  pub through : refusalOn t b c ≡ 0 → Through t b c
+  through z = go (eqOr (firstOf (early b c)) 0)
+    where
+      go : (firstOf (early b c) ≡ 0) ⊎ (firstOf (early b c) ≢ 0) → Through t b c
+      go (inl e) = let h = early-none b c e in record { early = h; held = sym (refused-held h) ∙ z }
+      go (inr k) = absurd (k (refused-early (firstOf (early b c)) refl k ∙ z))

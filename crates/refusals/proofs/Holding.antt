@@ -1,30 +1,30 @@
 -- Refusals by what the register holds, test by test as the code makes them. Assumes nothing.
 use mathlib.Core.Path.{_≡_, refl, sym, ap, subst, _∙_}
 use mathlib.Core.Logic.{_⊎_, inl, inr}
-use mathlib.Core.Bool.{Bool, true, false, cond, not, _||_}
+use mathlib.Core.Bool.{Bool, true, false, not, _||_}
 use mathlib.Core.List.{List}
-use Prim.Native.Nat.{ℕ, suc, _<_}
+use Prim.Native.Nat.{ℕ, suc, _≤_, _<_}
 use native.Mathlib.Nat.{zero-add}
 use native.Mathlib.Omega.{arith}
 use borrow.Author.Tests.{leb-false, lt-ltb, le-ltb, le-leb, lt-leb}
-use lib.Dec.{T, leb, ltb, leb→le, nleb→lt}
+use lib.Dec.{T, leb, ltb, leb→le, nleb→lt, ltb→lt, nltb→le}
 use lib.ListN.{length, getD}
 use lib.IntN.{ℤ, pos}
 use lib.Signed.{ltZ}
-use Rattle.rules.specs.Limit.{code}
+use Rattle.rules.specs.Limit.{none, code}
 use Rattle.rules.specs.Register.{Delegation}
 use Rattle.rules.specs.Reach.{reach}
 use Rattle.rules.specs.Support.{allowed}
 use Rattle.rules.specs.Pair.{isPair, weightAt, stands}
 use Rattle.rules.specs.Call.{grant, granted}
 use Rattle.rules.specs.Refusal.{firstOf, held}
-use Rattle.rules.proofs.Lists.{either, getD-tabulate}
+use Rattle.rules.proofs.Lists.{either, getD-tabulate, T-true}
 use Rattle.rules.proofs.Refusals.{passes-of}
 use Rattle.block.specs.Bytes.{IsBytes, leading}
 use Rattle.block.specs.Block.{subjectsIn, countIn, decode}
 use Rattle.block.specs.WellFormed.{wellFormed}
-use Rattle.block.proofs.Held.{subjects-held, delegations-held, count-held, place-held}
-use Rattle.block.proofs.PairPlace.{pairPlace, weightAt-found}
+use Rattle.block.proofs.Held.{subjects-held, delegations-held, count-held, place-held, stands-found, stands-missing}
+use Rattle.block.proofs.PairPlace.{pairPlace, weightAt-found, weightAt-missing}
 use Rattle.block.specs.Records.{delegationAt, delegationsTo}
 use Rattle.rules.proofs.Signed.{below-weight}
 
@@ -49,6 +49,14 @@ not-or false false e = (refl, refl)
 pub both-in : (s g r : ℕ) → not (leb s g || leb s r) ≡ true → (g < s) × (r < s)
 both-in s g r e = let (p, q) = not-or (leb s g) (leb s r) e in (leb-false s g p, leb-false s r q)
 
+-- the pair stands, as the code tests it
+pub stands-test : (b : List ℕ) (bytes : IsBytes b) (formed : wellFormed b ≡ true) (g r k : ℕ) → k ≡ leading (λ d. not (isPair g r d)) (delegationsTo b (countIn b)) → ltb k (countIn b) ≡ stands (decode b) g r
+stands-test b bytes formed g r k place = go (either (ltb k (countIn b)))
+  where
+    go : T (ltb k (countIn b)) ⊎ T (not (ltb k (countIn b))) → ltb k (countIn b) ≡ stands (decode b) g r
+    go (inl q) = let h = ltb→lt k (countIn b) q in lt-ltb k (countIn b) h ∙ sym (stands-found b bytes formed g r k place h)
+    go (inr q) = let h = nltb→le k (countIn b) q in le-ltb k (countIn b) h ∙ sym (stands-missing b bytes formed g r k place h)
+
 -- ── the delegation of a pair that stands ──
 module _ (b : List ℕ) (bytes : IsBytes b) (formed : wellFormed b ≡ true) (g r k : ℕ) (place : k ≡ leading (λ d. not (isPair g r d)) (delegationsTo b (countIn b)))
     (found : k < countIn b) where
@@ -66,25 +74,24 @@ module _ (b : List ℕ) (bytes : IsBytes b) (formed : wellFormed b ≡ true) (g 
   pub weight-stands : weightAt (decode b .delegations) g r ≡ pos (delegationAt b k .weight)
   weight-stands = weightAt-found g r (decode b .delegations) (granted 0 0 0 0 0) place-inside ∙ ap (λ (x : Delegation). pos (x .weight)) at-place
 
+pub weight-missing : (b : List ℕ) (bytes : IsBytes b) (formed : wellFormed b ≡ true) (g r k : ℕ) → k ≡ leading (λ d. not (isPair g r d)) (delegationsTo b (countIn b)) → countIn b ≤ k
+    → weightAt (decode b .delegations) g r ≡ none
+weight-missing b bytes formed g r k place l = weightAt-missing g r (decode b .delegations) (omega (arith, place-held b bytes formed g r k place, count-held b bytes formed))
+
 module _ (t : List ℤ) (b : List ℕ) (bytes : IsBytes b) (formed : wellFormed b ≡ true) (g r : ℕ) where
   -- the test of 9, as the code makes it
   pub enrolled-test : (leb (decode b .subjects) g || (leb (decode b .subjects) r || false)) ≡ (leb (subjectsIn b) g || leb (subjectsIn b) r)
   enrolled-test = ap (λ (s : ℕ). leb s g || (leb s r || false)) (subjects-held b bytes formed) ∙ ap (λ (y : Bool). leb (subjectsIn b) g || y) (or-false (leb (subjectsIn b) r))
 
+  -- past the test of 9
+  pub both-of : T (not (leb (decode b .subjects) g || (leb (decode b .subjects) r || false))) → (g < subjectsIn b) × (r < subjectsIn b)
+  both-of h = both-in (subjectsIn b) g r (ap not (sym enrolled-test) ∙ T-true _ h)
+
   module _ (w n m : ℕ) where
-    heavy-test : (ltb (code (allowed t (decode b) (granted g r w n m))) (suc w) || false) ≡ ltZ (reach t (decode b) g r) (pos w)
+    -- the test of 16, as the code makes it
+    pub heavy-test : (ltb (code (allowed t (decode b) (granted g r w n m))) (suc w) || false) ≡ ltZ (reach t (decode b) g r) (pos w)
     unfolding allowed
     heavy-test = or-false (ltb (code (reach t (decode b) g r)) (suc w)) ∙ sym (below-weight (reach t (decode b) g r) w)
-
-    -- the four tests one after another
-    pub grant-first : (x1 x2 x3 x4 : Bool) → (leb (subjectsIn b) g || leb (subjectsIn b) r) ≡ x1 → stands (decode b) g r ≡ x2 → leb 256 (countIn b) ≡ x3 → ltZ (reach t (decode b) g r) (pos w) ≡ x4
-        → firstOf (held t (decode b) (grant g r w n m)) ≡ cond x1 9 (cond x2 11 (cond x3 12 (cond x4 16 0)))
-    unfolding held
-    grant-first x1 x2 x3 x4 e1 e2 e3 e4 =
-        let p1 = enrolled-test ∙ e1 in
-        let p3 = ap (leb 256) (count-held b bytes formed) ∙ e3 in
-        let p4 = heavy-test ∙ e4 in
-        λ j. cond (p1 j) 9 (cond (e2 j) 11 (cond (p3 j) 12 (cond (p4 j) 16 0)))
 
 -- room is left for a grant that is not refused
 pub grant-room : (t : List ℤ) (b : List ℕ) (bytes : IsBytes b) (formed : wellFormed b ≡ true) (g r w n m : ℕ) → firstOf (held t (decode b) (grant g r w n m)) ≡ 0 → countIn b < 256

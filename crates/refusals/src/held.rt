@@ -1,14 +1,21 @@
-// Refusals by what the register holds, on a well-formed block: the number of the first that applies, or 0.
+// Refusals by what the register holds, on a well-formed block: the number of the first that applies, or 0. Each test has one number and is joined to those before it.
 ghost use mathlib.Core.Path.{_≡_};
 ghost use mathlib.Core.Bool.{true, not, _||_};
+ghost use mathlib.Core.List.{[], _∷_};
 ghost use Prim.Native.Nat.{_≤_, _<_};
 ghost use lib.Dec.{leb};
+ghost use lib.IntN.{pos};
+ghost use lib.Signed.{ltZ};
 ghost use Rattle.rules.specs.Table.{steps};
-ghost use Rattle.rules.specs.Call.{grant, revoke, downgrade};
-ghost use Rattle.rules.specs.Refusal.{firstOf, held};
+ghost use Rattle.rules.specs.Reach.{reach};
+ghost use Rattle.rules.specs.Pair.{stands};
+ghost use Rattle.rules.specs.Call.{grant, revoke, downgrade, askReach};
+ghost use Rattle.rules.specs.Refusal.{firstOf, notEnrolled, allEnrolled, allStand, mayNot, notBelow, held};
 ghost use Rattle.block.specs.Block.{subjectsIn, decode};
 ghost use Rattle.block.specs.WellFormed.{wellFormed};
+ghost use Rattle.refusals.specs.Joined.{orElse};
 use crate::reach_of;
+use crate::tested;
 use block::layout;
 use rules::refusal;
 
@@ -24,25 +31,112 @@ pub fn both_enrolled(block: &[u8], giver: u32, receiver: u32) -> bool
     receiver < n
 }
 
+// The pair stands.
+fn stands(block: &[u8], giver: u32, receiver: u32) -> bool
+    requires { ⌜ (wellFormed (now block) ≡ true) × (giver ≤ 63) × (receiver ≤ 63) ⌝ }
+    ensures { λ r. ⌜ r ≡ stands (decode (now (block .entry))) giver receiver ⌝ }
+{
+    let n = block::count(block);
+    block::find(block, n, giver as u8, receiver as u8) < n
+}
+
+// 9: a subject is not enrolled.
+pub fn not_enrolled(n: u32, block: &[u8], subject: u32) -> u32
+    requires { ⌜ wellFormed (now block) ≡ true ⌝ }
+    ensures { λ r. ⌜ r ≡ orElse n (notEnrolled (decode (now (block .entry))) (subject ∷ [])) ⌝ }
+{
+    tested(
+        n,
+        refusal::NOT_ENROLLED,
+        subject >= block::subjects(block) as u32,
+    )
+}
+
+// 10: 64 subjects enrolled.
+pub fn all_enrolled(n: u32, block: &[u8]) -> u32
+    requires { ⌜ wellFormed (now block) ≡ true ⌝ }
+    ensures { λ r. ⌜ r ≡ orElse n (allEnrolled (decode (now (block .entry)))) ⌝ }
+{
+    tested(
+        n,
+        refusal::ALL_ENROLLED,
+        block::subjects(block) >= layout::MOST_SUBJECTS,
+    )
+}
+
+// 12: 256 delegations stand.
+fn all_stand(n: u32, block: &[u8]) -> u32
+    requires { ⌜ wellFormed (now block) ≡ true ⌝ }
+    ensures { λ r. ⌜ r ≡ orElse n (allStand (decode (now (block .entry)))) ⌝ }
+{
+    tested(
+        n,
+        refusal::ALL_STAND,
+        block::count(block) >= layout::MOST_RECORDS,
+    )
+}
+
+// 14: by is neither giver nor owner.
+fn may_not(n: u32, by: u32, giver: u32) -> u32
+    ensures { λ r. ⌜ r ≡ orElse n (mayNot by giver) ⌝ }
+{
+    if by == giver {
+        return n;
+    }
+    tested(n, refusal::MAY_NOT, by != 0)
+}
+
+// 15: the new weight is not below the present; one that does not stand has none.
+fn not_below(n: u32, block: &[u8], giver: u32, receiver: u32, weight: u32) -> u32
+    requires { ⌜ (wellFormed (now block) ≡ true) × (giver ≤ 63) × (receiver ≤ 63) ⌝ }
+    ensures { λ r. ⌜ r ≡ orElse n (notBelow (decode (now (block .entry))) giver receiver weight) ⌝ }
+{
+    let count = block::count(block);
+    let k = block::find(block, count, giver as u8, receiver as u8);
+    if k >= count {
+        return tested(n, refusal::NOT_BELOW, true);
+    }
+    tested(
+        n,
+        refusal::NOT_BELOW,
+        weight >= block::weight(block, k) as u32,
+    )
+}
+
+// 16: the reach of the pair is below the weight. It is searched only where no test before applies.
+fn overweight(n: u32, block: &[u8], giver: u32, receiver: u32, weight: u32) -> u32
+    requires { ⌜ (wellFormed (now block) ≡ true) × (weight ≤ 255) × (n ≡ 0 → (giver < subjectsIn (now block)) × (receiver < subjectsIn (now block))) ⌝ }
+    ensures { λ r. ⌜ r ≡ orElse n (16, ltZ (reach steps (decode (now (block .entry))) giver receiver) (pos weight)) ⌝ }
+{
+    if n != 0 {
+        return n;
+    }
+    tested(
+        0,
+        refusal::OVERWEIGHT,
+        reach_of(block, giver as usize, receiver as usize) < weight as i16,
+    )
+}
+
+// Of a reach.
+pub fn reach_held(block: &[u8], giver: u32, receiver: u32) -> u32
+    requires { ⌜ wellFormed (now block) ≡ true ⌝ }
+    ensures { λ r. ⌜ r ≡ firstOf (held steps (decode (now (block .entry))) (askReach giver receiver)) ⌝ }
+{
+    let n = not_enrolled(0, block, giver);
+    not_enrolled(n, block, receiver)
+}
+
 // Of a grant.
 pub fn grant_held(block: &[u8], giver: u32, receiver: u32, weight: u32, need: u32, bar: u32) -> u32
     requires { ⌜ (wellFormed (now block) ≡ true) × (giver ≤ 63) × (receiver ≤ 63) × (weight ≤ 255) ⌝ }
     ensures { λ r. ⌜ r ≡ firstOf (held steps (decode (now (block .entry))) (grant giver receiver weight need bar)) ⌝ }
 {
-    if !both_enrolled(block, giver, receiver) {
-        return refusal::NOT_ENROLLED;
-    }
-    let n = block::count(block);
-    if block::find(block, n, giver as u8, receiver as u8) < n {
-        return refusal::PAIR_STANDS;
-    }
-    if n >= layout::MOST_RECORDS {
-        return refusal::ALL_STAND;
-    }
-    if reach_of(block, giver as usize, receiver as usize) < weight as i16 {
-        return refusal::OVERWEIGHT;
-    }
-    0
+    let n = not_enrolled(0, block, giver);
+    let n = not_enrolled(n, block, receiver);
+    let n = tested(n, refusal::PAIR_STANDS, stands(block, giver, receiver));
+    let n = all_stand(n, block);
+    overweight(n, block, giver, receiver, weight)
 }
 
 // Of a revocation.
@@ -50,20 +144,11 @@ pub fn revoke_held(block: &[u8], by: u32, giver: u32, receiver: u32) -> u32
     requires { ⌜ (wellFormed (now block) ≡ true) × (by ≤ 63) × (giver ≤ 63) × (receiver ≤ 63) ⌝ }
     ensures { λ r. ⌜ r ≡ firstOf (held steps (decode (now (block .entry))) (revoke by giver receiver)) ⌝ }
 {
-    if by >= block::subjects(block) as u32 {
-        return refusal::NOT_ENROLLED;
-    }
-    if !both_enrolled(block, giver, receiver) {
-        return refusal::NOT_ENROLLED;
-    }
-    let n = block::count(block);
-    if block::find(block, n, giver as u8, receiver as u8) >= n {
-        return refusal::NO_PAIR;
-    }
-    if by != giver && by != 0 {
-        return refusal::MAY_NOT;
-    }
-    0
+    let n = not_enrolled(0, block, by);
+    let n = not_enrolled(n, block, giver);
+    let n = not_enrolled(n, block, receiver);
+    let n = tested(n, refusal::NO_PAIR, !stands(block, giver, receiver));
+    may_not(n, by, giver)
 }
 
 // Of a downgrade.
@@ -71,14 +156,6 @@ pub fn downgrade_held(block: &[u8], by: u32, giver: u32, receiver: u32, weight: 
     requires { ⌜ (wellFormed (now block) ≡ true) × (by ≤ 63) × (giver ≤ 63) × (receiver ≤ 63) × (weight ≤ 255) ⌝ }
     ensures { λ r. ⌜ r ≡ firstOf (held steps (decode (now (block .entry))) (downgrade by giver receiver weight)) ⌝ }
 {
-    let m = revoke_held(block, by, giver, receiver);
-    if m != 0 {
-        return m;
-    }
-    let n = block::count(block);
-    let k = block::find(block, n, giver as u8, receiver as u8);
-    if weight >= block::weight(block, k) as u32 {
-        return refusal::NOT_BELOW;
-    }
-    0
+    let n = revoke_held(block, by, giver, receiver);
+    not_below(n, block, giver, receiver, weight)
 }

@@ -9,12 +9,27 @@ ghost use Prim.Native.Nat.{_<_};
 ghost use lib.Dec.{eqb};
 ghost use Rattle.rules.specs.Table.{steps};
 ghost use Rattle.rules.specs.Reach.{reach};
+ghost use Rattle.rules.specs.Call.{enrol, grant, revoke, downgrade, askReach, askUse};
 ghost use Rattle.rules.specs.Refusal.{firstOf};
 ghost use Rattle.block.specs.Block.{subjectsIn, decode};
 ghost use Rattle.block.specs.WellFormed.{wellFormed};
-ghost use Rattle.refusals.specs.Early.{wrongLength, notWellFormed};
+ghost use Rattle.refusals.specs.Early.{wrongLength, notWellFormed, refusalOn};
+ghost use Rattle.refusals.specs.Joined.{orElse};
 use block::layout;
 use rules::refusal;
+
+// `n`, or, where that is 0, the number of a test that applies.
+fn tested(n: u32, number: u32, applies: bool) -> u32
+    ensures { λ r. ⌜ r ≡ orElse n (number, applies) ⌝ }
+{
+    if n != 0 {
+        return n;
+    }
+    if applies {
+        return number;
+    }
+    0
+}
 
 // The first that applies of 1, the refusal by what was passed, which is `number` or 0 where there is none, and 8; or 0.
 pub fn early(block: &[u8], number: u32) -> u32
@@ -39,4 +54,80 @@ pub fn reach_of(block: &[u8], giver: usize, receiver: usize) -> i16
 {
     let table = rules::steps();
     search::reach_of(block, &table, giver, receiver)
+}
+
+// The whole refusal of an enrolment on a block of any length and content, without making it.
+pub fn enrol_refusal(block: &[u8], marks: u32) -> u32
+    ensures { λ r. ⌜ r ≡ refusalOn steps (now (block .entry)) (enrol marks) ⌝ }
+{
+    let n = early(block, passed::enrol_passed(marks));
+    if n != 0 {
+        return n;
+    }
+    held::all_enrolled(0, block)
+}
+
+// Of a use.
+pub fn use_refusal(block: &[u8], receiver: u32) -> u32
+    ensures { λ r. ⌜ r ≡ refusalOn steps (now (block .entry)) (askUse receiver) ⌝ }
+{
+    let n = early(block, passed::use_passed(receiver));
+    if n != 0 {
+        return n;
+    }
+    held::not_enrolled(0, block, receiver)
+}
+
+// Of a reach.
+pub fn reach_refusal(block: &[u8], giver: u32, receiver: u32) -> u32
+    ensures { λ r. ⌜ r ≡ refusalOn steps (now (block .entry)) (askReach giver receiver) ⌝ }
+{
+    let n = early(block, passed::pair_passed(giver, receiver));
+    if n != 0 {
+        return n;
+    }
+    held::reach_held(block, giver, receiver)
+}
+
+// Of a grant.
+pub fn grant_refusal(
+    block: &[u8],
+    giver: u32,
+    receiver: u32,
+    weight: u32,
+    need: u32,
+    bar: u32,
+) -> u32
+    ensures { λ r. ⌜ r ≡ refusalOn steps (now (block .entry)) (grant giver receiver weight need bar) ⌝ }
+{
+    let n = early(
+        block,
+        passed::grant_passed(giver, receiver, weight, need, bar),
+    );
+    if n != 0 {
+        return n;
+    }
+    held::grant_held(block, giver, receiver, weight, need, bar)
+}
+
+// Of a revocation.
+pub fn revoke_refusal(block: &[u8], by: u32, giver: u32, receiver: u32) -> u32
+    ensures { λ r. ⌜ r ≡ refusalOn steps (now (block .entry)) (revoke by giver receiver) ⌝ }
+{
+    let n = early(block, passed::revoke_passed(by, giver, receiver));
+    if n != 0 {
+        return n;
+    }
+    held::revoke_held(block, by, giver, receiver)
+}
+
+// Of a downgrade.
+pub fn downgrade_refusal(block: &[u8], by: u32, giver: u32, receiver: u32, weight: u32) -> u32
+    ensures { λ r. ⌜ r ≡ refusalOn steps (now (block .entry)) (downgrade by giver receiver weight) ⌝ }
+{
+    let n = early(block, passed::downgrade_passed(by, giver, receiver, weight));
+    if n != 0 {
+        return n;
+    }
+    held::downgrade_held(block, by, giver, receiver, weight)
 }

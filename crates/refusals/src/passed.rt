@@ -1,107 +1,112 @@
-// Refusals by what was passed: the number of the first that applies, or 0.
+// Refusals by what was passed: the number of the first that applies, or 0. Each test has one number and is joined to those before it.
 ghost use mathlib.Core.Path.{_≡_};
 ghost use mathlib.Core.List.{[], _∷_};
 ghost use Rattle.rules.specs.Call.{enrol, grant, revoke, downgrade, askReach, askUse};
-ghost use Rattle.rules.specs.Refusal.{firstOf, equalPair, toOwner, passed};
+ghost use Rattle.rules.specs.Refusal.{firstOf, noSubject, noWeight, noMarks, noCondition, equalPair, toOwner, passed};
+ghost use Rattle.refusals.specs.Joined.{orElse};
+use crate::tested;
 use rules::most;
 use rules::refusal;
+
+// 2: a subject number above 63.
+fn no_subject(n: u32, subject: u32) -> u32
+    ensures { λ r. ⌜ r ≡ orElse n (noSubject (subject ∷ [])) ⌝ }
+{
+    tested(n, refusal::NO_SUBJECT, subject > most::SUBJECT)
+}
+
+// 3: a weight above 255.
+fn no_weight(n: u32, weight: u32) -> u32
+    ensures { λ r. ⌜ r ≡ orElse n (noWeight weight) ⌝ }
+{
+    tested(n, refusal::NO_WEIGHT, weight > most::WEIGHT)
+}
+
+// 4: marks above 65,535.
+fn no_marks(n: u32, marks: u32) -> u32
+    ensures { λ r. ⌜ r ≡ orElse n (noMarks marks) ⌝ }
+{
+    tested(n, refusal::NO_MARKS, marks > most::MARKS)
+}
+
+// 4: need or bar above 65,535, or they share a mark.
+fn no_condition(n: u32, need: u32, bar: u32) -> u32
+    ensures { λ r. ⌜ r ≡ orElse n (noCondition need bar) ⌝ }
+{
+    let m = no_marks(n, need);
+    let m = no_marks(m, bar);
+    tested(m, refusal::NO_MARKS, need & bar != 0)
+}
+
+// 5: giver and receiver equal.
+fn equal_pair(n: u32, giver: u32, receiver: u32) -> u32
+    ensures { λ r. ⌜ r ≡ orElse n (equalPair giver receiver) ⌝ }
+{
+    tested(n, refusal::EQUAL_PAIR, giver == receiver)
+}
+
+// 6: the receiver is the owner.
+fn to_owner(n: u32, receiver: u32) -> u32
+    ensures { λ r. ⌜ r ≡ orElse n (toOwner receiver) ⌝ }
+{
+    tested(n, refusal::TO_OWNER, receiver == 0)
+}
 
 // Of an enrolment.
 pub fn enrol_passed(marks: u32) -> u32
     ensures { λ r. ⌜ r ≡ firstOf (passed (enrol marks)) ⌝ }
 {
-    if marks > most::MARKS {
-        return refusal::NO_MARKS;
-    }
-    0
+    no_marks(0, marks)
 }
 
 // Of a use.
 pub fn use_passed(subject: u32) -> u32
     ensures { λ r. ⌜ r ≡ firstOf (passed (askUse subject)) ⌝ }
 {
-    if subject > most::SUBJECT {
-        return refusal::NO_SUBJECT;
-    }
-    0
-}
-
-// The last two of a call that names a pair: giver and receiver are equal, the receiver is the owner.
-fn ends_passed(giver: u32, receiver: u32) -> u32
-    ensures { λ r. ⌜ r ≡ firstOf (equalPair giver receiver ∷ toOwner receiver ∷ []) ⌝ }
-{
-    if giver == receiver {
-        return refusal::EQUAL_PAIR;
-    }
-    if receiver == 0 {
-        return refusal::TO_OWNER;
-    }
-    0
+    no_subject(0, subject)
 }
 
 // Of a call that names a pair: reach, and the chain call.
 pub fn pair_passed(giver: u32, receiver: u32) -> u32
     ensures { λ r. ⌜ r ≡ firstOf (passed (askReach giver receiver)) ⌝ }
 {
-    if giver > most::SUBJECT {
-        return refusal::NO_SUBJECT;
-    }
-    if receiver > most::SUBJECT {
-        return refusal::NO_SUBJECT;
-    }
-    ends_passed(giver, receiver)
+    let n = no_subject(0, giver);
+    let n = no_subject(n, receiver);
+    let n = equal_pair(n, giver, receiver);
+    to_owner(n, receiver)
 }
 
 // Of a grant.
 pub fn grant_passed(giver: u32, receiver: u32, weight: u32, need: u32, bar: u32) -> u32
     ensures { λ r. ⌜ r ≡ firstOf (passed (grant giver receiver weight need bar)) ⌝ }
 {
-    if giver > most::SUBJECT {
-        return refusal::NO_SUBJECT;
-    }
-    if receiver > most::SUBJECT {
-        return refusal::NO_SUBJECT;
-    }
-    if weight > most::WEIGHT {
-        return refusal::NO_WEIGHT;
-    }
-    if need > most::MARKS {
-        return refusal::NO_MARKS;
-    }
-    if bar > most::MARKS {
-        return refusal::NO_MARKS;
-    }
-    if need & bar != 0 {
-        return refusal::NO_MARKS;
-    }
-    ends_passed(giver, receiver)
+    let n = no_subject(0, giver);
+    let n = no_subject(n, receiver);
+    let n = no_weight(n, weight);
+    let n = no_condition(n, need, bar);
+    let n = equal_pair(n, giver, receiver);
+    to_owner(n, receiver)
 }
 
 // Of a revocation.
 pub fn revoke_passed(by: u32, giver: u32, receiver: u32) -> u32
     ensures { λ r. ⌜ r ≡ firstOf (passed (revoke by giver receiver)) ⌝ }
 {
-    if by > most::SUBJECT {
-        return refusal::NO_SUBJECT;
-    }
-    pair_passed(giver, receiver)
+    let n = no_subject(0, by);
+    let n = no_subject(n, giver);
+    let n = no_subject(n, receiver);
+    let n = equal_pair(n, giver, receiver);
+    to_owner(n, receiver)
 }
 
 // Of a downgrade.
 pub fn downgrade_passed(by: u32, giver: u32, receiver: u32, weight: u32) -> u32
     ensures { λ r. ⌜ r ≡ firstOf (passed (downgrade by giver receiver weight)) ⌝ }
 {
-    if by > most::SUBJECT {
-        return refusal::NO_SUBJECT;
-    }
-    if giver > most::SUBJECT {
-        return refusal::NO_SUBJECT;
-    }
-    if receiver > most::SUBJECT {
-        return refusal::NO_SUBJECT;
-    }
-    if weight > most::WEIGHT {
-        return refusal::NO_WEIGHT;
-    }
-    ends_passed(giver, receiver)
+    let n = no_subject(0, by);
+    let n = no_subject(n, giver);
+    let n = no_subject(n, receiver);
+    let n = no_weight(n, weight);
+    let n = equal_pair(n, giver, receiver);
+    to_owner(n, receiver)
 }

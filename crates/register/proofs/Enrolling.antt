@@ -1,30 +1,29 @@
 -- The ways of enrol. Assumes nothing.
-use mathlib.Core.Path.{_≡_, sym}
+use mathlib.Core.Path.{_≡_, sym, subst}
 use mathlib.Core.List.{List}
-use Prim.Native.Nat.{ℕ, _≤_, _<_}
-use native.Mathlib.Omega.{arith}
-use borrow.Author.Tests.{le-leb, lt-leb}
+use Prim.Native.Nat.{ℕ, _<_}
+use lib.Dec.{nleb→lt}
 use lib.IntN.{ℤ, pos}
 use Rattle.rules.specs.Call.{enrol, enrolled}
 use Rattle.rules.specs.Refusal.{held}
 use Rattle.rules.specs.CallStep.{accepted}
+use Rattle.rules.proofs.Refusals.{passes-of}
 use Rattle.block.specs.Bytes.{IsBytes}
 use Rattle.block.specs.Block.{subjectsIn, decode, encode}
 use Rattle.block.proofs.Held.{subjects-held}
-use Rattle.register.specs.Made.{refusedBy, answeredBy, Made}
-use Rattle.refusals.proofs.EarlyTests.{Early}
-use Rattle.register.proofs.Made.{made-held, made-done}
+use Rattle.register.specs.Made.{answeredBy, Made}
+use Rattle.refusals.proofs.EarlyTests.{Through}
+use Rattle.register.proofs.Made.{made-done}
 
-module _ (t : List ℤ) (m : ℕ) (b : List ℕ) (bytes : IsBytes b) (h : Early b (enrol m)) where
-  pub enrol-full : 64 ≤ subjectsIn b → Made t (enrol m) b (refusedBy 10) b
-  unfolding held
-  enrol-full l = made-held t (enrol m) b h 10 (rw (subjects-held b bytes (h .formed), le-leb 64 (subjectsIn b) l)) (λ e. omega arith)
+pub enrol-done : (t : List ℤ) (m : ℕ) (b : List ℕ) (bytes : IsBytes b) (h : Through t b (enrol m)) (after : List ℕ) → after ≡ encode (enrolled (decode b) m) → Made t (enrol m) b (answeredBy (pos (subjectsIn b)) (pos 0) (pos 0)) after
+unfolding accepted
+enrol-done t m b bytes h after e =
+    made-done t (enrol m) b (h .early) (h .held) (answeredBy (pos (subjectsIn b)) (pos 0) (pos 0)) after (λ j. record { refusal = 0; first = pos (n j); second = pos 0; third = pos 0; bytes = e j })
+  where
+    n : subjectsIn b ≡ decode b .subjects
+    n = sym (subjects-held b bytes (h .early .formed))
 
-  pub enrol-done : subjectsIn b < 64 → (after : List ℕ) → after ≡ encode (enrolled (decode b) m) → Made t (enrol m) b (answeredBy (pos (subjectsIn b)) (pos 0) (pos 0)) after
-  unfolding held accepted
-  enrol-done l after e =
-      made-done t (enrol m) b h (rw (subjects-held b bytes (h .formed), lt-leb 64 (subjectsIn b) l)) (answeredBy (pos (subjectsIn b)) (pos 0) (pos 0)) after
-      (λ j. record { refusal = 0; first = pos (n j); second = pos 0; third = pos 0; bytes = e j })
-    where
-      n : subjectsIn b ≡ decode b .subjects
-      n = sym (subjects-held b bytes (h .formed))
+-- room is left for an enrolment that is not refused
+pub enrol-room : (t : List ℤ) (m : ℕ) (b : List ℕ) (bytes : IsBytes b) → Through t b (enrol m) → subjectsIn b < 64
+unfolding held
+enrol-room t m b bytes h = subst (λ (k : ℕ). k < 64) (subjects-held b bytes (h .early .formed)) (nleb→lt 64 (decode b .subjects) (passes-of (held t (decode b) (enrol m)) tt (h .held) 10))

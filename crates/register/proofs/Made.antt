@@ -1,6 +1,6 @@
 -- The ways of a public call: refused by 1, by what was passed, by 8, by what the register holds; or done. Assumes nothing.
 use mathlib.Core.Path.{_≡_, refl, sym, ap, subst, _∙_}
-use mathlib.Core.Logic.{_≢_}
+use mathlib.Core.Logic.{_≢_, _⊎_, inl, inr}
 use mathlib.Core.Bool.{Bool, true, false}
 use mathlib.Core.List.{List}
 use Prim.Native.Nat.{ℕ}
@@ -11,19 +11,20 @@ use lib.IntN.{ℤ, pos}
 use Rattle.rules.specs.Call.{Call, fresh}
 use Rattle.rules.specs.Refusal.{firstOf, passed, held, refusalOf}
 use Rattle.rules.specs.CallStep.{Outcome, accepted, refused, callStep}
+use Rattle.rules.proofs.Lists.{eqOr}
 use Rattle.rules.proofs.Refusals.{passed-numbered, firstOf-none}
 use Rattle.block.specs.Block.{decode, encode}
-use Rattle.refusals.specs.Early.{early}
-use Rattle.refusals.proofs.EarlyTests.{Early, earlyOf, none-early, early-found}
+use Rattle.refusals.specs.Early.{early, refusalOn}
+use Rattle.refusals.proofs.EarlyTests.{Early, early-none, none-early, refused-early, refused-held}
 use Rattle.register.specs.CallOn.{Result, turned, written, callOn, openOn}
 use Rattle.register.specs.Made.{refusedBy, answeredBy, result, Made, MadeOpen}
 use Rattle.register.specs.declared.Answer.{Answer}
 
 module _ (t : List ℤ) (c : Call) (b : List ℕ) where
   -- refused by 1, by what was passed or by 8
-  pub made-early : (p n : ℕ) → p ≡ firstOf (passed c) → n ≡ firstOf (earlyOf b p) → n ≢ 0 → Made t c b (refusedBy n) b
+  made-first : (n : ℕ) → firstOf (early b c) ≡ n → n ≢ 0 → Made t c b (refusedBy n) b
   unfolding callOn
-  made-early p n e q k = let f = early-found b c p n e q in go f (eqb (firstOf (early b c)) 0) (ap (λ (m : ℕ). eqb m 0) f ∙ ne-eqb n 0 k)
+  made-first n f k = go f (eqb (firstOf (early b c)) 0) (ap (λ (m : ℕ). eqb m 0) f ∙ ne-eqb n 0 k)
     where
       go : firstOf (early b c) ≡ n → (x : Bool) → x ≡ false → let r : Result = elim x [ true ↦ written b (callStep t (decode b) c) | false ↦ turned (firstOf (early b c)) b ] in result (refusedBy n) b ≡ r
       go f true z = absurd (subst T z tt)
@@ -42,7 +43,7 @@ module _ (t : List ℤ) (c : Call) (b : List ℕ) where
     unfolding refusalOf
     refusal-held = firstOf-none (passed c) (held t (decode b) c) (passed-numbered c) (h .passed)
 
-    pub made-held : (n : ℕ) → n ≡ firstOf (held t (decode b) c) → n ≢ 0 → Made t c b (refusedBy n) b
+    made-held : (n : ℕ) → n ≡ firstOf (held t (decode b) c) → n ≢ 0 → Made t c b (refusedBy n) b
     unfolding callStep
     made-held n e k = sym (callOn-late ∙ go (eqb (refusalOf t (decode b) c) 0) (ap (λ (m : ℕ). eqb m 0) (refusal-held ∙ sym e) ∙ ne-eqb n 0 k))
       where
@@ -62,6 +63,14 @@ module _ (t : List ℤ) (c : Call) (b : List ℕ) where
       -- accepted: the answers and the bytes are those of the definitions
       pub made-done : (o : Answer) (after : List ℕ) → result o after ≡ written b (accepted t (decode b) c) → Made t c b o after
       made-done o after q = q ∙ sym callOn-accepted
+
+  -- refused, by whatever test
+  pub made-refused : (n : ℕ) → n ≡ refusalOn t b c → n ≢ 0 → Made t c b (refusedBy n) b
+  made-refused n e k = go (eqOr (firstOf (early b c)) 0)
+    where
+      go : (firstOf (early b c) ≡ 0) ⊎ (firstOf (early b c) ≢ 0) → Made t c b (refusedBy n) b
+      go (inl z) = let h = early-none b c z in made-held h n (e ∙ refused-held t b c h) k
+      go (inr q) = made-first n (refused-early t b c (firstOf (early b c)) refl q ∙ sym e) k
 
 -- ── open ──
 module _ (b : List ℕ) where

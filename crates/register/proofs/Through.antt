@@ -13,13 +13,8 @@ use Rattle.rules.proofs.Calls.{accepted-refusal, callStep-cases}
 use Rattle.block.specs.Block.{decode}
 use Rattle.refusals.specs.Early.{early}
 use Rattle.register.specs.CallOn.{Result, turned, written, callOn}
-use Rattle.refusals.proofs.EarlyTests.{Early, early-none}
+use Rattle.refusals.proofs.EarlyTests.{Through, early-none}
 use Rattle.register.proofs.Made.{refusal-held}
-
--- a call that is accepted on bytes passed 1, what was passed, 8 and what the register holds
-pub record Through (t : List ℤ) (b : List ℕ) (c : Call) : Type 0 where
-  pub early : Early b c
-  pub held : firstOf (held t (decode b) c) ≡ 0
 
 module _ (t : List ℤ) (b : List ℕ) (c : Call) where
   step-refusal : callStep t (decode b) c .refusal ≡ refusalOf t (decode b) c

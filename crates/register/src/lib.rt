@@ -8,9 +8,6 @@ ghost use Rattle.rules.specs.Call.{enrol, grant, revoke, downgrade, askReach, a
 ghost use Rattle.register.specs.Made.{refusedBy, answeredBy, Made, MadeOpen};
 ghost use Rattle.register.specs.Cuts.{CutMade};
 use block::layout;
-use refusals::early;
-use refusals::held;
-use refusals::passed;
 use rules::refusal;
 
 // The refusal number, 0 when accepted, and the three answers, 0 where unused.
@@ -58,14 +55,11 @@ pub fn open(block: &mut [u8]) -> Answer
 pub fn enrol(block: &mut [u8], marks: u32) -> Answer
     ensures { λ r. ⌜ Made steps (enrol marks) (now (block .entry)) r (now (block .exit)) ⌝ }
 {
-    let n = early(block, passed::enrol_passed(marks));
+    let n = refusals::enrol_refusal(block, marks);
     if n != 0 {
         return refused(n);
     }
     let subject = block::subjects(block);
-    if subject >= layout::MOST_SUBJECTS {
-        return refused(refusal::ALL_ENROLLED);
-    }
     change::add_subject(block, marks as u16);
     answered(subject as i32, 0, 0)
 }
@@ -74,12 +68,9 @@ pub fn enrol(block: &mut [u8], marks: u32) -> Answer
 pub fn use_right(block: &[u8], receiver: u32) -> Answer
     ensures { λ r. ⌜ Made steps (askUse receiver) (now (block .entry)) r (now (block .entry)) ⌝ }
 {
-    let n = early(block, passed::use_passed(receiver));
+    let n = refusals::use_refusal(block, receiver);
     if n != 0 {
         return refused(n);
-    }
-    if receiver >= block::subjects(block) as u32 {
-        return refused(refusal::NOT_ENROLLED);
     }
     if receiver == 0 {
         return answered(1, 0, 0);
@@ -94,12 +85,9 @@ pub fn use_right(block: &[u8], receiver: u32) -> Answer
 pub fn reach(block: &[u8], giver: u32, receiver: u32) -> Answer
     ensures { λ r. ⌜ Made steps (askReach giver receiver) (now (block .entry)) r (now (block .entry)) ⌝ }
 {
-    let n = early(block, passed::pair_passed(giver, receiver));
+    let n = refusals::reach_refusal(block, giver, receiver);
     if n != 0 {
         return refused(n);
-    }
-    if !held::both_enrolled(block, giver, receiver) {
-        return refused(refusal::NOT_ENROLLED);
     }
     let k = refusals::reach_of(block, giver as usize, receiver as usize);
     answered(k as i32, 0, 0)
@@ -116,16 +104,9 @@ pub fn grant(
 ) -> Answer
     ensures { λ r. ⌜ Made steps (grant giver receiver weight need bar) (now (block .entry)) r (now (block .exit)) ⌝ }
 {
-    let n = early(
-        block,
-        passed::grant_passed(giver, receiver, weight, need, bar),
-    );
+    let n = refusals::grant_refusal(block, giver, receiver, weight, need, bar);
     if n != 0 {
         return refused(n);
-    }
-    let m = held::grant_held(block, giver, receiver, weight, need, bar);
-    if m != 0 {
-        return refused(m);
     }
     let standing = block::count(block);
     change::insert(
@@ -143,13 +124,9 @@ pub fn grant(
 pub fn revoke(block: &mut [u8], by: u32, giver: u32, receiver: u32) -> Answer
     ensures { λ r. ⌜ CutMade steps (revoke by giver receiver) (removal giver receiver) (now (block .entry)) r (now (block .exit)) ⌝ }
 {
-    let n = early(block, passed::revoke_passed(by, giver, receiver));
+    let n = refusals::revoke_refusal(block, by, giver, receiver);
     if n != 0 {
         return refused(n);
-    }
-    let m = held::revoke_held(block, by, giver, receiver);
-    if m != 0 {
-        return refused(m);
     }
     change::remove(block, giver as u8, receiver as u8);
     cutting::settle(block)
@@ -159,13 +136,9 @@ pub fn revoke(block: &mut [u8], by: u32, giver: u32, receiver: u32) -> Answer
 pub fn downgrade(block: &mut [u8], by: u32, giver: u32, receiver: u32, weight: u32) -> Answer
     ensures { λ r. ⌜ CutMade steps (downgrade by giver receiver weight) (lowering giver receiver weight) (now (block .entry)) r (now (block .exit)) ⌝ }
 {
-    let n = early(block, passed::downgrade_passed(by, giver, receiver, weight));
+    let n = refusals::downgrade_refusal(block, by, giver, receiver, weight);
     if n != 0 {
         return refused(n);
-    }
-    let m = held::downgrade_held(block, by, giver, receiver, weight);
-    if m != 0 {
-        return refused(m);
     }
     change::set_weight(block, giver as u8, receiver as u8, weight as u8);
     cutting::settle(block)

@@ -1,20 +1,19 @@
 -- `register::downgrade` makes a cut. Assumes nothing.
 use borrow.Author.Needs.{needs}
-use mathlib.Core.Path.{_≡_, sym, _∙_}
+use mathlib.Core.Path.{sym, _∙_}
 use native.Mathlib.Omega.{arith}
-use Rattle.rules.specs.Table.{steps}
-use Rattle.rules.specs.Cut.{Cut, lowering}
 use Rattle.rules.specs.Call.{Call, downgrade}
-use Rattle.rules.specs.Refusal.{firstOf, held}
+use Rattle.rules.specs.Cut.{Cut, lowering}
+use Rattle.rules.specs.Table.{steps}
 use Rattle.rules.proofs.Table.{steps-rule}
-use Rattle.block.specs.Bytes.{IsBytes}
 use Rattle.block.specs.Block.{decode}
+use Rattle.block.specs.Bytes.{IsBytes}
 use Rattle.block.proofs.Bytes.{fits-bytes}
-use Rattle.refusals.proofs.Within.{Within, within}
-use Rattle.refusals.proofs.EarlyTests.{Early, past-early}
-use Rattle.register.proofs.Made.{made-early, made-held}
 use Rattle.refusals.proofs.CutHolding.{downgrade-stands}
+use Rattle.refusals.proofs.EarlyTests.{Through, through}
+use Rattle.refusals.proofs.Within.{Within, within}
 use Rattle.register.proofs.CutWays.{cut-refused, named-block, cut-done}
+use Rattle.register.proofs.Made.{made-refused}
 use Rattle.register.proofs.downgrade.Statement.{statement}
 use Rattle.register.proofs.downgrade.Tie as tie
 
@@ -26,29 +25,20 @@ change s = lowering (s .args .giver) (s .args .receiver) (s .args .weight)
 
 -- ── past the tests ──
 abbrev start : tie.Else1 → tie.Start
-start c = c .before .before .before .before .before
+start c = c .before .before .before .before
 
 bytes : (c : tie.Else1) → IsBytes (start c .args .block .now)
-bytes c = fits-bytes (start c .args .block .now) (c .before .before .before .before .slice-known .given)
+bytes c = fits-bytes (start c .args .block .now) (c .before .before .before .slice-known .given)
 
-past : (c : tie.Else1) → Early (start c .args .block .now) (call (start c))
-past c =
-    let p = c .before .before .downgrade-passed in
-    let n = c .before .early in
-    past-early (start c .args .block .now) (call (start c)) (p .result) (n .result) (p .ensures) (n .ensures) (c .if1 .left)
+past : (c : tie.Else1) → Through steps (start c .args .block .now) (call (start c))
+past c = through steps (start c .args .block .now) (call (start c)) (sym (c .before .downgrade-refusal .ensures) ∙ c .if1 .left)
 
 inside : (c : tie.Else1) → Within (call (start c))
-inside c = within (call (start c)) (past c .passed)
-
-unheld : (c : tie.Else2) → firstOf (held steps (decode (start (c .before .before .before) .args .block .now)) (call (start (c .before .before .before)))) ≡ 0
-unheld c = sym (c .before .downgrade-held .ensures) ∙ c .if2 .left
+inside c = within (call (start c)) (past c .early .passed)
 
 -- ── the needs ──
-downgrade-passed-requires : tie.Need-downgrade-passed-requires
-downgrade-passed-requires c κs = search needs
-
-early-requires : tie.Need-early-requires
-early-requires c κs = search needs
+downgrade-refusal-requires : tie.Need-downgrade-refusal-requires
+downgrade-refusal-requires c κs = search needs
 
 refused-requires : tie.Need-refused-requires
 refused-requires c κs = search needs
@@ -58,81 +48,56 @@ same-length c = search needs
 
 returns : tie.Need-returns
 returns c =
-    let n = c .before .before .early in
-    let p = c .before .before .before .downgrade-passed in
-    let s = c .before .before .before .before .before .before in
+    let n = c .before .before .downgrade-refusal in
+    let s = c .before .before .before .before .before in
     let b = s .args .block .now in
-    rw (c .refused .ensures) (cut-refused steps (call s) (change s) b (n .result) (c .before .if1 .taken) (made-early steps (call s) b (p .result) (n .result) (p .ensures) (n .ensures) (c .before .if1 .taken)))
+    rw (c .refused .ensures) (cut-refused steps (call s) (change s) b (n .result) (c .before .if1 .taken) (made-refused steps (call s) b (n .result) (n .ensures) (c .before .if1 .taken)))
 
-downgrade-held-requires : tie.Need-downgrade-held-requires
-downgrade-held-requires c κs =
-    let w = inside (c .before) in
-    (past (c .before) .formed, w .0 .0, w .0 .1 .0, w .0 .1 .1 .0, w .1)
+cast-set-weight : tie.Need-cast-set-weight
+cast-set-weight c = omega (arith, inside (c .before) .0 .1 .0)
 
-refused-requires-2 : tie.Need-refused-requires-2
-refused-requires-2 c κs = search needs
+cast-set-weight-2 : tie.Need-cast-set-weight-2
+cast-set-weight-2 c = omega (arith, inside (c .before) .0 .1 .1 .0)
+
+cast-set-weight-3 : tie.Need-cast-set-weight-3
+cast-set-weight-3 c = omega (arith, inside (c .before) .1)
+
+set-weight-requires : tie.Need-set-weight-requires
+set-weight-requires c κs =
+    let e = c .before in
+    let a = start e .args in
+    (past e .early .formed, downgrade-stands steps (decode (a .block .now)) (a .by) (a .giver) (a .receiver) (a .weight) (past e .held))
+
+settle-requires : tie.Need-settle-requires
+settle-requires c κs =
+    let d = c .before .before .before in
+    let e = d .before .before in
+    let s = start e in
+    named-block steps (s .args .block .now) (bytes e) (s .args .by) (change s) (past e .early) (d .set-weight .last .0) (d .set-weight .ensures)
 
 same-length-2 : tie.Need-same-length-2
 same-length-2 c = search needs
 
 returns-2 : tie.Need-returns-2
 returns-2 c =
-    let m = c .before .before .downgrade-held in
-    let e = c .before .before .before .before in
-    let s = start e in
-    let b = s .args .block .now in
-    rw (c .refused2 .ensures) (cut-refused steps (call s) (change s) b (m .result) (c .before .if2 .taken) (made-held steps (call s) b (past e) (m .result) (m .ensures) (c .before .if2 .taken)))
-
-cast-set-weight : tie.Need-cast-set-weight
-cast-set-weight c = omega (arith, inside (c .before .before .before .before) .0 .1 .0)
-
-cast-set-weight-2 : tie.Need-cast-set-weight-2
-cast-set-weight-2 c = omega (arith, inside (c .before .before .before .before) .0 .1 .1 .0)
-
-cast-set-weight-3 : tie.Need-cast-set-weight-3
-cast-set-weight-3 c = omega (arith, inside (c .before .before .before .before) .1)
-
-set-weight-requires : tie.Need-set-weight-requires
-set-weight-requires c κs =
-    let e = c .before .before .before .before in
-    let a = start e .args in
-    (past e .formed, downgrade-stands steps (decode (a .block .now)) (a .by) (a .giver) (a .receiver) (a .weight) (unheld (c .before)))
-
-settle-requires : tie.Need-settle-requires
-settle-requires c κs =
-    let d = c .before .before .before in
-    let e = d .before .before .before .before .before in
-    let s = start e in
-    named-block steps (s .args .block .now) (bytes e) (s .args .by) (change s) (past e) (d .set-weight .last .0) (d .set-weight .ensures)
-
-same-length-3 : tie.Need-same-length-3
-same-length-3 c = search needs
-
-returns-3 : tie.Need-returns-3
-returns-3 c =
     let o = c .before .before .settle in
     let d = c .before .before .before .before .before .before in
-    let e = d .before .before .before .before .before in
+    let e = d .before .before in
     let s = start e in
-    cut-done steps (s .args .block .now) (bytes e) (s .args .by) (change s) (past e) (d .set-weight .last .0) (d .set-weight .ensures) steps-rule (unheld (d .before .before)) (o .result) (o .last .0) (o .ensures)
+    cut-done steps (s .args .block .now) (bytes e) (s .args .by) (change s) (past e .early) (d .set-weight .last .0) (d .set-weight .ensures) steps-rule (past e .held) (o .result) (o .last .0) (o .ensures)
 
 pub downgrade-spec : {M : Type 1} → statement M
 downgrade-spec =
     tie.close
     (tie.spec
-    downgrade-passed-requires
-    early-requires
+    downgrade-refusal-requires
     refused-requires
     same-length
     returns
-    downgrade-held-requires
-    refused-requires-2
-    same-length-2
-    returns-2
     cast-set-weight
     cast-set-weight-2
     cast-set-weight-3
     set-weight-requires
     settle-requires
-    same-length-3
-    returns-3)
+    same-length-2
+    returns-2)

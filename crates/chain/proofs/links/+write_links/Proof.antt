@@ -1,4 +1,4 @@
--- `search::links::write_links` meets its contract. The measure is the number of links that may still be written. Assumes nothing.
+-- `chain::links::write_links` meets its contract. The measure is the number of links that may still be written. Assumes nothing.
 use mathlib.Core.Path.{ap}
 use Prim.Native.Nat.{_+_, _*_, _-_, _/_, _≤_, ℕ, _<_}
 use native.Mathlib.Omega.{arith}

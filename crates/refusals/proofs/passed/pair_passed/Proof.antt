@@ -1,24 +1,38 @@
--- `refusals::pair_passed` is the first refusal by what was passed. Assumes nothing.
+-- `refusals::pair_passed` is the first refusal of a call that names a pair by what was passed. Assumes nothing.
 use borrow.Author.Needs.{needs}
-use borrow.Author.Tests.{lt-ltb, le-ltb}
-use Rattle.rules.specs.Refusal.{passed}
+use mathlib.Core.Path.{_∙_}
+use mathlib.Core.List.{[], _∷_}
+use lib.Dec.{ltb}
+use Rattle.rules.specs.Refusal.{noSubject, equalPair, toOwner, passed}
+use Rattle.refusals.proofs.Joining.{joined-first, any-tests}
 use Rattle.refusals.proofs.passed.pair_passed.Statement.{statement}
 use Rattle.refusals.proofs.passed.pair_passed.Tie as tie
 
+no-subject-requires : tie.Need-no-subject-requires
+no-subject-requires c κs = search needs
+
+no-subject-requires-2 : tie.Need-no-subject-requires-2
+no-subject-requires-2 c κs = search needs
+
+equal-pair-requires : tie.Need-equal-pair-requires
+equal-pair-requires c κs = search needs
+
+to-owner-requires : tie.Need-to-owner-requires
+to-owner-requires c κs = search needs
+
 returns : tie.Need-returns
 unfolding passed
-returns c = simp (lt-ltb _ _ (c .if1 .taken))
-
-returns-2 : tie.Need-returns-2
-unfolding passed
-returns-2 c = simp (le-ltb _ _ (c .before .if1 .left), lt-ltb _ _ (c .if2 .taken))
-
-ends-passed-requires : tie.Need-ends-passed-requires
-ends-passed-requires c κs = search needs
-
-returns-3 : tie.Need-returns-3
-unfolding passed
-returns-3 c = simp (le-ltb _ _ (c .before .before .if1 .left), le-ltb _ _ (c .before .if2 .left)) (c .ends-passed .ensures)
+returns c =
+    let a = c .before .before .before .before .args in
+    rw (c .to-owner .ensures, c .before .equal-pair .ensures, c .before .before .no-subject2 .ensures, c .before .before .before .no-subject .ensures)
+    (joined-first (noSubject (a .giver ∷ []) ∷ noSubject (a .receiver ∷ []) ∷ equalPair (a .giver) (a .receiver) ∷ toOwner (a .receiver) ∷ []) tt ∙ any-tests 2 (λ x. ltb 63 x) (a .giver ∷ a .receiver ∷ []) (equalPair (a .giver) (a .receiver) ∷ toOwner (a .receiver) ∷ []))
 
 pub pair-passed-spec : {M : Type 1} → statement M
-pair-passed-spec = tie.close (tie.spec returns returns-2 ends-passed-requires returns-3)
+pair-passed-spec =
+    tie.close
+    (tie.spec
+    no-subject-requires
+    no-subject-requires-2
+    equal-pair-requires
+    to-owner-requires
+    returns)

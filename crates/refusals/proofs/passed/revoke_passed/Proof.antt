@@ -1,20 +1,42 @@
--- `refusals::revoke_passed` is the first refusal by what was passed. Assumes nothing.
+-- `refusals::revoke_passed` is the first refusal of a revocation by what was passed. Assumes nothing.
 use borrow.Author.Needs.{needs}
-use borrow.Author.Tests.{lt-ltb, le-ltb}
-use Rattle.rules.specs.Refusal.{passed}
+use mathlib.Core.Path.{_∙_}
+use mathlib.Core.List.{[], _∷_}
+use lib.Dec.{ltb}
+use Rattle.rules.specs.Refusal.{noSubject, equalPair, toOwner, passed}
+use Rattle.refusals.proofs.Joining.{joined-first, any-tests}
 use Rattle.refusals.proofs.passed.revoke_passed.Statement.{statement}
 use Rattle.refusals.proofs.passed.revoke_passed.Tie as tie
 
+no-subject-requires : tie.Need-no-subject-requires
+no-subject-requires c κs = search needs
+
+no-subject-requires-2 : tie.Need-no-subject-requires-2
+no-subject-requires-2 c κs = search needs
+
+no-subject-requires-3 : tie.Need-no-subject-requires-3
+no-subject-requires-3 c κs = search needs
+
+equal-pair-requires : tie.Need-equal-pair-requires
+equal-pair-requires c κs = search needs
+
+to-owner-requires : tie.Need-to-owner-requires
+to-owner-requires c κs = search needs
+
 returns : tie.Need-returns
 unfolding passed
-returns c = simp (lt-ltb _ _ (c .if1 .taken))
-
-pair-passed-requires : tie.Need-pair-passed-requires
-pair-passed-requires c κs = search needs
-
-returns-2 : tie.Need-returns-2
-unfolding passed
-returns-2 c = simp (le-ltb _ _ (c .before .if1 .left)) (c .pair-passed .ensures)
+returns c =
+    let a = c .before .before .before .before .before .args in
+    rw (c .to-owner .ensures, c .before .equal-pair .ensures, c .before .before .no-subject3 .ensures, c .before .before .before .no-subject2 .ensures, c .before .before .before .before .no-subject .ensures)
+    (joined-first (noSubject (a .by ∷ []) ∷ noSubject (a .giver ∷ []) ∷ noSubject (a .receiver ∷ []) ∷ equalPair (a .giver) (a .receiver) ∷ toOwner (a .receiver) ∷ []) tt ∙ any-tests 2 (λ x. ltb 63 x) (a .by ∷ a .giver ∷ a .receiver ∷ []) (equalPair (a .giver) (a .receiver) ∷ toOwner (a .receiver) ∷ []))
 
 pub revoke-passed-spec : {M : Type 1} → statement M
-revoke-passed-spec = tie.close (tie.spec returns pair-passed-requires returns-2)
+revoke-passed-spec =
+    tie.close
+    (tie.spec
+    no-subject-requires
+    no-subject-requires-2
+    no-subject-requires-3
+    equal-pair-requires
+    to-owner-requires
+    returns)

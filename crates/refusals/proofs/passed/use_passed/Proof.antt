@@ -1,16 +1,15 @@
--- `refusals::use_passed` is the first refusal by what was passed. Assumes nothing.
-use borrow.Author.Tests.{lt-ltb, le-ltb}
+-- `refusals::use_passed` is the first refusal of a use by what was passed. Assumes nothing.
+use borrow.Author.Needs.{needs}
 use Rattle.rules.specs.Refusal.{passed}
 use Rattle.refusals.proofs.passed.use_passed.Statement.{statement}
 use Rattle.refusals.proofs.passed.use_passed.Tie as tie
 
+no-subject-requires : tie.Need-no-subject-requires
+no-subject-requires c κs = search needs
+
 returns : tie.Need-returns
 unfolding passed
-returns c = simp (lt-ltb _ _ (c .if1 .taken))
-
-returns-2 : tie.Need-returns-2
-unfolding passed
-returns-2 c = simp (le-ltb _ _ (c .if1 .left))
+returns c = c .no-subject .ensures
 
 pub use-passed-spec : {M : Type 1} → statement M
-use-passed-spec = tie.close (tie.spec returns returns-2)
+use-passed-spec = tie.close (tie.spec no-subject-requires returns)
