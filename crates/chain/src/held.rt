@@ -18,7 +18,7 @@ use crate::Written;
 use crate::links;
 use crate::unwritten;
 use block::layout;
-use refusals::held;
+use refusals::both_enrolled;
 use rules::refusal;
 
 // The most links of a chain.
@@ -72,7 +72,7 @@ pub fn write_held(block: &[u8], giver: u32, receiver: u32, buf: &mut [u8]) -> Wr
     requires { ⌜ (wellFormed (now block) ≡ true) × (giver ≤ 63) × (receiver ≤ 63) × (126 ≤ length (now buf)) ⌝ }
     ensures { λ r. ⌜ ChainLeft steps (decode (now (block .entry))) giver receiver (weightAt (decode (now (block .entry)) .delegations) giver receiver) (firstOf (chainHeld steps (decode (now (block .entry))) giver receiver)) (now (buf .entry)) r (now (buf .exit)) ⌝ }
 {
-    if !held::both_enrolled(block, giver, receiver) {
+    if !both_enrolled(block, giver, receiver) {
         return unwritten(refusal::NOT_ENROLLED);
     }
     let n = block::count(block);

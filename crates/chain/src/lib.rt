@@ -7,7 +7,7 @@ ghost use denote.Ref.{ptr};
 ghost use Rattle.rules.specs.Table.{steps};
 ghost use Rattle.chain.specs.ChainOn.{unwrittenBy, ChainMade, ChainFront};
 use refusals::early;
-use refusals::passed;
+use refusals::pair_passed;
 use rules::refusal;
 
 // The least length of the lent buffer: two bytes for each of the most links.
@@ -36,7 +36,7 @@ pub fn write_chain(block: &[u8], giver: u32, receiver: u32, buf: &mut [u8]) -> W
     if buf.len() < CHAIN_SIZE {
         return unwritten(refusal::WRONG_LENGTH);
     }
-    let n = early(block, passed::pair_passed(giver, receiver));
+    let n = early(block, pair_passed(giver, receiver));
     if n != 0 {
         return unwritten(n);
     }

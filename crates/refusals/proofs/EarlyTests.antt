@@ -24,7 +24,7 @@ pub record Early (b : List ℕ) (c : Call) : Type 0 where
   pub formed : wellFormed b ≡ true
 
 -- as the code finds them: the refusal by what was passed is one number, or 0
-abbrev pub earlyOf : List ℕ → ℕ → List (ℕ × Bool)
+abbrev earlyOf : List ℕ → ℕ → List (ℕ × Bool)
 earlyOf b n = wrongLength b ∷ (n, not (eqb n 0)) ∷ notWellFormed b ∷ []
 
 module _ (b : List ℕ) (c : Call) where

@@ -1,6 +1,6 @@
 // The refusals of the public calls, on plain numbers and a lent block: each function is the number of the first that applies, or 0.
-pub mod held;
-pub mod passed;
+mod held;
+mod passed;
 
 ghost use mathlib.Core.Path.{_≡_};
 ghost use mathlib.Core.Bool.{true, not};
@@ -16,6 +16,8 @@ ghost use Rattle.block.specs.WellFormed.{wellFormed};
 ghost use Rattle.refusals.specs.Early.{wrongLength, notWellFormed, refusalOn};
 ghost use Rattle.refusals.specs.Joined.{orElse};
 use block::layout;
+pub use held::both_enrolled;
+pub use passed::pair_passed;
 use rules::refusal;
 
 // `n`, or, where that is 0, the number of a test that applies.
