@@ -86,7 +86,7 @@ fn may_not(n: u32, by: u32, giver: u32) -> u32
     tested(n, refusal::MAY_NOT, by != 0)
 }
 
-// 15: the new weight is not below the present; one that does not stand has none.
+// 15: the new weight is not below the present. A pair that does not stand has no weight, and nothing is below that.
 fn not_below(n: u32, block: &[u8], giver: u32, receiver: u32, weight: u32) -> u32
     requires { ⌜ (wellFormed (now block) ≡ true) × (giver ≤ 63) × (receiver ≤ 63) ⌝ }
     ensures { λ r. ⌜ r ≡ orElse n (notBelow (decode (now (block .entry))) giver receiver weight) ⌝ }
