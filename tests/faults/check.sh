@@ -69,6 +69,9 @@ end='    let end = 2 * written.links;'
 after='    if written.refusal == 0 && end < buf.len() {
         buf[end] = 0;
     }'
+filled='    if written.refusal == 0 && end < buf.len() {
+        buf[end] = 170;
+    }'
 front='    if written.refusal != 0 && buf.len() > 0 {
         buf[0] = 0;
     }'
@@ -79,6 +82,7 @@ first='        if blocks.len() > 0 {
 
 step "no fault" unharmed
 step "chain spoils the byte after its part" found "$end" "$end"$'\n'"$after" '1 1 =' '0 1 ='
+step "chain writes the byte that a buffer was filled with" found "$end" "$end"$'\n'"$filled" '1 1 =' '2 1 ='
 step "a refused chain spoils a byte" found "$end" "$end"$'\n'"$front" '0 0 =' '1 0 ='
 step "a refused list spoils a byte" found "$sized" "$sized"$'\n'"$first" '=' '2180:'
 step "a list does not copy its blocks" found '    copy_slot(blocks, i);' '' '0 1 0 0 2180:' '8 0 0 0 '

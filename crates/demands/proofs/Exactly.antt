@@ -26,7 +26,7 @@ use Rattle.refusals.specs.Early.{early}
 use Rattle.register.specs.CallOn.{Result, callOn}
 use Rattle.demands.specs.Exactly.{Grantable, GrantExactly, ReachAnswer, ReachExactly}
 use Rattle.register.proofs.Made.{callOn-accepted}
-use Rattle.register.proofs.Through.{through}
+use Rattle.register.proofs.Through.{accepted-through}
 
 -- ── a list of refusals of which none applies ──
 firstOf-head : (n : ℕ) (x : Bool) (ps : List (ℕ × Bool)) → n ≢ 0 → firstOf ((n, x) ∷ ps) ≡ 0 → (x ≡ false) × (firstOf ps ≡ 0)
@@ -48,7 +48,7 @@ module _ (t : List ℤ) (rule : TableRule t) (b : List ℕ) (g r w n m : ℕ) wh
   grant-only : callOn t b (grant g r w n m) .refusal ≡ 0 → Grantable t b g r w n m
   unfolding held
   grant-only e =
-      let h = through t b (grant g r w n m) e in
+      let h = accepted-through t b (grant g r w n m) e in
       let (x1, r1) = firstOf-head 9 (notEnrolled (decode b) (g ∷ r ∷ []) .1) (pairStands (decode b) g r ∷ allStand (decode b) ∷ overweight t (decode b) (granted g r w n m ∷ []) ∷ []) (λ q. omega arith) (h .held) in
       let (x2, r2) = firstOf-head 11 (pairStands (decode b) g r .1) (allStand (decode b) ∷ overweight t (decode b) (granted g r w n m ∷ []) ∷ []) (λ q. omega arith) r1 in
       let (x3, r3) = firstOf-head 12 (allStand (decode b) .1) (overweight t (decode b) (granted g r w n m ∷ []) ∷ []) (λ q. omega arith) r2 in
@@ -79,7 +79,7 @@ module _ (t : List ℤ) (b : List ℕ) (g r : ℕ) (e : callOn t b (askReach g r
   -- what is answered is the reach of the definition
   answer-reach : callOn t b (askReach g r) .first ≡ reach t (decode b) g r
   unfolding accepted
-  answer-reach = let h = through t b (askReach g r) e in ap (λ (x : Result). x .first) (callOn-accepted t (askReach g r) b (h .early) (h .held))
+  answer-reach = let h = accepted-through t b (askReach g r) e in ap (λ (x : Result). x .first) (callOn-accepted t (askReach g r) b (h .early) (h .held))
 
   answers-reach : ReachAnswer t b g r
   answers-reach = record {

@@ -29,7 +29,7 @@ use Rattle.refusals.specs.Early.{early}
 use Rattle.register.specs.CallOn.{Result, turned, written, callOn, openOn}
 use Rattle.demands.specs.Kept.{Kept, KeptOpen}
 use Rattle.register.proofs.Made.{callOn-late}
-use Rattle.register.proofs.Through.{through}
+use Rattle.register.proofs.Through.{accepted-through}
 
 module _ (t : List ℤ) (b : List ℕ) (c : Call) where
   written-same : (o : Outcome) → o .refusal ≢ 0 → written b o .bytes ≡ b
@@ -47,7 +47,7 @@ module _ (t : List ℤ) (b : List ℕ) (c : Call) where
 
   -- an accepted call on bytes is the accepted call on the register that the block holds
   accepted-step : callOn t b c .refusal ≡ 0 → (callOn t b c ≡ written b (callStep t (decode b) c)) × (callStep t (decode b) c .refusal ≡ 0)
-  accepted-step e = let q = callOn-late t c b (through t b c e .early) in (q, sym (ap (λ (r : Result). r .refusal) q) ∙ e)
+  accepted-step e = let q = callOn-late t c b (accepted-through t b c e .early) in (q, sym (ap (λ (r : Result). r .refusal) q) ∙ e)
 
   -- an accepted call leaves the register that the definitions leave, written
   accepted-left : callOn t b c .refusal ≡ 0 → callOn t b c .bytes ≡ encode (callStep t (decode b) c .left)
@@ -64,7 +64,7 @@ module _ (t : List ℤ) (b : List ℕ) (c : Call) where
   }
     where
       found-formed : callOn t b c .refusal ≡ 0 → WellFormed (decode b)
-      found-formed e = held-formed b bytes (through t b c e .early .formed)
+      found-formed e = held-formed b bytes (accepted-through t b c e .early .formed)
 
       left-formed : callOn t b c .refusal ≡ 0 → WellFormed (callStep t (decode b) c .left)
       left-formed e = callStep-formed t (decode b) c (found-formed e)

@@ -2,8 +2,11 @@
 use casefile::reading;
 use register::Answer;
 
-// Every byte of the lent buffer before the call.
-const PATTERN: u8 = 170;
+// Every byte of a lent buffer before the call. The function that hands back its part is called on a buffer of each, so that
+// no byte that it writes past the part passes for one that it left.
+const FILL: u8 = 170;
+
+const OTHER_FILL: u8 = 85;
 
 // No chain has more links: each receiver is another subject.
 const MOST_LINKS: usize = 63;
@@ -18,7 +21,7 @@ const UNLIMITED: u16 = 255;
 // What stands for the limit -1, and for links that are no chain.
 const NO_CHAIN: u16 = 256;
 
-// What stands for the refusal where the two functions tell different ones.
+// What stands for the refusal where two calls tell different ones.
 const DIFFERENT: u32 = 99;
 
 struct Record {
@@ -45,46 +48,58 @@ fn no_record() -> Record {
 // the chain is right; refused, it is 1 where something was written. The first is of the function that counts the links, the
 // others are of the one that hands back its part: the second of the whole buffer, the third of the part.
 pub fn judge_call(block: &[u8], giver: u32, receiver: u32, size: usize) -> Answer {
-    let mut buf = [PATTERN; 4096];
+    let mut buf = [FILL; 4096];
     let n = reading::within(size, &buf);
     let counted = judge_counted(block, giver, receiver, &mut buf[..n]);
-    let mut other = [PATTERN; 4096];
+    let mut one = [FILL; 4096];
+    let n = reading::within(size, &one);
+    let handed = judge_handed(block, giver, receiver, &mut one[..n], FILL);
+    let mut other = [OTHER_FILL; 4096];
     let n = reading::within(size, &other);
-    let handed = judge_handed(block, giver, receiver, &mut other[..n]);
+    let again = judge_handed(block, giver, receiver, &mut other[..n], OTHER_FILL);
     Answer {
-        refusal: agreed(counted.refusal, handed.refusal),
+        refusal: agreed(counted.refusal, agreed(handed.refusal, again.refusal)),
         first: counted.first,
-        second: handed.second,
-        third: handed.third,
+        second: same(handed.second, again.second),
+        third: same(handed.third, again.third),
     }
 }
 
-// The refusal that both functions tell.
-fn agreed(counted: u32, handed: u32) -> u32 {
-    if counted == handed {
-        counted
-    } else {
-        DIFFERENT
-    }
+// What is judged of both calls; 2 where that differs.
+fn same(a: i32, b: i32) -> i32 {
+    if a == b { a } else { 2 }
+}
+
+// The refusal that both calls tell.
+fn agreed(a: u32, b: u32) -> u32 {
+    if a == b { a } else { DIFFERENT }
 }
 
 fn judge_counted(block: &[u8], giver: u32, receiver: u32, buf: &mut [u8]) -> Answer {
     let written = chain::write_chain(block, giver, receiver, buf);
     Answer {
         refusal: written.refusal,
-        first: judge(block, giver, receiver, buf, written.refusal, written.links),
+        first: judge(
+            block,
+            giver,
+            receiver,
+            buf,
+            FILL,
+            written.refusal,
+            written.links,
+        ),
         second: 0,
         third: 0,
     }
 }
 
 // The whole buffer is judged once its part is given back.
-fn judge_handed(block: &[u8], giver: u32, receiver: u32, buf: &mut [u8]) -> Answer {
+fn judge_handed(block: &[u8], giver: u32, receiver: u32, buf: &mut [u8], fill: u8) -> Answer {
     let mut refusal = 0;
     let part = chain::chain(block, giver, receiver, &mut refusal, buf);
     let links = links_of(part.len());
-    let third = judge(block, giver, receiver, part, refusal, links);
-    let second = judge(block, giver, receiver, buf, refusal, links);
+    let third = judge(block, giver, receiver, part, fill, refusal, links);
+    let second = judge(block, giver, receiver, buf, fill, refusal, links);
     Answer {
         refusal: refusal,
         first: 0,
@@ -98,11 +113,19 @@ fn links_of(n: usize) -> usize {
     if n % 2 == 0 { n / 2 } else { MOST_LINKS + 1 }
 }
 
-fn judge(block: &[u8], giver: u32, receiver: u32, buf: &[u8], refusal: u32, links: usize) -> i32 {
+fn judge(
+    block: &[u8],
+    giver: u32,
+    receiver: u32,
+    buf: &[u8],
+    fill: u8,
+    refusal: u32,
+    links: usize,
+) -> i32 {
     if refusal == 0 {
-        return number(is_right(block, giver, receiver, buf, links));
+        return number(is_right(block, giver, receiver, buf, fill, links));
     }
-    number(links > 0 || !is_kept(buf, 0))
+    number(links > 0 || !is_kept(buf, 0, fill))
 }
 
 fn number(is_so: bool) -> i32 {
@@ -110,15 +133,15 @@ fn number(is_so: bool) -> i32 {
 }
 
 // Whether so many links at the front of the buffer are what the call must write.
-fn is_right(block: &[u8], giver: u32, receiver: u32, buf: &[u8], links: usize) -> bool {
+fn is_right(block: &[u8], giver: u32, receiver: u32, buf: &[u8], fill: u8, links: usize) -> bool {
     if giver > MOST_SUBJECT || receiver > MOST_SUBJECT || links > MOST_LINKS {
         return false;
     }
-    is_chain(block, giver as u8, receiver as u8, buf, links as u8)
+    is_chain(block, giver as u8, receiver as u8, buf, fill, links as u8)
 }
 
 // Whether the first n links are a chain of the standing pair that carries its weight, and the bytes past them are kept.
-fn is_chain(block: &[u8], giver: u8, receiver: u8, buf: &[u8], n: u8) -> bool {
+fn is_chain(block: &[u8], giver: u8, receiver: u8, buf: &[u8], fill: u8, n: u8) -> bool {
     let own = standing(block, giver, receiver);
     if !own.is_standing || end_of(buf, n) != giver {
         return false;
@@ -127,14 +150,14 @@ fn is_chain(block: &[u8], giver: u8, receiver: u8, buf: &[u8], n: u8) -> bool {
     if limit == NO_CHAIN || limit < own.weight as u16 {
         return false;
     }
-    is_kept(buf, 2 * n as usize)
+    is_kept(buf, 2 * n as usize, fill)
 }
 
 // Whether the bytes from `from` on are as they were before the call.
-fn is_kept(buf: &[u8], from: usize) -> bool {
+fn is_kept(buf: &[u8], from: usize, fill: u8) -> bool {
     let mut i = from;
     while i < buf.len() {
-        if buf[i] != PATTERN {
+        if buf[i] != fill {
             return false;
         }
         i += 1;

@@ -80,6 +80,10 @@ module _ (t : List ℤ) (b : List ℕ) (c : Call) where
   unfolding refusalOn
   refused-early n e k = sym (firstOf-some (early b c) (held t (decode b) c) n (early-numbered b c) e k)
 
+  -- p and n are what the code finds
+  pub refused-found : (p n : ℕ) → p ≡ firstOf (passed c) → n ≡ firstOf (earlyOf b p) → n ≢ 0 → n ≡ refusalOn t b c
+  refused-found p n e q k = refused-early n (early-found b c p n e q) k
+
   pub refused-held : Early b c → refusalOn t b c ≡ firstOf (held t (decode b) c)
   unfolding refusalOn
   refused-held h = firstOf-none (early b c) (held t (decode b) c) (early-numbered b c) (none-early b c h)

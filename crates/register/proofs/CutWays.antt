@@ -35,7 +35,7 @@ use Rattle.register.specs.declared.Answer.{Answer}
 use Rattle.refusals.proofs.Within.{Within, within}
 use Rattle.refusals.proofs.EarlyTests.{Early}
 use Rattle.register.proofs.Made.{made-done}
-use Rattle.register.proofs.Through.{through}
+use Rattle.register.proofs.Through.{accepted-through}
 use Rattle.register.proofs.OnBytes.{onBytes, callOn-encode}
 
 -- what `settled` promises, as the outcome of a cut
@@ -101,7 +101,7 @@ cut-made t rule c k i b bytes o after q = (q, left)
   where
     left : o .refusal ≡ 0 → CutLeft t (named (decode b) k) o after
     left z =
-        let h = through t b c (sym (ap (λ (r : Result). r .refusal) q) ∙ z) .early .formed in
+        let h = accepted-through t b c (sym (ap (λ (r : Result). r .refusal) q) ∙ z) .early .formed in
         let w = held-written b bytes h in
         subst (λ (x : List ℕ). CutLeft t (named (decode x) k) o after) (sym w) (cut-left t rule (decode b) (held-formed b bytes h) c o after (q ∙ ap (λ (x : List ℕ). callOn t x c) w) k i z)
 

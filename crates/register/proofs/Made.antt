@@ -39,7 +39,7 @@ module _ (t : List ℤ) (c : Call) (b : List ℕ) where
         go true q = refl
         go false q = absurd (subst T (sym q) tt)
 
-    pub refusal-held : refusalOf t (decode b) c ≡ firstOf (held t (decode b) c)
+    refusal-held : refusalOf t (decode b) c ≡ firstOf (held t (decode b) c)
     unfolding refusalOf
     refusal-held = firstOf-none (passed c) (held t (decode b) c) (passed-numbered c) (h .passed)
 

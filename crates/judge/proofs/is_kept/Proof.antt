@@ -1,4 +1,4 @@
--- `judge::chains::is_kept` is safe and ends: `i` goes up to the buffer's end. Assumes nothing.
+-- `judge::is_kept` is safe and ends: `i` goes up to the buffer's end. Assumes nothing.
 use Prim.Native.Nat.{_-_}
 use lib.ListN.{length}
 use borrow.Author.Needs.{needs}
@@ -6,10 +6,10 @@ use Rattle.judge.proofs.is_kept.Statement.{statement}
 use Rattle.judge.proofs.is_kept.Tie as tie
 
 abbrev Inv-loop : tie.InvT-loop
-Inv-loop buf from i₀ i = Unit {0}
+Inv-loop buf from fill i₀ i = Unit {0}
 
 abbrev μ-loop : tie.MeasureT-loop
-μ-loop buf from i₀ i = length buf - i
+μ-loop buf from fill i₀ i = length buf - i
 
 loop-holds : tie.Need-loop-holds Inv-loop μ-loop
 loop-holds c = search needs

@@ -1,4 +1,4 @@
--- `judge::chains::is_on` is safe and ends: `i` goes up to the number of links. Assumes nothing.
+-- `judge::is_on` is safe and ends: `i` goes up to the number of links. Assumes nothing.
 use Prim.Native.Nat.{_-_}
 use borrow.Author.Needs.{needs}
 use Rattle.judge.proofs.is_on.Statement.{statement}

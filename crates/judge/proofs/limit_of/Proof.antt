@@ -1,4 +1,4 @@
--- `judge::chains::limit_of` is safe and ends: `i` goes up to the number of links. Assumes nothing.
+-- `judge::limit_of` is safe and ends: `i` goes up to the number of links. Assumes nothing.
 use Prim.Native.Nat.{_-_}
 use borrow.Author.Needs.{needs}
 use Rattle.judge.proofs.limit_of.Statement.{statement}

@@ -1,4 +1,4 @@
--- `judge::chains::standing` is safe and ends: `i` goes up to the number of records. Assumes nothing.
+-- `judge::standing` is safe and ends: `i` goes up to the number of records. Assumes nothing.
 use Prim.Native.Nat.{_-_}
 use borrow.Author.Needs.{needs}
 use Rattle.judge.proofs.standing.Statement.{statement}

@@ -1,4 +1,4 @@
--- `lists::lists::make` is safe: each front lies within its buffer. Assumes nothing.
+-- `lists::make` is safe: each front lies within its buffer. Assumes nothing.
 use mathlib.Core.Path.{sym}
 use lib.Seq.{length-take-le}
 use borrow.Author.Needs.{needs}

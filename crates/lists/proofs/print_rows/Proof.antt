@@ -1,4 +1,4 @@
--- `lists::lists::print_rows` is safe and ends: `i` goes up to the number of calls. Assumes nothing.
+-- `lists::print_rows` is safe and ends: `i` goes up to the number of calls. Assumes nothing.
 use Prim.Native.Nat.{_-_}
 use borrow.Author.Needs.{needs}
 use Rattle.lists.proofs.print_rows.Statement.{statement}

@@ -1,4 +1,4 @@
--- `lists::lists::read_numbers` is safe and ends: `i` goes up to the number of places. Assumes nothing.
+-- `lists::read_numbers` is safe and ends: `i` goes up to the number of places. Assumes nothing.
 use mathlib.Core.Path.{_≡_}
 use Prim.Native.Nat.{_-_}
 use lib.ListN.{length}

@@ -1,4 +1,4 @@
--- `lists::lists::run_lines` is safe and ends: `at` goes up to the text's end. Assumes nothing.
+-- `lists::run_lines` is safe and ends: `at` goes up to the text's end. Assumes nothing.
 use Prim.Native.Nat.{_-_}
 use lib.ListN.{length}
 use borrow.Author.Needs.{needs}

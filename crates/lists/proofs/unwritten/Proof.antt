@@ -1,4 +1,4 @@
--- `lists::lists::unwritten` answers an array of its length. Assumes nothing.
+-- `lists::unwritten` answers an array of its length. Assumes nothing.
 use mathlib.Core.Path.{sym}
 use Prim.Native.Nat.{ℕ}
 use lib.ListN.{length-replicate}
