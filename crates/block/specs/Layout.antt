@@ -1,18 +1,15 @@
 -- The sizes and offsets of the block (document 01, 'The block'). Assumes nothing.
-use Prim.Native.Nat.{ℕ}
+use Prim.Native.Nat.{ℕ, _+_, _*_}
 
 abbrev pub blockSize : ℕ
 blockSize = 2180
 
--- where the count of delegations, the marks and the records begin
-abbrev pub countAt : ℕ
-countAt = 2
+-- the most subjects, and the most delegations
+abbrev pub mostSubjects : ℕ
+mostSubjects = 64
 
-abbrev pub marksAt : ℕ
-marksAt = 4
-
-abbrev pub recordsAt : ℕ
-recordsAt = 132
+abbrev pub mostRecords : ℕ
+mostRecords = 256
 
 -- the bytes of a subject's marks, and of a record
 abbrev pub markSize : ℕ
@@ -23,7 +20,17 @@ recordSize = 8
 
 -- the bytes of all marks, and of all records
 abbrev pub marksSize : ℕ
-marksSize = 128
+marksSize = markSize * mostSubjects
 
 abbrev pub recordsSize : ℕ
-recordsSize = 2048
+recordsSize = recordSize * mostRecords
+
+-- where the count of delegations, the marks and the records begin
+abbrev pub countAt : ℕ
+countAt = 2
+
+abbrev pub marksAt : ℕ
+marksAt = 4
+
+abbrev pub recordsAt : ℕ
+recordsAt = marksAt + marksSize
