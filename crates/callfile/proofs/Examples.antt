@@ -10,11 +10,13 @@ use lib.IntN.{ℤ, pos, negsuc}
 use lib.ListN.{length, length-append}
 use Rattle.rules.specs.Table.{steps}
 use Rattle.rules.specs.Call.{Call, enrol, fresh}
+use Rattle.rules.specs.Trace.{traceFrom}
 use Rattle.rules.specs.Examples.{Line, Shown, P1}
 use Rattle.rules.proofs.Lists.{T-left, T-right}
 use Rattle.block.specs.Block.{encode}
 use Rattle.register.specs.CallOn.{callOn}
-use Rattle.demands.specs.Examples.{traceOnFrom, lineOn}
+use Rattle.demands.specs.History.{bytesLeft}
+use Rattle.demands.specs.Examples.{lineOn}
 use Rattle.demands.proofs.ByteExamples.{examples-on-bytes}
 use Rattle.text.specs.Text.{digits, line, most, AllAllowed}
 use Rattle.text.proofs.Injective.{line-inj}
@@ -31,7 +33,7 @@ shown : List Line → List ℕ
 shown [] = []
 shown (l ∷ ls) = line (pos (l .refusal) ∷ l .first ∷ l .second ∷ l .third ∷ []) ++ shown ls
 
-answers-shown : (b : List ℕ) (cs : List Call) → answerLines b cs ≡ shown (map lineOn (traceOnFrom steps b cs))
+answers-shown : (b : List ℕ) (cs : List Call) → answerLines b cs ≡ shown (map lineOn (traceFrom (callOn steps) bytesLeft b cs))
 unfolding shown
 answers-shown b [] = refl
 answers-shown b (c ∷ cs) = ap (λ (s : List ℕ). answerLine (callOn steps b c) ++ s) (answers-shown (callOn steps b c .bytes) cs)

@@ -3,7 +3,6 @@ mod cutting;
 
 ghost use mathlib.Core.Path.{_≡_};
 ghost use Rattle.rules.specs.Table.{steps};
-ghost use Rattle.rules.specs.Cut.{removal, lowering};
 ghost use Rattle.rules.specs.Call.{enrol, grant, revoke, downgrade, askReach, askUse};
 ghost use Rattle.register.specs.Made.{refusedBy, answeredBy, Made, MadeOpen};
 ghost use Rattle.register.specs.Cuts.{CutMade};
@@ -122,7 +121,7 @@ pub fn grant(
 
 // Removes a delegation, then lowers or removes what it no longer supports; answers dropped, lowered and rounds.
 pub fn revoke(block: &mut [u8], by: u32, giver: u32, receiver: u32) -> Answer
-    ensures { λ r. ⌜ CutMade steps (revoke by giver receiver) (removal giver receiver) (now (block .entry)) r (now (block .exit)) ⌝ }
+    ensures { λ r. ⌜ CutMade steps (revoke by giver receiver) (now (block .entry)) r (now (block .exit)) ⌝ }
 {
     let n = refusals::revoke_refusal(block, by, giver, receiver);
     if n != 0 {
@@ -134,7 +133,7 @@ pub fn revoke(block: &mut [u8], by: u32, giver: u32, receiver: u32) -> Answer
 
 // Sets a delegation to a smaller weight, then as revoke.
 pub fn downgrade(block: &mut [u8], by: u32, giver: u32, receiver: u32, weight: u32) -> Answer
-    ensures { λ r. ⌜ CutMade steps (downgrade by giver receiver weight) (lowering giver receiver weight) (now (block .entry)) r (now (block .exit)) ⌝ }
+    ensures { λ r. ⌜ CutMade steps (downgrade by giver receiver weight) (now (block .entry)) r (now (block .exit)) ⌝ }
 {
     let n = refusals::downgrade_refusal(block, by, giver, receiver, weight);
     if n != 0 {

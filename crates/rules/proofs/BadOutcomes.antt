@@ -23,8 +23,8 @@ use Rattle.rules.specs.Remainder.{AtMost, Within, Remainder, Best}
 use Rattle.rules.specs.Call.{grant}
 use Rattle.rules.specs.Refusal.{passed, held, refusalOf}
 use Rattle.rules.specs.CallStep.{Outcome, answered, refused, cut, accepted, callStep}
-use Rattle.rules.specs.Trace.{registerAt}
-use Rattle.rules.specs.History.{CutRight, PlaceRight}
+use Rattle.rules.specs.Trace.{PlaceRight}
+use Rattle.rules.specs.History.{registerAt, CutRight, CutsRight}
 use Rattle.rules.specs.Examples.{P1, P2, P3-with, P4, P5, P6, entry, needing}
 use Rattle.rules.proofs.Lists.{T-both, eq→eqb, any-mem}
 use Rattle.rules.proofs.Table.{steps-rule}
@@ -180,7 +180,7 @@ unfolding limitFrom
 not-none r = let h = r .bounds [] (chain-owner steps P6-register 1) in omega arith
 
 -- grant returns 16 before looking for a chain: P6
-pub not-sixteen : PlaceRight steps P6-register record { call = grant 0 1 255 0 0; outcome = refused 16 P6-register } → ⊥
+pub not-sixteen : PlaceRight (callStep steps) (CutsRight steps) P6-register (grant 0 1 255 0 0) (refused 16 P6-register) → ⊥
 unfolding larger next step steps meets limitFrom goesOn chains reach allowed passed held refusalOf accepted callStep
 not-sixteen r = let e : _≡_ {A = ℕ} 16 0 = ap (λ (o : Outcome). o .refusal) (r .outcome) in omega arith
 

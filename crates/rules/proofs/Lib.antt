@@ -13,6 +13,7 @@ pub mod Calls
 pub mod Firm
 pub mod Bound
 pub mod Ranges
+pub mod Trace
 pub mod History
 pub mod Certificate
 pub mod Search

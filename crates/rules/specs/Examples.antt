@@ -8,7 +8,7 @@ use Rattle.rules.specs.Table.{steps}
 use Rattle.rules.specs.Register.{Delegation}
 use Rattle.rules.specs.Call.{Call, enrol, grant, revoke, downgrade, askReach, askUse, granted}
 use Rattle.rules.specs.CallStep.{Outcome}
-use Rattle.rules.specs.Trace.{trace}
+use Rattle.rules.specs.History.{trace}
 
 -- an outcome as the program prints it: refusal and three answers
 pub record Line : Type 0 where

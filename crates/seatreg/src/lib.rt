@@ -2,7 +2,6 @@
 mod answers;
 
 ghost use Rattle.rules.specs.Table.{steps};
-ghost use Rattle.rules.specs.Cut.{removal, lowering};
 ghost use Rattle.rules.specs.Call.{enrol, grant, revoke, downgrade, askReach, askUse};
 ghost use Rattle.seatreg.specs.Entry.{EntryMade, EntryOpened, EntryCutMade};
 use rules::refusal;
@@ -60,7 +59,7 @@ pub extern "C" fn seatreg_revoke(
     receiver: u32,
     answers: &mut [u8],
 ) -> u32
-    ensures { λ r. ⌜ EntryCutMade steps (revoke by giver receiver) (removal giver receiver) (now (block .entry)) (now (answers .entry)) r (now (block .exit)) (now (answers .exit)) ⌝ }
+    ensures { λ r. ⌜ EntryCutMade steps (revoke by giver receiver) (now (block .entry)) (now (answers .entry)) r (now (block .exit)) (now (answers .exit)) ⌝ }
 {
     if answers.len() != answers::ANSWERS_SIZE {
         return refusal::WRONG_LENGTH;
@@ -79,7 +78,7 @@ pub extern "C" fn seatreg_downgrade(
     weight: u32,
     answers: &mut [u8],
 ) -> u32
-    ensures { λ r. ⌜ EntryCutMade steps (downgrade by giver receiver weight) (lowering giver receiver weight) (now (block .entry)) (now (answers .entry)) r (now (block .exit)) (now (answers .exit)) ⌝ }
+    ensures { λ r. ⌜ EntryCutMade steps (downgrade by giver receiver weight) (now (block .entry)) (now (answers .entry)) r (now (block .exit)) (now (answers .exit)) ⌝ }
 {
     if answers.len() != answers::ANSWERS_SIZE {
         return refusal::WRONG_LENGTH;

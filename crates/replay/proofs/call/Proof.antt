@@ -40,7 +40,7 @@ returns-3 : tie.Need-returns-3
 unfolding callOf
 returns-3 c =
     let a = c .before .before .before .before .before .before .before .before .args in
-    call-named (a .number) (a .by) (a .giver) (a .receiver) (a .weight) (a .need) (a .bar) (a .block .now) _ _ 2 (c .before .before .before .before .if3 .taken) tt (c .before .before .revoke .ensures .0)
+    call-named (a .number) (a .by) (a .giver) (a .receiver) (a .weight) (a .need) (a .bar) (a .block .now) _ _ 2 (c .before .before .before .before .if3 .taken) tt (c .before .before .revoke .ensures .outcome)
 
 downgrade-requires : tie.Need-downgrade-requires
 downgrade-requires c κs = search needs
@@ -52,7 +52,7 @@ returns-4 : tie.Need-returns-4
 unfolding callOf
 returns-4 c =
     let a = c .before .before .before .before .before .before .before .before .before .args in
-    call-named (a .number) (a .by) (a .giver) (a .receiver) (a .weight) (a .need) (a .bar) (a .block .now) _ _ 3 (c .before .before .before .before .if4 .taken) tt (c .before .before .downgrade .ensures .0)
+    call-named (a .number) (a .by) (a .giver) (a .receiver) (a .weight) (a .need) (a .bar) (a .block .now) _ _ 3 (c .before .before .before .before .if4 .taken) tt (c .before .before .downgrade .ensures .outcome)
 
 reach-requires : tie.Need-reach-requires
 reach-requires c κs = search needs
