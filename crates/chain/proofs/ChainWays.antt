@@ -26,6 +26,7 @@ use Rattle.rules.specs.Refusal.{firstOf, passed, chainPassed, chainHeld}
 use Rattle.rules.proofs.Lists.{eqOr}
 use Rattle.rules.proofs.Refusals.{numbered, firstOf-none, firstOf-some}
 use Rattle.rules.proofs.Pairs.{test-pair}
+use Rattle.rules.proofs.Support.{allowed-reach}
 use Rattle.block.specs.Bytes.{IsBytes, leading}
 use Rattle.block.specs.Block.{subjectsIn, countIn, recordsIn, decode}
 use Rattle.block.specs.WellFormed.{wellFormed}
@@ -132,14 +133,13 @@ module _ (t : List ℤ) (b : List ℕ) (bytes : IsBytes b) (formed : wellFormed 
       -- the test of 16, as the code makes it
       heavy-test : any (λ x. ltb (code (allowed t (decode b) x)) (suc (x .weight))) (filter (isPair g r) (decode b .delegations))
           ≡ ltZ (reach t (decode b) g r) (pos (delegationAt b k .weight))
-      unfolding allowed
       heavy-test =
           let a = at-place b bytes formed g r k place found in
           let (e, h) = one-pair g r (decode b .delegations) (granted 0 0 0 0 0) (held-formed b bytes formed .rising) (place-inside b bytes formed g r k place found) in
           let q = test-pair g r (delegationAt b k) (subst (λ (x : Delegation). T (isPair g r x)) a h) in
           ap (any (λ x. ltb (code (allowed t (decode b) x)) (suc (x .weight)))) (e ∙ ap (λ (x : Delegation). x ∷ []) a)
           ∙ or-false (ltb (code (allowed t (decode b) (delegationAt b k))) (suc (delegationAt b k .weight)))
-          ∙ (λ j. ltb (code (reach t (decode b) (q .0 j) (q .1 j))) (suc (delegationAt b k .weight)))
+          ∙ ap (λ (l : ℤ). ltb (code l) (suc (delegationAt b k .weight))) (allowed-reach t (decode b) (delegationAt b k) ∙ (λ j. reach t (decode b) (q .0 j) (q .1 j)))
           ∙ sym (below-weight (reach t (decode b) g r) (delegationAt b k .weight))
 
       -- past 9 and 13 what is left is what the search leaves

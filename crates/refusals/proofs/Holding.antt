@@ -20,6 +20,7 @@ use Rattle.rules.specs.Call.{grant, granted}
 use Rattle.rules.specs.Refusal.{firstOf, held}
 use Rattle.rules.proofs.Lists.{either, getD-tabulate, T-true}
 use Rattle.rules.proofs.Refusals.{passes-of}
+use Rattle.rules.proofs.Support.{allowed-reach}
 use Rattle.block.specs.Bytes.{IsBytes, leading}
 use Rattle.block.specs.Block.{subjectsIn, countIn, decode}
 use Rattle.block.specs.WellFormed.{wellFormed}
@@ -90,8 +91,7 @@ module _ (t : List ℤ) (b : List ℕ) (bytes : IsBytes b) (formed : wellFormed 
   module _ (w n m : ℕ) where
     -- the test of 16, as the code makes it
     pub heavy-test : (ltb (code (allowed t (decode b) (granted g r w n m))) (suc w) || false) ≡ ltZ (reach t (decode b) g r) (pos w)
-    unfolding allowed
-    heavy-test = or-false (ltb (code (reach t (decode b) g r)) (suc w)) ∙ sym (below-weight (reach t (decode b) g r) w)
+    heavy-test = rw (allowed-reach t (decode b) (granted g r w n m)) (or-false (ltb (code (reach t (decode b) g r)) (suc w)) ∙ sym (below-weight (reach t (decode b) g r) w))
 
 -- room is left for a grant that is not refused
 pub grant-room : (t : List ℤ) (b : List ℕ) (bytes : IsBytes b) (formed : wellFormed b ≡ true) (g r w n m : ℕ) → firstOf (held t (decode b) (grant g r w n m)) ≡ 0 → countIn b < 256

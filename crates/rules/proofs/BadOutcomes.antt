@@ -16,7 +16,7 @@ use Rattle.rules.specs.Register.{Delegation, Register}
 use Rattle.rules.specs.Condition.{meets}
 use Rattle.rules.specs.Chain.{limitFrom, IsChain}
 use Rattle.rules.specs.Reach.{IsReach, goesOn, chains, reach}
-use Rattle.rules.specs.Support.{allowed, Carried}
+use Rattle.rules.specs.Support.{allowed}
 use Rattle.rules.specs.Round.{round, settle, SettlesIn}
 use Rattle.rules.specs.Cut.{removal, lowering, named}
 use Rattle.rules.specs.Remainder.{AtMost, Within, Remainder, Best}
@@ -30,7 +30,7 @@ use Rattle.rules.proofs.Lists.{T-both, eq→eqb, any-mem}
 use Rattle.rules.proofs.Table.{steps-rule}
 use Rattle.rules.proofs.Chains.{chain-owner}
 use Rattle.rules.proofs.Reach.{reach-only}
-use Rattle.rules.proofs.Support.{carried-allowed, allowed-carried}
+use Rattle.rules.proofs.Support.{carried-chain, carried-allowed, allowed-carried}
 
 zero-one : _≡_ {A = ℕ} 0 1 → ⊥
 zero-one e = omega arith
@@ -50,8 +50,7 @@ no-chain [] c = zero-one (c .linked)
 no-chain (d ∷ ds) c = from-owner (c .standing d (List·Memᴰ·head refl)) (c .linked .0)
 
 pub not-named-only : Remainder steps P1-cut P1-cut → ⊥
-unfolding Carried
-not-named-only r = let (ds, c, h) = r .supported (entry 1 2 255) (List·Memᴰ·head refl) in no-chain ds c
+not-named-only r = let (ds, c, h) = carried-chain steps P1-cut (entry 1 2 255) (r .supported (entry 1 2 255) (List·Memᴰ·head refl)) in no-chain ds c
 
 -- ── a cut that stops after one round: P5 keeps 5-4 at 3 ──
 abbrev P5-left : List Delegation → Register

@@ -14,8 +14,6 @@ use Rattle.rules.specs.List.{_∈_}
 use Rattle.rules.specs.Limit.{code, _≼_}
 use Rattle.rules.specs.Table.{TableRule}
 use Rattle.rules.specs.Register.{Delegation, Register, reweigh, withDelegations}
-use Rattle.rules.specs.Condition.{meets}
-use Rattle.rules.specs.Chain.{IsChain}
 use Rattle.rules.specs.Support.{allowed, Carried, Supported}
 use Rattle.rules.specs.Pair.{isPair}
 use Rattle.rules.specs.Round.{settle}
@@ -27,7 +25,7 @@ use Rattle.rules.specs.Refusal.{passed, held, refusalOf}
 use Rattle.rules.specs.CallStep.{Outcome, insert, cut, accepted, refused, callStep}
 use Rattle.rules.proofs.Lists.{filter-mem, filter-length, map-mem, eq→eqb, not-or-left, not-or-right, not-not, test-ne}
 use Rattle.rules.proofs.Chains.{mem-snoc}
-use Rattle.rules.proofs.Support.{allowed-carried, carried-mono}
+use Rattle.rules.proofs.Support.{carried-on, allowed-carried, carried-mono}
 use Rattle.rules.proofs.Rounds.{AtMost-refl, settle-right, settle-best}
 use Rattle.rules.proofs.WellFormed.{settles-formed}
 use Rattle.rules.proofs.Refusals.{Passes, passes}
@@ -152,22 +150,9 @@ accepted-formed t R (askUse r) p f = f
 
 -- ── supported ──
 module _ (t : List ℤ) (rule : TableRule t) where
-  -- a chain of an enrolled receiver is one after another subject is enrolled
-  enrol-chain : (R : Register) (m u v : ℕ) (ds : List Delegation) → v < length (R .marks) → IsChain t R u v ds
-      → IsChain t (enrolled R m) u v ds
-  enrol-chain R m u v ds l c = record {
-    standing = c .standing;
-    linked = c .linked;
-    distinct = c .distinct;
-    met = λ d i. subst (λ (x : ℕ). T (meets x (d .need) (d .bar))) (sym (List·getD-append (R .marks) (m ∷ []) 0 v l)) (c .met d i);
-    live = c .live;
-  }
-
   enrol-supported : (R : Register) (m : ℕ) → WellFormed R → Supported t R → Supported t (enrolled R m)
-  unfolding Carried
   enrol-supported R m f s d i =
-      let (ds, c, h) = s d i in
-      (ds, enrol-chain R m (d .giver) (d .receiver) ds (omega (arith, f .marked, f .each d i .receiver)) c, h)
+      carried-on t R (enrolled R m) d (sym (List·getD-append (R .marks) (m ∷ []) 0 (d .receiver) (omega (arith, f .marked, f .each d i .receiver)))) (λ ds c h. c .standing) (s d i)
 
   insert-supported : (R : Register) (d : Delegation) → pos (d .weight) ≼ allowed t R d → Supported t R → Supported t (withDelegations R (insert d (R .delegations)))
   insert-supported R d h s e m = carried-mono t rule R (withDelegations R (insert d (R .delegations))) e within (old (insert-mem d (R .delegations) m))

@@ -1,4 +1,5 @@
--- Support: reach and what a delegation is allowed rise with the register, and a weight is allowed exactly where a chain carries it. Assumes nothing.
+-- Support: reach and what a delegation is allowed rise with the register, and a weight is allowed exactly where a chain carries it. No other proof but a computed example rests on the
+-- text of `allowed` and `Carried`. Assumes nothing.
 use mathlib.Core.Path.{_≡_, refl, sym, ap, subst, _∙_}
 use mathlib.Core.Logic.{_⊎_, inl, inr}
 use mathlib.Core.List.{List, [], _∷_, List·Memᴰ·head, List·Memᴰ·tail, List·Memᴰ·not-nil}
@@ -11,7 +12,7 @@ use lib.IntN.{ℤ, pos}
 use Rattle.rules.specs.List.{_∈_, Distinct}
 use Rattle.rules.specs.Limit.{none, code, _≼_}
 use Rattle.rules.specs.Table.{next, TableRule}
-use Rattle.rules.specs.Register.{Delegation, Register, marksOf}
+use Rattle.rules.specs.Register.{Delegation, Register, marksOf, reweigh}
 use Rattle.rules.specs.Condition.{meets}
 use Rattle.rules.specs.Chain.{Linked, receivers, limitFrom, limit, IsChain}
 use Rattle.rules.specs.Reach.{reach}
@@ -19,6 +20,37 @@ use Rattle.rules.specs.Support.{allowed, Carried}
 use Rattle.rules.specs.Remainder.{AtMost, Within}
 use Rattle.rules.proofs.Limits.{next-mono, next-top}
 use Rattle.rules.proofs.Reach.{reach-bound, reach-attained}
+
+module _ (t : List ℤ) where
+  -- what counts for a delegation is the reach of its pair
+  pub allowed-reach : (R : Register) (d : Delegation) → allowed t R d ≡ reach t R (d .giver) (d .receiver)
+  unfolding allowed
+  allowed-reach R d = refl
+
+  -- whatever its weight
+  pub allowed-reweigh : (R : Register) (d : Delegation) (w : ℕ) → allowed t R (reweigh d w) ≡ allowed t R d
+  unfolding allowed
+  allowed-reweigh R d w = refl
+
+  pub carried-chain : (R : Register) (d : Delegation) → Carried t R d → (ds : List Delegation) × IsChain t R (d .giver) (d .receiver) ds × (pos (d .weight) ≼ limit t ds)
+  unfolding Carried
+  carried-chain R d c = c
+
+  -- what is carried within R is carried within S, where the receiver has the same marks and each chain that carries the weight stands
+  pub carried-on : (R S : Register) (d : Delegation) → marksOf R (d .receiver) ≡ marksOf S (d .receiver)
+      → ((ds : List Delegation) → IsChain t R (d .giver) (d .receiver) ds → pos (d .weight) ≼ limit t ds → (e : Delegation) → e ∈ ds → e ∈ S .delegations) → Carried t R d → Carried t S d
+  unfolding Carried
+  carried-on R S d marks stand (ds, c, h) = (
+    ds,
+    record {
+      standing = stand ds c h;
+      linked = c .linked;
+      distinct = c .distinct;
+      met = λ e i. subst (λ (x : ℕ). T (meets x (e .need) (e .bar))) marks (c .met e i);
+      live = c .live;
+    },
+    h,
+  )
 
 module _ (t : List ℤ) (rule : TableRule t) where
   -- the list ds, taken over delegations that G holds at least as heavy
