@@ -14,6 +14,7 @@ pub use read::read_two;
 pub use read::receiver;
 pub use read::receives;
 pub use read::record_formed;
+pub use read::records;
 pub use read::records_formed;
 pub use read::records_rise;
 pub use read::subjects;
