@@ -37,7 +37,7 @@ pub fn read_two(s: &[u8], at: usize) -> u16
 }
 
 // The bytes from `from` up to `to` are zero.
-pub fn zero_range(s: &[u8], from: usize, to: usize) -> bool
+fn zero_range(s: &[u8], from: usize, to: usize) -> bool
     requires { ⌜ to ≤ length (now s) ⌝ }
     ensures { λ r. ⌜ r ≡ zeros (now (s .entry)) from (to - from) ⌝ }
 {
@@ -137,7 +137,7 @@ pub fn bar(b: &[u8], k: usize) -> u16
 }
 
 // The record at `at` is formed as one between enrolled subjects.
-pub fn record_formed(s: &[u8], at: usize, subjects: u8) -> bool
+fn record_formed(s: &[u8], at: usize, subjects: u8) -> bool
     requires { ⌜ at + recordSize ≤ length (now s) ⌝ }
     ensures { λ r. ⌜ r ≡ recordFormed subjects (drop at (now (s .entry))) ⌝ }
 {
@@ -163,7 +163,7 @@ pub fn record_formed(s: &[u8], at: usize, subjects: u8) -> bool
 }
 
 // The first `count` records are each formed.
-pub fn records_formed(b: &[u8], count: usize, subjects: u8) -> bool
+fn records_formed(b: &[u8], count: usize, subjects: u8) -> bool
     requires { ⌜ HasRecords (now b) count ⌝ }
     ensures { λ r. ⌜ r ≡ allFrom (λ k. recordFormed subjects (recordFrom (now (b .entry)) k)) 0 count ⌝ }
 {
@@ -201,7 +201,7 @@ fn is_before(b: &[u8], k: usize, giver: u8, receiver: u8) -> bool
 }
 
 // The first `count` records rise strictly.
-pub fn records_rise(b: &[u8], count: usize) -> bool
+fn records_rise(b: &[u8], count: usize) -> bool
     requires { ⌜ HasRecords (now b) count ⌝ }
     ensures { λ r. ⌜ r ≡ rises (delegationsTo (now (b .entry)) count) ⌝ }
 {
