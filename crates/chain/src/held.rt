@@ -17,7 +17,6 @@ ghost use Rattle.chain.specs.ChainOn.{ChainLeft};
 use crate::Written;
 use crate::links;
 use crate::unwritten;
-use block::layout;
 use refusals::both_enrolled;
 use rules::refusal;
 
@@ -52,15 +51,8 @@ fn write_carrying(
     if limits[giver] < weight as i16 {
         return unwritten(refusal::OVERWEIGHT);
     }
-    let n = block::count(block);
-    let end = layout::RECORDS_AT + layout::RECORD_SIZE * n;
-    let links = links::write_links(
-        &block[layout::RECORDS_AT..end],
-        &parents,
-        giver,
-        MOST_LINKS,
-        buf,
-    );
+    let records = block::records(block);
+    let links = links::write_links(records, &parents, giver, MOST_LINKS, buf);
     Written {
         refusal: 0,
         links: links,

@@ -18,11 +18,12 @@ use Rattle.rules.specs.Reach.{chains, reach}
 use Rattle.rules.specs.Links.{linksTo}
 use Rattle.rules.specs.WellFormed.{Rising}
 use Rattle.rules.proofs.Lists.{getD-tabulate}
+use Rattle.block.specs.Layout.{recordsAt}
 use Rattle.block.specs.Bytes.{IsBytes}
-use Rattle.block.specs.Block.{marksIn, delegationIn, subjectsIn, countIn, recordsIn, decode}
+use Rattle.block.specs.Block.{delegationIn, subjectsIn, countIn, recordsIn, decode}
 use Rattle.block.specs.WellFormed.{wellFormed}
 use Rattle.block.proofs.Held.{held-formed, size-held, count-most, delegations-held}
-use Rattle.block.specs.Records.{delegationAt, recordFrom}
+use Rattle.block.specs.Records.{marksFor, delegationAt, recordFrom}
 use Rattle.runs.specs.Lent.{delegationsOf, Lent, delegationsIn}
 use Rattle.search.specs.Search.{underMarks, parentIn}
 use Rattle.search.specs.Found.{Searched}
@@ -45,13 +46,13 @@ chain-marks t R u v ds c = record { standing = c .standing; linked = c .linked; 
 
 module _ (b : List ℕ) (bytes : IsBytes b) (formed : wellFormed b ≡ true) where
   length-records : length (recordsIn b) ≡ 8 * countIn b
-  length-records = length-take (8 * countIn b) (drop 132 b) ∙ omega (arith, length-drop 132 b, size-held b bytes formed, count-most b bytes formed)
+  length-records = length-take (8 * countIn b) (drop recordsAt b) ∙ omega (arith, length-drop recordsAt b, size-held b bytes formed, count-most b bytes formed)
 
   records-count : length (recordsIn b) / 8 ≡ countIn b
   records-count = ap (λ (n : ℕ). n / 8) length-records ∙ mul-div-right (countIn b) (omega arith)
 
   field : (k j : ℕ) → k < countIn b → j < 8 → getD (drop (8 * k) (recordsIn b)) j 0 ≡ getD (recordFrom b k) j 0
-  field k j l m = getD-drop (8 * k) (recordsIn b) j 0 ∙ getD-take (8 * countIn b) (drop 132 b) (8 * k + j) 0 (omega arith) ∙ sym (getD-drop (8 * k) (drop 132 b) j 0)
+  field k j l m = getD-drop (8 * k) (recordsIn b) j 0 ∙ getD-take (8 * countIn b) (drop recordsAt b) (8 * k + j) 0 (omega arith) ∙ sym (getD-drop (8 * k) (drop recordsAt b) j 0)
 
   same-record : (k : ℕ) → k < countIn b → delegationIn (drop (8 * k) (recordsIn b)) ≡ delegationAt b k
   same-record k l = λ i. record {
@@ -83,9 +84,9 @@ module _ (b : List ℕ) (bytes : IsBytes b) (formed : wellFormed b ≡ true) whe
         receivers = λ d m. let k = f .each d (subst (λ (ds : List Delegation). d ∈ ds) e m) .receiver in omega (arith, f .most);
       }
 
-  pub marks-held : (v : ℕ) → v < subjectsIn b → marksIn (drop (2 * v) (drop 4 b)) ≡ marksOf (decode b) v
+  pub marks-held : (v : ℕ) → v < subjectsIn b → marksFor b v ≡ marksOf (decode b) v
   unfolding decode
-  marks-held v l = sym (getD-tabulate (λ k. marksIn (drop (2 * k) (drop 4 b))) 0 0 (subjectsIn b) v l ∙ ap (λ (k : ℕ). marksIn (drop (2 * k) (drop 4 b))) (zero-add v))
+  marks-held v l = sym (getD-tabulate (marksFor b) 0 0 (subjectsIn b) v l ∙ ap (marksFor b) (zero-add v))
 
   -- the limits found are the reaches
   module _ (t : List ℤ) (v : ℕ) (l : List ℤ) (p : List ℕ) (s : Searched t (recordsIn b) (marksOf (decode b) v) l p) where

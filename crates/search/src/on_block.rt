@@ -11,16 +11,13 @@ ghost use Rattle.block.specs.WellFormed.{wellFormed};
 ghost use Rattle.search.specs.Found.{Searched};
 ghost use Rattle.runs.specs.Steps.{Starts};
 use crate::search;
-use block::layout;
 
 // Where the run of each giver starts.
 pub fn starts_of(block: &[u8], starts: &mut [u16])
     requires { ⌜ (wellFormed (now block) ≡ true) × (length (now starts) ≡ 65) ⌝ }
     ensures { λ _. ⌜ Starts (recordsIn (now (block .entry))) (now (starts .exit)) ⌝ }
 {
-    let n = block::count(block);
-    let end = layout::RECORDS_AT + layout::RECORD_SIZE * n;
-    runs::fill_starts(&block[layout::RECORDS_AT..end], starts);
+    runs::fill_starts(block::records(block), starts);
 }
 
 // The reach of every subject for a receiver, and the parents by which each is reached.
@@ -35,17 +32,8 @@ pub fn limits_for(
     requires { ⌜ (wellFormed (now block) ≡ true) × Starts (recordsIn (now block)) (now starts) × TableRule (now table) × (receiver < subjectsIn (now block)) × (length (now limits) ≡ 64) × (length (now parents) ≡ 64) ⌝ }
     ensures { λ _. ⌜ Searched (now (table .entry)) (recordsIn (now (block .entry))) (marksOf (decode (now (block .entry))) receiver) (now (limits .exit)) (now (parents .exit)) ⌝ }
 {
-    let n = block::count(block);
     let marks = block::marks(block, receiver);
-    let end = layout::RECORDS_AT + layout::RECORD_SIZE * n;
-    search(
-        &block[layout::RECORDS_AT..end],
-        starts,
-        table,
-        marks,
-        limits,
-        parents,
-    );
+    search(block::records(block), starts, table, marks, limits, parents);
 }
 
 // The reach of one pair.
