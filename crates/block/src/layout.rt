@@ -16,6 +16,8 @@ pub const RECORD_SIZE: usize = 8;
 // The most subjects and the most records.
 pub const MOST_SUBJECTS: u8 = 64;
 
+pub const SUBJECTS: usize = MOST_SUBJECTS as usize;
+
 pub const MOST_RECORDS: usize = 256;
 
 // Where each field of a record begins; its byte `REST` is zero.

@@ -11,7 +11,7 @@ use Rattle.search.proofs.on_block.limits_for.Statement.{statement}
 use Rattle.search.proofs.on_block.limits_for.Tie as tie
 
 count-requires : tie.Need-count-requires
-count-requires c κs = omega (arith, size-held (c .before .before .before .args .block .now) (fits-bytes (c .before .before .before .args .block .now) (c .before .before .shared-slice-known .given)) (c .before .before .before .pre .0))
+count-requires c κs = omega (arith, size-held (c .before .before .before .args .block .now) (fits-bytes (c .before .before .before .args .block .now) (c .before .before .shared-slice-known .given)) (c .before .before .before .pre .0 .block .formed))
 
 marks-requires : tie.Need-marks-requires
 marks-requires c κs =
@@ -19,13 +19,13 @@ marks-requires c κs =
     let a = s .args in
     let b = a .block .now in
     let bytes = fits-bytes b (c .before .before .before .shared-slice-known .given) in
-    omega (arith, size-held b bytes (s .pre .0), rules-of b bytes (s .pre .0) .most, s .pre .3)
+    omega (arith, size-held b bytes (s .pre .0 .block .formed), rules-of b bytes (s .pre .0 .block .formed) .most, s .pre .1)
 
 mul-end : tie.Need-mul-end
-mul-end c = omega (arith, count-most (c .before .before .before .before .before .args .block .now) (fits-bytes (c .before .before .before .before .before .args .block .now) (c .before .before .before .before .shared-slice-known .given)) (c .before .before .before .before .before .pre .0), c .before .count .ensures)
+mul-end c = omega (arith, count-most (c .before .before .before .before .before .args .block .now) (fits-bytes (c .before .before .before .before .before .args .block .now) (c .before .before .before .before .shared-slice-known .given)) (c .before .before .before .before .before .pre .0 .block .formed), c .before .count .ensures)
 
 add-end : tie.Need-add-end
-add-end c = omega (arith, count-most (c .before .before .before .before .before .args .block .now) (fits-bytes (c .before .before .before .before .before .args .block .now) (c .before .before .before .before .shared-slice-known .given)) (c .before .before .before .before .before .pre .0), c .before .count .ensures)
+add-end c = omega (arith, count-most (c .before .before .before .before .before .args .block .now) (fits-bytes (c .before .before .before .before .before .args .block .now) (c .before .before .before .before .shared-slice-known .given)) (c .before .before .before .before .before .pre .0 .block .formed), c .before .count .ensures)
 
 sub-search : tie.Need-sub-search
 sub-search c = search needs
@@ -39,7 +39,7 @@ part-search-end c =
     let a = s .args in
     let b = a .block .now in
     let bytes = fits-bytes b (c .before .before .before .before .shared-slice-known .given) in
-    omega (arith, size-held b bytes (s .pre .0), count-most b bytes (s .pre .0), c .before .count .ensures)
+    omega (arith, size-held b bytes (s .pre .0 .block .formed), count-most b bytes (s .pre .0 .block .formed), c .before .count .ensures)
 
 search-requires : tie.Need-search-requires
 search-requires c κs =
@@ -47,7 +47,7 @@ search-requires c κs =
     let b = s .args .block .now in
     let bytes = fits-bytes b (c .before .before .before .before .before .before .before .shared-slice-known .given) in
     let e : 132 + 8 * c .before .before .before .before .count .result - 132 ≡ 8 * countIn b = omega (arith, c .before .before .before .before .count .ensures) in
-    rw e (lent-held b bytes (s .pre .0) (s .args .table .now) (s .pre .2), s .pre .1, s .pre .4, s .pre .5)
+    rw e (record { lent = lent-held b bytes (s .pre .0 .block .formed) (s .args .table .now) (s .pre .0 .block .rule); starts = s .pre .0 .starts }, s .pre .2)
 
 same-length : tie.Need-same-length
 same-length c = search needs
@@ -61,7 +61,7 @@ returns c =
     let b = s .args .block .now in
     let bytes = fits-bytes b (c .before .before .before .before .before .before .before .before .before .before .before .shared-slice-known .given) in
     let e : 132 + 8 * c .before .before .before .before .before .before .before .before .count .result - 132 ≡ 8 * countIn b = omega (arith, c .before .before .before .before .before .before .before .before .count .ensures) in
-    rw (e, c .before .before .before .before .before .before .before .marks .ensures, marks-held b bytes (s .pre .0) (s .args .receiver) (s .pre .3)) at (c .before .before .before .search .ensures)
+    rw (e, c .before .before .before .before .before .before .before .marks .ensures, marks-held b bytes (s .pre .0 .block .formed) (s .args .receiver) (s .pre .1)) at (c .before .before .before .search .ensures)
 
 pub limits-for-spec : {M : Type 1} → statement M
 limits-for-spec =
