@@ -4,6 +4,8 @@ pub const BLOCK_SIZE: usize = 2180;
 // The most subjects and the most records.
 pub const MOST_SUBJECTS: u8 = 64;
 
+pub const SUBJECTS: usize = MOST_SUBJECTS as usize;
+
 pub const MOST_RECORDS: usize = 256;
 
 // The bytes of a subject's marks, of a record, and of all marks.
@@ -11,7 +13,7 @@ pub const MARK_SIZE: usize = 2;
 
 pub const RECORD_SIZE: usize = 8;
 
-pub const MARKS_SIZE: usize = MARK_SIZE * (MOST_SUBJECTS as usize);
+pub const MARKS_SIZE: usize = MARK_SIZE * SUBJECTS;
 
 // Where each part begins, and where the marks end.
 pub const FREE_AT: usize = 1;

@@ -8,22 +8,21 @@ use native.Mathlib.Omega.{arith}
 use lib.ListN.{length, getD, drop}
 use lib.IntN.{ℤ}
 use Rattle.rules.specs.Limit.{none}
-use Rattle.rules.specs.Register.{Delegation}
+use Rattle.rules.specs.Register.{Delegation, noDelegation}
 use Rattle.rules.specs.Chain.{limit, IsChain}
 use Rattle.rules.specs.Reach.{reach}
 use Rattle.rules.proofs.Lists.{mem-length, getD-tabulate}
 use Rattle.block.specs.Block.{delegationIn}
 use Rattle.block.proofs.Bytes.{length-tabulate}
 use Rattle.search.specs.Search.{underMarks, parentIn}
-use Rattle.runs.specs.Lent.{Lent, delegationsIn}
+use Rattle.runs.specs.Lent.{recordAt, Lent, delegationsIn}
 use Rattle.search.specs.Found.{Searched}
-use Rattle.runs.specs.Steps.{recordAt}
-use Rattle.runs.proofs.Records.{blank, delegation-at}
+use Rattle.runs.proofs.Records.{delegation-at}
 use Rattle.chain.specs.Links.{Traceable, linksOf}
 
 -- the parent of a subject is the record at its place
-pub parent-record : (s p : List ℕ) (u : ℕ) → getD p u 0 < length s / 8 → parentIn (delegationsIn s) p u ≡ recordAt s (8 * getD p u 0)
-parent-record s p u h = delegation-at s (length s / 8) (getD p u 0) blank h
+pub parent-record : (s p : List ℕ) (u : ℕ) → getD p u 0 < length s / 8 → parentIn (delegationsIn s) p u ≡ recordAt s (getD p u 0)
+parent-record s p u h = delegation-at s (length s / 8) (getD p u 0) noDelegation h
 
 module _ (t : List ℤ) (s : List ℕ) (marks : ℕ) (l : List ℤ) (p : List ℕ) (f : Searched t s marks l p) where
   -- the limit found is the reach
@@ -34,7 +33,7 @@ module _ (t : List ℤ) (s : List ℕ) (marks : ℕ) (l : List ℤ) (p : List �
 
   -- the links up to a subject that has a reach can be followed back
   pub traceable : Lent t s (length s / 8) → length p ≡ 64 → (u : ℕ) → u < 64 → getD l u none ≢ none → Traceable s p u
-  traceable lent size u h n = record { size = size; subject = h; placed = λ z. f .placed (some z (f .leads u h)); givers = lent .givers }
+  traceable lent size u h n = record { size = size; subject = h; placed = λ z. f .among (some z (f .leads u h)); givers = lent .givers }
     where
       count : (ds : List Delegation) → u ≢ 0 → IsChain t (underMarks (delegationsIn s) marks) u 0 ds → 0 < length (delegationsIn s)
       count [] z c = absurd (z (sym (c .linked)))

@@ -9,13 +9,13 @@ use Rattle.rules.specs.Register.{Delegation}
 use Rattle.rules.specs.Links.{linksTo}
 use Rattle.search.specs.Search.{parentIn}
 use Rattle.runs.specs.Lent.{delegationsIn}
-use Rattle.search.specs.Found.{Placed}
+use Rattle.search.specs.Found.{ParentsAmong}
 
 -- the links up to u can be followed back: a subject's parent is the place of a record, and a record's giver is a subject
 pub record Traceable (s p : List ℕ) (u : ℕ) : Type 0 where
   pub size : length p ≡ 64
   pub subject : u < 64
-  pub placed : u ≢ 0 → Placed p (length s / 8)
+  pub placed : u ≢ 0 → ParentsAmong p (length s / 8)
   pub givers : (d : Delegation) → d ∈ delegationsIn s → d .giver < 64
 
 -- the links up to u, the owner's end first; at most k

@@ -13,7 +13,7 @@ use lib.Dec.{T, eqb, ltb, ltb→lt, nltb→le}
 use lib.ListN.{length, getD, set, replicate, length-set, length-replicate, getD-replicate, List·getD-eq-default}
 use lib.Seq.{getD-set-same, getD-set-other}
 use Rattle.rules.proofs.Lists.{either, eqOr}
-use Rattle.queue.specs.Queue.{bit, waits, Put, Taken, Lowest}
+use Rattle.queue.specs.Queue.{setBits, bit, waits, Put, Taken, Lowest}
 
 pub bit-zero : (y : ℕ) → bit 0 y ≡ 0
 bit-zero zero = refl
@@ -163,21 +163,21 @@ left-falls f g (suc n) u h a b o = go (eqOr u n) (left-falls f g n u)
 
 -- how many wait at a level
 abbrev pub members : ℕ → ℕ
-members n = left (λ y. eqb (bit n y) 0) 64
+members n = left (λ y. eqb (bit n y) 0) setBits
 
-pub members-few : (n : ℕ) → members n ≤ 64
-members-few n = left-few (λ y. eqb (bit n y) 0) 64
+pub members-few : (n : ℕ) → members n ≤ setBits
+members-few n = left-few (λ y. eqb (bit n y) 0) setBits
 
-pub members-fall : (q q′ : List ℕ) (z u : ℕ) → u < 64 → waits q z u ≡ 1 → Put q z u 0 q′ → members (getD q′ z 0) < members (getD q z 0)
+pub members-fall : (q q′ : List ℕ) (z u : ℕ) → u < setBits → waits q z u ≡ 1 → Put q z u 0 q′ → members (getD q′ z 0) < members (getD q z 0)
 members-fall q q′ z u h w put =
-    left-falls (λ y. eqb (waits q z y) 0) (λ y. eqb (waits q′ z y) 0) 64 u h (ap (λ (x : ℕ). eqb x 0) w) (ap (λ (x : ℕ). eqb x 0) (put .here))
+    left-falls (λ y. eqb (waits q z y) 0) (λ y. eqb (waits q′ z y) 0) setBits u h (ap (λ (x : ℕ). eqb x 0) w) (ap (λ (x : ℕ). eqb x 0) (put .here))
     (λ y n. ap (λ (x : ℕ). eqb x 0) (put .others z y (inr n)))
 
 -- what was taken
-pub taken-none : (q q′ : List ℕ) (z u : ℕ) → Taken q z u q′ → u ≡ 64 → ((y : ℕ) → waits q z y ≡ 0) × (q′ ≡ q)
+pub taken-none : (q q′ : List ℕ) (z u : ℕ) → Taken q z u q′ → u ≡ setBits → ((y : ℕ) → waits q z y ≡ 0) × (q′ ≡ q)
 taken-none q q′ z u (inl (e, w, f)) h = (w, f)
 taken-none q q′ z u (inr (l, w, f)) h = absurd (omega arith)
 
-pub taken-some : (q q′ : List ℕ) (z u : ℕ) → Taken q z u q′ → u ≢ 64 → (u < 64) × (waits q z u ≡ 1) × Put q z u 0 q′
+pub taken-some : (q q′ : List ℕ) (z u : ℕ) → Taken q z u q′ → u ≢ setBits → (u < setBits) × (waits q z u ≡ 1) × Put q z u 0 q′
 taken-some q q′ z u (inl (e, w, f)) h = absurd (h e)
 taken-some q q′ z u (inr t) h = t

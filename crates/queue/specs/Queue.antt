@@ -6,6 +6,14 @@ use mathlib.Core.List.{List}
 use Prim.Native.Nat.{ℕ, zero, suc, _/_, _%_, _<_}
 use lib.ListN.{length, getD}
 
+-- the levels of a queue: the limits from 0 to 255
+abbrev pub levels : ℕ
+levels = 256
+
+-- the bits of an entry: the subjects that can wait are those below this number
+abbrev pub setBits : ℕ
+setBits = 64
+
 -- bit y of n
 abbrev pub bit : ℕ → ℕ → ℕ
 bit n zero = n % 2
@@ -21,10 +29,15 @@ pub record Put (q : List ℕ) (z y b : ℕ) (q′ : List ℕ) : Type 0 where
   pub here : waits q′ z y ≡ b
   pub others : (x w : ℕ) → (z ≢ x) ⊎ (y ≢ w) → waits q′ x w ≡ waits q x w
 
--- u is taken from level z; it is 64, and nothing changes, where none waits there
+-- u is taken from level z; it is no subject's number, and nothing changes, where none waits there
 abbrev pub Taken : List ℕ → ℕ → ℕ → List ℕ → Type 0
-Taken q z u q′ = ((u ≡ 64) × ((y : ℕ) → waits q z y ≡ 0) × (q′ ≡ q)) ⊎ ((u < 64) × (waits q z u ≡ 1) × Put q z u 0 q′)
+Taken q z u q′ = ((u ≡ setBits) × ((y : ℕ) → waits q z y ≡ 0) × (q′ ≡ q)) ⊎ ((u < setBits) × (waits q z u ≡ 1) × Put q z u 0 q′)
 
 -- none waits below level `low`
 abbrev pub Lowest : List ℕ → ℕ → Type 0
 Lowest q low = (x y : ℕ) → x < low → waits q x y ≡ 0
+
+-- a queue of all levels in which none waits below level `low`
+pub record IsQueue (q : List ℕ) (low : ℕ) : Type 0 where
+  pub size : length q ≡ levels
+  pub lowest : Lowest q low

@@ -17,6 +17,7 @@ use Rattle.rules.specs.Pair.{receives}
 use Rattle.rules.specs.WellFormed.{WellFormed}
 use Rattle.rules.proofs.Lists.{clash, eqOr}
 use Rattle.rules.proofs.Support.{allowed-reach}
+use Rattle.block.specs.Layout.{mostSubjects}
 use Rattle.block.specs.Bytes.{IsBytes}
 use Rattle.block.specs.Block.{countIn, decode}
 use Rattle.block.specs.WellFormed.{wellFormed}
@@ -27,11 +28,11 @@ use Rattle.search.specs.Search.{underMarks}
 use Rattle.runs.specs.Lent.{delegationsIn}
 use Rattle.search.specs.Found.{Searched}
 use Rattle.search.proofs.Searching.{reach-marks}
-use Rattle.reckoning.specs.Reckoned.{reachAt, Row, Filled, Tabled, Copied, RowMade}
+use Rattle.reckoning.specs.Reckoned.{reachCount, reachAt, HasRow, Filled, Tabled, PlacesCopied, RowMade}
 
--- a search finds the reach of 64 subjects
-pub row-length : (t : List ℤ) (s : List ℕ) (m : ℕ) (l : List ℤ) (p : List ℕ) → Searched t s m l p → length l ≡ 64
-row-length t s m l p h = ap length (h .limits) ∙ length-tabulate (λ u. reach t (underMarks (delegationsIn s) m) u 0) 0 64
+-- a search finds the reach of each subject
+pub row-length : (t : List ℤ) (s : List ℕ) (m : ℕ) (l : List ℤ) (p : List ℕ) → Searched t s m l p → length l ≡ mostSubjects
+row-length t s m l p h = ap length (h .limits) ∙ length-tabulate (λ u. reach t (underMarks (delegationsIn s) m) u 0) 0 mostSubjects
 
 module _ {A : Type 0} (l ys : List A) (a k : ℕ) (z : A) (fits : a + k ≤ length l) (size : length ys ≡ k) where
   front : length (take a l) ≡ a
@@ -58,11 +59,11 @@ module _ {A : Type 0} (l ys : List A) (a k : ℕ) (z : A) (fits : a + k ≤ leng
       ∙ ap (λ (m : ℕ). getD l m z) f
 
 -- nothing copied yet
-pub copied-none : (b a : ℕ) (l : List ℤ) → Copied b a 0 l l
+pub copied-none : (b a : ℕ) (l : List ℤ) → PlacesCopied b a 0 l l
 copied-none b a l = record { there = λ i h. absurd (omega arith); rest = λ i h. refl }
 
 -- one more place copied, from before all that are written
-pub copied-on : (b a n : ℕ) (l m : List ℤ) (x : ℤ) → b + n < a → a + n < length m → x ≡ getD m (b + n) (pos 0) → Copied b a n l m → Copied b a (n + 1) l (set m (a + n) x)
+pub copied-on : (b a n : ℕ) (l m : List ℤ) (x : ℤ) → b + n < a → a + n < length m → x ≡ getD m (b + n) (pos 0) → PlacesCopied b a n l m → PlacesCopied b a (n + 1) l (set m (a + n) x)
 copied-on b a n l m x before room e c = record { there = λ i h. written i h (eqOr i n); rest = kept }
   where
     written : (i : ℕ) → i < n + 1 → (i ≡ n) ⊎ (i ≢ n) → getD (set m (a + n) x) (a + i) (pos 0) ≡ getD l (b + i) (pos 0)
@@ -87,29 +88,29 @@ receives-mem {d} (List·Memᴰ·tail {x = x} {xs = xs} m) = go (eqb (x .receiver
     go false e = e
 
 module _ (t : List ℤ) (R : Register) where
-  pub filled-none : (l : List ℤ) → Filled t R 0 l
-  filled-none l r h = absurd (omega arith)
+  pub filled-none : (l : List ℤ) → length l ≡ reachCount → Filled t R 0 l
+  filled-none l size = record { size = size; rows = λ r h. absurd (omega arith) }
 
   pub filled-skip : (v : ℕ) (l : List ℤ) → Filled t R v l → receives v (R .delegations) ≡ false → Filled t R (v + 1) l
-  filled-skip v l f n r h k = go (eqOr r v)
+  filled-skip v l f n = record { size = f .size; rows = λ r h k. go r h k (eqOr r v) }
     where
-      go : (r ≡ v) ⊎ (r ≢ v) → Row t R r l
-      go (inl e) = clash (sym k ∙ ap (λ (x : ℕ). receives x (R .delegations)) e ∙ n)
-      go (inr e) = f r (omega arith) k
+      go : (r : ℕ) → r < v + 1 → receives r (R .delegations) ≡ true → (r ≡ v) ⊎ (r ≢ v) → HasRow t R r l
+      go r h k (inl e) = clash (sym k ∙ ap (λ (x : ℕ). receives x (R .delegations)) e ∙ n)
+      go r h k (inr e) = f .rows r (omega arith) k
 
-  pub filled-on : (v : ℕ) (l m : List ℤ) → Filled t R v l → RowMade t R v l m → Filled t R (v + 1) m
-  filled-on v l m f made r h k = go (eqOr r v)
+  pub filled-on : (v : ℕ) (l m : List ℤ) → Filled t R v l → length m ≡ length l → RowMade t R v l m → Filled t R (v + 1) m
+  filled-on v l m f kept made = record { size = kept ∙ f .size; rows = λ r h k. go r h k (eqOr r v) }
     where
-      go : (r ≡ v) ⊎ (r ≢ v) → Row t R r m
-      go (inl e) = subst (λ (x : ℕ). Row t R x m) (sym e) (made .row)
-      go (inr e) = λ u q. made .rest (reachAt u r) (inl (omega arith)) ∙ f r (omega arith) k u q
+      go : (r : ℕ) → r < v + 1 → receives r (R .delegations) ≡ true → (r ≡ v) ⊎ (r ≢ v) → HasRow t R r m
+      go r h k (inl e) = subst (λ (x : ℕ). HasRow t R x m) (sym e) (made .row)
+      go r h k (inr e) = λ u q. made .rest (reachAt u r) (inl (omega arith)) ∙ f .rows r (omega arith) k u q
 
   -- the row of another receiver of the same marks, copied
-  pub row-copied : (w v : ℕ) (l m : List ℤ) → Row t R w l → marksOf R w ≡ marksOf R v → Copied (64 * w) (64 * v) 64 l m → RowMade t R v l m
+  pub row-copied : (w v : ℕ) (l m : List ℤ) → HasRow t R w l → marksOf R w ≡ marksOf R v → PlacesCopied (mostSubjects * w) (mostSubjects * v) mostSubjects l m → RowMade t R v l m
   row-copied w v l m row e c = record {
     row = λ u h. c .there u h ∙ row u h ∙ reach-marks t R u w ∙ ap (λ (x : ℕ). reach t (underMarks (R .delegations) x) u 0) e ∙ sym (reach-marks t R u v);
     rest = c .rest;
   }
 
   pub filled-tabled : WellFormed R → (v : ℕ) → v ≡ R .subjects → (l : List ℤ) → Filled t R v l → Tabled t R l
-  filled-tabled w v e l f d m = f (d .receiver) (omega (arith, w .each d m .receiver)) (receives-mem m) (d .giver) (omega (arith, w .each d m .giver, w .most)) ∙ sym (allowed-reach t R d)
+  filled-tabled w v e l f d m = f .rows (d .receiver) (omega (arith, w .each d m .receiver)) (receives-mem m) (d .giver) (omega (arith, w .each d m .giver, w .most)) ∙ sym (allowed-reach t R d)

@@ -15,8 +15,8 @@ use lib.Seq.{getD-set-same, getD-set-other}
 use Rattle.rules.specs.Register.{Delegation}
 use Rattle.rules.proofs.Lists.{clash, eqOr}
 use Rattle.rules.proofs.Signed.{getD-within, kept}
-use Rattle.reckoning.specs.Reckoned.{noEntry, lesser, WeightsRead}
-use Rattle.reckoning.specs.declared.Delegation.{Delegation as Entry}
+use Rattle.reckoning.specs.Reckoned.{noneDecoded, lesser, WeightsRead}
+use Rattle.reckoning.specs.declared.Delegation.{Delegation as DecodedDelegation}
 
 -- ── lists ──
 -- one more place filled
@@ -80,7 +80,7 @@ module _ (reaches : List ℤ) (at : ℕ) (w : ℤ) (fw : mag w < 32768) where
       both false = refl
 
 -- ── the weights read out ──
-module _ (f : ℕ → Delegation) (ds : List Entry) where
+module _ (f : ℕ → Delegation) (ds : List DecodedDelegation) where
   pub read-none : (ws : List ℤ) → WeightsRead f ds 0 false ws
   read-none ws = record {
     each = λ k h. absurd (omega arith);
@@ -88,9 +88,9 @@ module _ (f : ℕ → Delegation) (ds : List Entry) where
     less = λ e. clash (sym e);
   }
 
-  module _ (k : ℕ) (c : Bool) (ws : List ℤ) (s : WeightsRead f ds k c ws) (room : k < length ws) (v : ℤ) (e : v ≡ getD ds k noEntry .weight) where
-    each-on : (j : ℕ) → j < k + 1 → getD (set ws k v) j (pos 0) ≡ getD ds j noEntry .weight
-    each-on = filled ws k (pos 0) v (λ j. getD ds j noEntry .weight) room (s .each) e
+  module _ (k : ℕ) (c : Bool) (ws : List ℤ) (s : WeightsRead f ds k c ws) (room : k < length ws) (v : ℤ) (e : v ≡ getD ds k noneDecoded .weight) where
+    each-on : (j : ℕ) → j < k + 1 → getD (set ws k v) j (pos 0) ≡ getD ds j noneDecoded .weight
+    each-on = filled ws k (pos 0) v (λ j. getD ds j noneDecoded .weight) room (s .each) e
 
     -- the weight at place k is below the one before
     pub read-less : ltZ v (pos (f k .weight)) ≡ true → WeightsRead f ds (k + 1) true (set ws k v)
@@ -108,6 +108,6 @@ module _ (f : ℕ → Delegation) (ds : List Entry) where
       less = λ z. let (j, l, r) = s .less z in (j, omega arith, r);
     }
       where
-        stays : c ≡ false → (j : ℕ) → j < k + 1 → (j ≡ k) ⊎ (j ≢ k) → ltZ (getD ds j noEntry .weight) (pos (f j .weight)) ≡ false
-        stays z j h (inl r) = subst (λ (i : ℕ). ltZ (getD ds i noEntry .weight) (pos (f i .weight)) ≡ false) (sym r) (ap (λ (x : ℤ). ltZ x (pos (f k .weight))) (sym e) ∙ q)
+        stays : c ≡ false → (j : ℕ) → j < k + 1 → (j ≡ k) ⊎ (j ≢ k) → ltZ (getD ds j noneDecoded .weight) (pos (f j .weight)) ≡ false
+        stays z j h (inl r) = subst (λ (i : ℕ). ltZ (getD ds i noneDecoded .weight) (pos (f i .weight)) ≡ false) (sym r) (ap (λ (x : ℤ). ltZ x (pos (f k .weight))) (sym e) ∙ q)
         stays z j h (inr r) = s .same z j (omega arith)

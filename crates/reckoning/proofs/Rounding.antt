@@ -18,14 +18,15 @@ use Rattle.rules.specs.Support.{allowed}
 use Rattle.rules.specs.Round.{placed, capped, round}
 use Rattle.rules.proofs.Rounds.{round-stays, round-changes}
 use Rattle.rules.proofs.Signed.{getD-within, below-weight}
+use Rattle.block.specs.Layout.{mostRecords}
 use Rattle.block.specs.Bytes.{IsBytes}
 use Rattle.block.specs.Block.{countIn, decode}
 use Rattle.block.specs.WellFormed.{wellFormed}
 use Rattle.block.proofs.Bytes.{tabulate-mem, mem-tabulate}
 use Rattle.block.proofs.Held.{count-most, held-formed, delegations-held}
 use Rattle.block.specs.Records.{delegationAt}
-use Rattle.reckoning.specs.Reckoned.{reachAt, Tabled, noEntry, Decoded, lesser, lowerOne, WeightsRead, leftTo, Reckoned}
-use Rattle.reckoning.specs.declared.Delegation.{Delegation as Entry}
+use Rattle.reckoning.specs.Reckoned.{reachCount, reachAt, Tabled, noneDecoded, Decoded, lesser, lowerOne, WeightsRead, leftTo, Reckoned}
+use Rattle.reckoning.specs.declared.Delegation.{Delegation as DecodedDelegation}
 use Rattle.reckoning.proofs.Lowering.{each-at}
 
 -- ── lists ──
@@ -76,8 +77,8 @@ lesser-less l w = go (ltZ l (pos w)) refl
     go false e = below-weight (pos w) w ∙ le-ltb (suc w) (suc w) (omega arith)
 
 -- ── the round ──
-module _ (t : List ℤ) (b : List ℕ) (bytes : IsBytes b) (formed : wellFormed b ≡ true) (reaches : List ℤ) (size : length reaches ≡ 4096) (tabled : Tabled t (decode b) reaches)
-    (ds : List Entry) (all : length ds ≡ 256) (dec : Decoded (delegationAt b) (countIn b) ds) where
+module _ (t : List ℤ) (b : List ℕ) (bytes : IsBytes b) (formed : wellFormed b ≡ true) (reaches : List ℤ) (size : length reaches ≡ reachCount) (tabled : Tabled t (decode b) reaches)
+    (ds : List DecodedDelegation) (all : length ds ≡ mostRecords) (dec : Decoded (delegationAt b) (countIn b) ds) where
   member : (k : ℕ) → k < countIn b → delegationAt b k ∈ decode b .delegations
   member k h = subst (λ (ds : List Delegation). delegationAt b k ∈ ds) (sym (delegations-held b bytes formed)) (subst (λ (m : ℕ). delegationAt b m ∈ tabulate (delegationAt b) 0 (countIn b)) (zero-add k) (mem-tabulate (delegationAt b) 0 (countIn b) k h))
 
@@ -89,12 +90,12 @@ module _ (t : List ℤ) (b : List ℕ) (bytes : IsBytes b) (formed : wellFormed 
       getD-within reaches (reachAt (delegationAt b k .giver) (delegationAt b k .receiver)) z (pos 0) (omega (arith, size, d .giver, d .receiver, f .most)) ∙ tabled (delegationAt b k) (member k h)
 
   -- the run that the round leaves
-  abbrev run-left : List Entry
+  abbrev run-left : List DecodedDelegation
   run-left = map (lowerOne reaches) (take (countIn b) ds) ++ drop (countIn b) ds
 
-  entry-left : (k : ℕ) → k < countIn b → getD run-left k noEntry .weight ≡ lesser (allowed t (decode b) (delegationAt b k)) (pos (delegationAt b k .weight))
+  entry-left : (k : ℕ) → k < countIn b → getD run-left k noneDecoded .weight ≡ lesser (allowed t (decode b) (delegationAt b k)) (pos (delegationAt b k .weight))
   entry-left k h =
-      ap (λ (d : Entry). d .weight) (each-at (lowerOne reaches) noEntry ds (countIn b) k (omega (arith, all, count-most b bytes formed)) h ∙ ap (lowerOne reaches) (dec k h))
+      ap (λ (d : DecodedDelegation). d .weight) (each-at (lowerOne reaches) noneDecoded ds (countIn b) k (omega (arith, all, count-most b bytes formed)) h ∙ ap (lowerOne reaches) (dec k h))
       ∙ ap (λ (l : ℤ). lesser l (pos (delegationAt b k .weight))) (counts-for k h (pos (delegationAt b k .weight)))
 
   module _ (c : Bool) (after : List ℤ) (left : WeightsRead (delegationAt b) run-left (countIn b) c after) where
@@ -113,7 +114,7 @@ module _ (t : List ℤ) (b : List ℕ) (bytes : IsBytes b) (formed : wellFormed 
         ap (withDelegations (decode b))
         (left-all (delegationAt b) g after (countIn b) (λ k h. ap (placed (delegationAt b k)) (weight-left k h) ∙ placed-lesser (delegationAt b k) (allowed t (decode b) (delegationAt b k))) ∙ ap (concatMap g) (sym (delegations-held b bytes formed)))
 
-    test : (k : ℕ) (h : k < countIn b) → ltZ (getD run-left k noEntry .weight) (pos (delegationAt b k .weight)) ≡ ltb (code (allowed t (decode b) (delegationAt b k))) (suc (delegationAt b k .weight))
+    test : (k : ℕ) (h : k < countIn b) → ltZ (getD run-left k noneDecoded .weight) (pos (delegationAt b k .weight)) ≡ ltb (code (allowed t (decode b) (delegationAt b k))) (suc (delegationAt b k .weight))
     test k h = ap (λ (z : ℤ). ltZ z (pos (delegationAt b k .weight))) (entry-left k h) ∙ lesser-less (allowed t (decode b) (delegationAt b k)) (delegationAt b k .weight) ∙ below-weight (allowed t (decode b) (delegationAt b k)) (delegationAt b k .weight)
 
     round-same : c ≡ false → round t (decode b) ≡ decode b

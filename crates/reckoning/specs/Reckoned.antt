@@ -4,31 +4,37 @@ use mathlib.Core.Logic.{_≢_, _⊎_}
 use mathlib.Core.Bool.{Bool, true, false, cond}
 use mathlib.Core.List.{List, [], _++_}
 use Prim.Native.Nat.{ℕ, zero, suc, _+_, _*_, _≤_, _<_}
-use lib.ListN.{getD}
+use lib.ListN.{length, getD}
 use lib.IntN.{ℤ, pos}
 use lib.Signed.{ltZ}
 use Rattle.rules.specs.List.{_∈_}
 use Rattle.rules.specs.Limit.{_≼_}
-use Rattle.rules.specs.Register.{Delegation, Register, withDelegations}
+use Rattle.rules.specs.Register.{Delegation, Register, withDelegations, noDelegation}
 use Rattle.rules.specs.Reach.{reach}
 use Rattle.rules.specs.Pair.{receives}
 use Rattle.rules.specs.Support.{allowed}
 use Rattle.rules.specs.Round.{placed, round}
+use Rattle.block.specs.Layout.{mostSubjects}
 use Rattle.block.specs.Records.{delegationAt}
 use Rattle.block.specs.Block.{countIn, decode}
-use Rattle.reckoning.specs.declared.Delegation.{Delegation as Entry}
+use Rattle.reckoning.specs.declared.Delegation.{Delegation as DecodedDelegation}
+
+-- how many reaches the table of reaches has: one for each giver and receiver
+abbrev pub reachCount : ℕ
+reachCount = mostSubjects * mostSubjects
 
 -- where the reach of a giver and a receiver is kept in the table of reaches
 abbrev pub reachAt : ℕ → ℕ → ℕ
-reachAt g r = 64 * r + g
+reachAt g r = mostSubjects * r + g
 
 -- row r of the table of reaches holds the reach of every giver for the receiver r
-abbrev pub Row : List ℤ → Register → ℕ → List ℤ → Type 0
-Row t R r l = (u : ℕ) → u < 64 → getD l (reachAt u r) (pos 0) ≡ reach t R u r
+abbrev pub HasRow : List ℤ → Register → ℕ → List ℤ → Type 0
+HasRow t R r l = (u : ℕ) → u < mostSubjects → getD l (reachAt u r) (pos 0) ≡ reach t R u r
 
--- each subject below v that holds a delegation has its row
-abbrev pub Filled : List ℤ → Register → ℕ → List ℤ → Type 0
-Filled t R v l = (r : ℕ) → r < v → receives r (R .delegations) ≡ true → Row t R r l
+-- each subject below v that holds a delegation has its row in the table of reaches
+pub record Filled (t : List ℤ) (R : Register) (v : ℕ) (l : List ℤ) : Type 0 where
+  pub size : length l ≡ reachCount
+  pub rows : (r : ℕ) → r < v → receives r (R .delegations) ≡ true → HasRow t R r l
 
 -- the table of reaches holds what counts for every delegation
 abbrev pub Tabled : List ℤ → Register → List ℤ → Type 0
@@ -39,26 +45,26 @@ abbrev pub Besides : ℕ → ℕ → List ℤ → List ℤ → Type 0
 Besides a n l m = (i : ℕ) → (i < a) ⊎ (a + n ≤ i) → getD m i (pos 0) ≡ getD l i (pos 0)
 
 -- m is l with the n places from b on copied to those from a on
-pub record Copied (b a n : ℕ) (l m : List ℤ) : Type 0 where
+pub record PlacesCopied (b a n : ℕ) (l m : List ℤ) : Type 0 where
   pub there : (i : ℕ) → i < n → getD m (a + i) (pos 0) ≡ getD l (b + i) (pos 0)
   pub rest : Besides a n l m
 
 -- the table m is l with row r filled
 pub record RowMade (t : List ℤ) (R : Register) (r : ℕ) (l m : List ℤ) : Type 0 where
-  pub row : Row t R r m
-  pub rest : Besides (64 * r) 64 l m
+  pub row : HasRow t R r m
+  pub rest : Besides (mostSubjects * r) mostSubjects l m
 
 -- a delegation, decoded
-abbrev pub decodedAs : Delegation → Entry
+abbrev pub decodedAs : Delegation → DecodedDelegation
 decodedAs d = record { giver = d .giver; receiver = d .receiver; weight = pos (d .weight); need = d .need; bar = d .bar }
 
 -- what is read past the end of decoded delegations
-abbrev pub noEntry : Entry
-noEntry = record { giver = 0; receiver = 0; weight = pos 0; need = 0; bar = 0 }
+abbrev pub noneDecoded : DecodedDelegation
+noneDecoded = decodedAs noDelegation
 
 -- the first n of the delegations f, decoded
-abbrev pub Decoded : (ℕ → Delegation) → ℕ → List Entry → Type 0
-Decoded f n ds = (k : ℕ) → k < n → getD ds k noEntry ≡ decodedAs (f k)
+abbrev pub Decoded : (ℕ → Delegation) → ℕ → List DecodedDelegation → Type 0
+Decoded f n ds = (k : ℕ) → k < n → getD ds k noneDecoded ≡ decodedAs (f k)
 
 -- a weight lowered to a reach below it
 abbrev pub lesser : ℤ → ℤ → ℤ
@@ -69,14 +75,14 @@ abbrev pub loweredTo : List ℤ → ℕ → ℕ → ℤ → ℤ
 loweredTo reaches g r w = lesser (getD reaches (reachAt g r) w) w
 
 -- a decoded delegation lowered to its reach
-abbrev pub lowerOne : List ℤ → Entry → Entry
+abbrev pub lowerOne : List ℤ → DecodedDelegation → DecodedDelegation
 lowerOne reaches d = record { giver = d .giver; receiver = d .receiver; weight = loweredTo reaches (d .giver) (d .receiver) (d .weight); need = d .need; bar = d .bar }
 
 -- the weights of the first n of ds; the answer says whether one is below the weight that f has
-pub record WeightsRead (f : ℕ → Delegation) (ds : List Entry) (n : ℕ) (changed : Bool) (weights : List ℤ) : Type 0 where
-  pub each : (k : ℕ) → k < n → getD weights k (pos 0) ≡ getD ds k noEntry .weight
-  pub same : changed ≡ false → (k : ℕ) → k < n → ltZ (getD ds k noEntry .weight) (pos (f k .weight)) ≡ false
-  pub less : changed ≡ true → (k : ℕ) × (k < n) × (ltZ (getD ds k noEntry .weight) (pos (f k .weight)) ≡ true)
+pub record WeightsRead (f : ℕ → Delegation) (ds : List DecodedDelegation) (n : ℕ) (changed : Bool) (weights : List ℤ) : Type 0 where
+  pub each : (k : ℕ) → k < n → getD weights k (pos 0) ≡ getD ds k noneDecoded .weight
+  pub same : changed ≡ false → (k : ℕ) → k < n → ltZ (getD ds k noneDecoded .weight) (pos (f k .weight)) ≡ false
+  pub less : changed ≡ true → (k : ℕ) × (k < n) × (ltZ (getD ds k noneDecoded .weight) (pos (f k .weight)) ≡ true)
 
 -- what is left of the first k delegations, each at its new weight; -1 removes it
 abbrev pub leftTo : (ℕ → Delegation) → List ℤ → ℕ → List Delegation

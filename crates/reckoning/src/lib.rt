@@ -3,10 +3,9 @@ mod lower;
 mod reaches;
 
 ghost use mathlib.Core.Path.{_≡_};
-ghost use mathlib.Core.Bool.{true};
 ghost use lib.ListN.{length};
-ghost use Rattle.rules.specs.Table.{TableRule};
-ghost use Rattle.block.specs.WellFormed.{wellFormed};
+ghost use Rattle.block.specs.Layout.{mostRecords};
+ghost use Rattle.search.specs.Found.{Searchable};
 ghost use Rattle.reckoning.specs.Reckoned.{Reckoned};
 
 // A decoded delegation; a round lowers the weight of one that it removes to -1.
@@ -20,10 +19,10 @@ pub struct Delegation {
 
 // The weights that a round leaves, all together, every reach from the block as the round began; whether one changed.
 pub fn reckon(block: &[u8], table: &[i16], weights: &mut [i16]) -> bool
-    requires { ⌜ (wellFormed (now block) ≡ true) × TableRule (now table) × (length (now weights) ≡ 256) ⌝ }
+    requires { ⌜ Searchable (now table) (now block) × (length (now weights) ≡ mostRecords) ⌝ }
     ensures { λ r. ⌜ Reckoned (now (table .entry)) (now (block .entry)) r (now (weights .exit)) ⌝ }
 {
-    let mut reaches = [-1i16; 4096];
+    let mut reaches = [-1i16; reaches::REACHES];
     reaches::fill_reaches(block, table, &mut reaches);
     let n = block::count(block);
     let ds = lower::decoded(block, n);

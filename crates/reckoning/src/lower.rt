@@ -3,9 +3,11 @@ ghost use mathlib.Core.Path.{_≡_};
 ghost use mathlib.Core.List.{map, _++_};
 ghost use Prim.Native.Nat.{_+_, _*_, _≤_};
 ghost use lib.ListN.{length, take, drop};
+ghost use Rattle.block.specs.Layout.{mostRecords};
 ghost use Rattle.block.specs.Records.{HasRecord, HasRecords, delegationAt};
 ghost use Rattle.reckoning.specs.Reckoned.{decodedAs, Decoded, loweredTo, lowerOne, WeightsRead};
 use crate::Delegation;
+use block::layout;
 
 // The delegation of record k, decoded.
 fn decoded_at(block: &[u8], k: usize) -> Delegation
@@ -23,8 +25,8 @@ fn decoded_at(block: &[u8], k: usize) -> Delegation
 }
 
 // The delegations of the first `n` records, decoded.
-pub fn decoded(block: &[u8], n: usize) -> [Delegation; 256]
-    requires { ⌜ HasRecords (now block) n × (n ≤ 256) ⌝ }
+pub fn decoded(block: &[u8], n: usize) -> [Delegation; layout::MOST_RECORDS]
+    requires { ⌜ HasRecords (now block) n × (n ≤ mostRecords) ⌝ }
     ensures { λ r. ⌜ Decoded (delegationAt (now (block .entry))) n r ⌝ }
 {
     let none = Delegation {
@@ -34,7 +36,7 @@ pub fn decoded(block: &[u8], n: usize) -> [Delegation; 256]
         need: 0,
         bar: 0,
     };
-    let mut ds = [none; 256];
+    let mut ds = [none; layout::MOST_RECORDS];
     let mut k: usize = 0;
     while k < n {
         let d = decoded_at(block, k);
@@ -48,7 +50,7 @@ pub fn decoded(block: &[u8], n: usize) -> [Delegation; 256]
 fn lowered_weight(reaches: &[i16], giver: u8, receiver: u8, weight: i16) -> i16
     ensures { λ r. ⌜ r ≡ loweredTo (now (reaches .entry)) giver receiver weight ⌝ }
 {
-    let at = 64 * (receiver as usize) + (giver as usize);
+    let at = layout::SUBJECTS * (receiver as usize) + (giver as usize);
     if at < reaches.len() {
         let reach = reaches[at];
         if reach < weight {
@@ -72,8 +74,12 @@ fn lower(ds: &mut [Delegation], reaches: &[i16])
 }
 
 // The first `n` delegations of a table, lent as a run and lowered.
-pub fn lowered(ds: [Delegation; 256], n: usize, reaches: &[i16]) -> [Delegation; 256]
-    requires { ⌜ n ≤ 256 ⌝ }
+pub fn lowered(
+    ds: [Delegation; layout::MOST_RECORDS],
+    n: usize,
+    reaches: &[i16],
+) -> [Delegation; layout::MOST_RECORDS]
+    requires { ⌜ n ≤ mostRecords ⌝ }
     ensures { λ r. ⌜ r ≡ map (lowerOne (now (reaches .entry))) (take n ds) ++ drop n ds ⌝ }
 {
     let mut run = ds;
@@ -82,8 +88,13 @@ pub fn lowered(ds: [Delegation; 256], n: usize, reaches: &[i16]) -> [Delegation;
 }
 
 // The weights of the first `n` delegations; whether one is below the weight that its record has.
-pub fn read_weights(block: &[u8], ds: [Delegation; 256], n: usize, weights: &mut [i16]) -> bool
-    requires { ⌜ HasRecords (now block) n × (n ≤ 256) × (length (now weights) ≡ 256) ⌝ }
+pub fn read_weights(
+    block: &[u8],
+    ds: [Delegation; layout::MOST_RECORDS],
+    n: usize,
+    weights: &mut [i16],
+) -> bool
+    requires { ⌜ HasRecords (now block) n × (n ≤ mostRecords) × (length (now weights) ≡ mostRecords) ⌝ }
     ensures { λ r. ⌜ WeightsRead (delegationAt (now (block .entry))) ds n r (now (weights .exit)) ⌝ }
 {
     let mut changed = false;

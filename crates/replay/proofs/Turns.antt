@@ -17,6 +17,7 @@ use Rattle.rules.specs.Call.{Call, fresh}
 use Rattle.rules.specs.Refusal.{firstOf}
 use Rattle.rules.specs.Trace.{Entry, History, stateFrom, PlaceRight}
 use Rattle.rules.proofs.Lists.{either}
+use Rattle.block.specs.Layout.{blockSize}
 use Rattle.block.specs.Block.{encode}
 use Rattle.block.proofs.Bytes.{length-tabulate}
 use Rattle.register.specs.CallOn.{Result, callOn, openOn}
@@ -25,58 +26,58 @@ use Rattle.register.specs.Cuts.{CutsLeft}
 use Rattle.demands.specs.History.{bytesLeft, blockAt}
 use Rattle.register.specs.declared.Answer.{Answer}
 use Rattle.demands.proofs.History.{demand3-steps}
-use Rattle.replay.specs.Replay.{callIn, callCount, callsIn, slot, answerIn, entryIn, entriesIn, isSized, allCalls, replayRefusal, Replayed, ReplayMade}
-use Rattle.replay.specs.Turn.{Copied, Stored, MadeAt, Turned}
+use Rattle.replay.specs.Replay.{answerSize, callCount, callsIn, callAt, slot, returnedAt, entryIn, entriesIn, isSized, allCalls, replayRefusal, Replayed, ReplayMade}
+use Rattle.replay.specs.Turn.{SlotCopied, Stored, MadeAt, Turned}
 use Rattle.replay.proofs.Slots.{slot-kept, slot-new, slot-part}
 
 -- ── what is stored ──
-module _ (refusals : List ℕ) (answers : List ℤ) (i : ℕ) (o : Answer) (room : i < length refusals) (space : 3 * i + 3 ≤ length answers) where
-  pub stored-all : Stored refusals answers i o (set refusals i (o .refusal)) (set (set (set answers (3 * i) (o .first)) (3 * i + 1) (o .second)) (3 * i + 2) (o .third))
+module _ (refusals : List ℕ) (answers : List ℤ) (i : ℕ) (o : Answer) (room : i < length refusals) (space : answerSize * i + answerSize ≤ length answers) where
+  pub stored-all : Stored refusals answers i o (set refusals i (o .refusal)) (set (set (set answers (answerSize * i) (o .first)) (answerSize * i + 1) (o .second)) (answerSize * i + 2) (o .third))
   stored-all =
-      let a : List ℤ = set answers (3 * i) (o .first) in
-      let b : List ℤ = set a (3 * i + 1) (o .second) in
-      let s : List ℤ = set b (3 * i + 2) (o .third) in
-      let la : length a ≡ length answers = length-set answers (3 * i) (o .first) in
-      let lb : length b ≡ length a = length-set a (3 * i + 1) (o .second) in
+      let a : List ℤ = set answers (answerSize * i) (o .first) in
+      let b : List ℤ = set a (answerSize * i + 1) (o .second) in
+      let s : List ℤ = set b (answerSize * i + 2) (o .third) in
+      let la : length a ≡ length answers = length-set answers (answerSize * i) (o .first) in
+      let lb : length b ≡ length a = length-set a (answerSize * i + 1) (o .second) in
       let x : getD (set refusals i (o .refusal)) i 0 ≡ o .refusal = getD-set-same refusals i (o .refusal) 0 room in
-      let f : getD s (3 * i) (pos 0) ≡ o .first =
-      getD-set-other b (3 * i + 2) (3 * i) (o .third) (pos 0) (λ e. omega arith)
-      ∙ getD-set-other a (3 * i + 1) (3 * i) (o .second) (pos 0) (λ e. omega arith)
-      ∙ getD-set-same answers (3 * i) (o .first) (pos 0) (omega arith) in
-      let g : getD s (3 * i + 1) (pos 0) ≡ o .second =
-      getD-set-other b (3 * i + 2) (3 * i + 1) (o .third) (pos 0) (λ e. omega arith) ∙ getD-set-same a (3 * i + 1) (o .second) (pos 0) (omega arith) in
-      let h : getD s (3 * i + 2) (pos 0) ≡ o .third = getD-set-same b (3 * i + 2) (o .third) (pos 0) (omega arith) in
+      let f : getD s (answerSize * i) (pos 0) ≡ o .first =
+      getD-set-other b (answerSize * i + 2) (answerSize * i) (o .third) (pos 0) (λ e. omega arith)
+      ∙ getD-set-other a (answerSize * i + 1) (answerSize * i) (o .second) (pos 0) (λ e. omega arith)
+      ∙ getD-set-same answers (answerSize * i) (o .first) (pos 0) (omega arith) in
+      let g : getD s (answerSize * i + 1) (pos 0) ≡ o .second =
+      getD-set-other b (answerSize * i + 2) (answerSize * i + 1) (o .third) (pos 0) (λ e. omega arith) ∙ getD-set-same a (answerSize * i + 1) (o .second) (pos 0) (omega arith) in
+      let h : getD s (answerSize * i + 2) (pos 0) ≡ o .third = getD-set-same b (answerSize * i + 2) (o .third) (pos 0) (omega arith) in
       record {
         here = λ p. record { refusal = x p; first = f p; second = g p; third = h p };
         kept = λ j l.
             let x = getD-set-other refusals i j (o .refusal) 0 (λ e. omega arith) in
-            let f = other (3 * j) (omega arith) in
-            let g = other (3 * j + 1) (omega arith) in
-            let h = other (3 * j + 2) (omega arith) in
+            let f = other (answerSize * j) (omega arith) in
+            let g = other (answerSize * j + 1) (omega arith) in
+            let h = other (answerSize * j + 2) (omega arith) in
             λ p. record { refusal = x p; first = f p; second = g p; third = h p };
       }
     where
-      other : (k : ℕ) → k < 3 * i → getD (set (set (set answers (3 * i) (o .first)) (3 * i + 1) (o .second)) (3 * i + 2) (o .third)) k (pos 0) ≡ getD answers k (pos 0)
+      other : (k : ℕ) → k < answerSize * i → getD (set (set (set answers (answerSize * i) (o .first)) (answerSize * i + 1) (o .second)) (answerSize * i + 2) (o .third)) k (pos 0) ≡ getD answers k (pos 0)
       other k l =
-          getD-set-other (set (set answers (3 * i) (o .first)) (3 * i + 1) (o .second)) (3 * i + 2) k (o .third) (pos 0) (λ e. omega arith)
-          ∙ getD-set-other (set answers (3 * i) (o .first)) (3 * i + 1) k (o .second) (pos 0) (λ e. omega arith)
-          ∙ getD-set-other answers (3 * i) k (o .first) (pos 0) (λ e. omega arith)
+          getD-set-other (set (set answers (answerSize * i) (o .first)) (answerSize * i + 1) (o .second)) (answerSize * i + 2) k (o .third) (pos 0) (λ e. omega arith)
+          ∙ getD-set-other (set answers (answerSize * i) (o .first)) (answerSize * i + 1) k (o .second) (pos 0) (λ e. omega arith)
+          ∙ getD-set-other answers (answerSize * i) k (o .first) (pos 0) (λ e. omega arith)
 
 -- ── one turn ──
 module _ (calls blocks refusals : List ℕ) (answers : List ℤ) (i : ℕ) where
   -- b is the list of blocks after the copy; ys is what the call left in its slot, which begins at m
-  pub turned : (b : List ℕ) → Copied blocks i b → (m k : ℕ) → m ≡ 2180 * suc i → k ≡ 2180 → m + 2180 ≤ length b → (o : Answer) (ys R : List ℕ) → length ys ≡ length (take k (drop m b))
-      → Made steps (callIn (drop (7 * i) calls)) (take k (drop m b)) o ys → (refusals' : List ℕ) (answers' : List ℤ) → Stored refusals answers i o refusals' answers'
+  pub turned : (b : List ℕ) → SlotCopied blocks i b → (m k : ℕ) → m ≡ blockSize * suc i → k ≡ blockSize → m + blockSize ≤ length b → (o : Answer) (ys R : List ℕ) → length ys ≡ length (take k (drop m b))
+      → Made steps (callAt calls i) (take k (drop m b)) o ys → (refusals' : List ℕ) (answers' : List ℤ) → Stored refusals answers i o refusals' answers'
       → Turned calls blocks refusals answers i (take m b ++ (ys ++ R)) refusals' answers'
   turned b copied m k e f space o ys R w made refusals' answers' stored =
       let room : m ≤ length b = omega arith in
-      let size : length ys ≡ 2180 = w ∙ length-take-le k (drop m b) (simp length-drop (omega arith)) ∙ f in
+      let size : length ys ≡ blockSize = w ∙ length-take-le k (drop m b) (simp length-drop (omega arith)) ∙ f in
       let kept : (j : ℕ) → j ≤ i → slot (take m b ++ (ys ++ R)) j ≡ slot blocks j = λ j h. slot-kept b m room (ys ++ R) j (omega arith) ∙ copied .kept j h in
       let new : slot (take m b ++ (ys ++ R)) (suc i) ≡ ys = slot-new b m room ys R (suc i) e size in
       let before : take k (drop m b) ≡ slot (take m b ++ (ys ++ R)) i = slot-part b (suc i) m k e f ∙ copied .copy ∙ sym (kept i (omega arith)) in
       let here = stored .here in
       record {
-        made = (λ p. result (here p) (new p)) ∙ made ∙ ap (λ (z : List ℕ). callOn steps z (callIn (drop (7 * i) calls))) before;
+        made = (λ p. result (here p) (new p)) ∙ made ∙ ap (λ (z : List ℕ). callOn steps z (callAt calls i)) before;
         slots = kept;
         kept = stored .kept;
       }
@@ -84,11 +85,11 @@ module _ (calls blocks refusals : List ℕ) (answers : List ℤ) (i : ℕ) where
 -- ── all turns ──
 
 -- open, on the first slot: ys is what it left there
-pub opened : (blocks ys R : List ℕ) (o : Answer) → 2180 ≤ length blocks → length ys ≡ length (take 2180 blocks) → MadeOpen (take 2180 blocks) o ys → slot (ys ++ R) 0 ≡ encode fresh
+pub opened : (blocks ys R : List ℕ) (o : Answer) → blockSize ≤ length blocks → length ys ≡ length (take blockSize blocks) → MadeOpen (take blockSize blocks) o ys → slot (ys ++ R) 0 ≡ encode fresh
 unfolding openOn
 opened blocks ys R o room w m =
-    let size : length (take 2180 blocks) ≡ 2180 = length-take-le 2180 blocks room in
-    slot-new blocks 0 (omega arith) ys R 0 (omega arith) (w ∙ size) ∙ ap (λ (r : Result). r .bytes) m ∙ rw (eq-eqb (length (take 2180 blocks)) 2180 size)
+    let size : length (take blockSize blocks) ≡ blockSize = length-take-le blockSize blocks room in
+    slot-new blocks 0 (omega arith) ys R 0 (omega arith) (w ∙ size) ∙ ap (λ (r : Result). r .bytes) m ∙ rw (eq-eqb (length (take blockSize blocks)) blockSize size)
 
 -- the first k calls were made
 pub record Through (calls blocks refusals : List ℕ) (answers : List ℤ) (k : ℕ) : Type 0 where
@@ -108,7 +109,7 @@ through-on calls blocks refusals answers k h blocks' refusals' answers' t = reco
         let a = t .kept j n in
         let b = t .slots j (omega arith) in
         let d = t .slots (suc j) n in
-        (λ p. result (a p) (d p)) ∙ h .made j n ∙ ap (λ (z : List ℕ). callOn steps z (callIn (drop (7 * j) calls))) (sym b)
+        (λ p. result (a p) (d p)) ∙ h .made j n ∙ ap (λ (z : List ℕ). callOn steps z (callAt calls j)) (sym b)
     go j l (inr q) =
         let n = nltb→le j k q in
         let e : k ≡ j = omega arith in
@@ -126,15 +127,15 @@ module _ (calls blocks refusals : List ℕ) (answers : List ℤ) where
   history-from : (i n : ℕ) (b : List ℕ) → slot blocks i ≡ b → MadeFrom i n → History (callOn steps) bytesLeft b (tabulate (entryIn calls blocks refusals answers) i n)
   history-from i zero b e h = tt
   history-from i (suc n) b e h = (
-    subst (λ (z : List ℕ). Made steps (callIn (drop (7 * i) calls)) z (answerIn refusals answers i) (slot blocks (suc i))) e (h i (omega arith) (omega arith)),
+    subst (λ (z : List ℕ). Made steps (callAt calls i) z (returnedAt refusals answers i) (slot blocks (suc i))) e (h i (omega arith) (omega arith)),
     history-from (suc i) n (slot blocks (suc i)) refl (λ j l m. h j (omega arith) (omega arith)),
   )
 
-  slots-from : (i n k : ℕ) (b : List ℕ) → slot blocks i ≡ b → MadeFrom i n → k ≤ n → slot blocks (i + k) ≡ stateFrom (callOn steps) bytesLeft b (tabulate (λ j. callIn (drop (7 * j) calls)) i n) k
+  slots-from : (i n k : ℕ) (b : List ℕ) → slot blocks i ≡ b → MadeFrom i n → k ≤ n → slot blocks (i + k) ≡ stateFrom (callOn steps) bytesLeft b (tabulate (callAt calls) i n) k
   slots-from i n zero b e h l = ap (slot blocks) (add-zero i) ∙ e
   slots-from i zero (suc k) b e h l = absurd (not-suc-le-zero l)
   slots-from i (suc n) (suc k) b e h l =
-      let c : Call = callIn (drop (7 * i) calls) in
+      let c : Call = callAt calls i in
       let after : slot blocks (suc i) ≡ callOn steps b c .bytes = ap (λ (r : Result). r .bytes) (h i (omega arith) (omega arith)) ∙ ap (λ (z : List ℕ). callOn steps z c .bytes) e in
       let q : i + suc k ≡ suc i + k = omega arith in
       ap (slot blocks) q ∙ slots-from (suc i) n k (callOn steps b c .bytes) after (λ j x y. h j (omega arith) (omega arith)) (le-of-suc-le-suc l)
@@ -146,7 +147,7 @@ module _ (calls blocks refusals : List ℕ) (answers : List ℤ) where
       made j l m = h .made j (omega arith)
 
       size : length (callsIn calls) ≡ callCount calls
-      size = length-tabulate (λ k. callIn (drop (7 * k) calls)) 0 (callCount calls)
+      size = length-tabulate (callAt calls) 0 (callCount calls)
 
       slots : (i : ℕ) → i ≤ length (callsIn calls) → slot blocks i ≡ blockAt steps (callsIn calls) i
       slots i l =

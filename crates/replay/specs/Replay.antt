@@ -27,7 +27,7 @@ use Rattle.register.specs.declared.Answer.{Answer}
 abbrev pub isCall : ℕ → Bool
 isCall n = leb n 5
 
--- the call that seven numbers name
+-- the call that a number and its columns name
 unfoldable pub callOf : (number by giver receiver weight need bar : ℕ) → Call
 callOf number by giver receiver weight need bar =
     cond (eqb number 0) (enrol need)
@@ -36,49 +36,65 @@ callOf number by giver receiver weight need bar =
     (cond (eqb number 3) (downgrade by giver receiver weight)
     (cond (eqb number 4) (askReach giver receiver) (askUse receiver)))))
 
--- what `call` promises: the call that the numbers name is made; another number is refused with 7 and changes nothing
-pub record CallMade (number by giver receiver weight need bar : ℕ) (before : List ℕ) (r : Answer) (after : List ℕ) : Type 0 where
-  pub made : T (isCall number) → Made steps (callOf number by giver receiver weight need bar) before r after
+-- what `call` promises: the call d that the numbers name is made; a number that is no call's is refused with 7 and changes nothing
+pub record CallMade (number : ℕ) (d : Call) (before : List ℕ) (r : Answer) (after : List ℕ) : Type 0 where
+  pub made : T (isCall number) → Made steps d before r after
   pub other : T (not (isCall number)) → (r ≡ refusedBy 7) × (after ≡ before)
 
 -- ── the buffers ──
 
--- the call whose seven numbers begin a list: the call's number, by, giver, receiver, weight, need, bar
+-- how many numbers a call has in a list, and how many answers
+abbrev pub callSize : ℕ
+callSize = 7
+
+abbrev pub answerSize : ℕ
+answerSize = 3
+
+-- the call whose numbers begin a list: the call's number, by, giver, receiver, weight, need, bar
 abbrev pub callIn : List ℕ → Call
 callIn s = callOf (getD s 0 0) (getD s 1 0) (getD s 2 0) (getD s 3 0) (getD s 4 0) (getD s 5 0) (getD s 6 0)
 
 -- how many calls a list of numbers has, and which
 abbrev pub callCount : List ℕ → ℕ
-callCount s = length s / 7
+callCount s = length s / callSize
 
 abbrev pub callsIn : List ℕ → List Call
-callsIn s = readAll callIn 7 s (callCount s)
+callsIn s = readAll callIn callSize s (callCount s)
+
+-- call i, and its number
+abbrev pub callAt : List ℕ → ℕ → Call
+callAt s i = callIn (drop (callSize * i) s)
+
+abbrev pub numberAt : List ℕ → ℕ → ℕ
+numberAt s i = getD s (callSize * i) 0
 
 -- block i: 0 is the opened one, i + 1 the one that call i left
 unfoldable pub slot : List ℕ → ℕ → List ℕ
 slot blocks i = take blockSize (drop (blockSize * i) blocks)
 
 -- what call i returned
-abbrev pub answerIn : List ℕ → List ℤ → ℕ → Answer
-answerIn refusals answers i =
-    record { refusal = getD refusals i 0; first = getD answers (3 * i) (pos 0); second = getD answers (3 * i + 1) (pos 0); third = getD answers (3 * i + 2) (pos 0) }
+abbrev pub returnedAt : List ℕ → List ℤ → ℕ → Answer
+returnedAt refusals answers i =
+    record { refusal = getD refusals i 0; first = getD answers (answerSize * i) (pos 0); second = getD answers (answerSize * i + 1) (pos 0); third = getD answers (answerSize * i + 2) (pos 0) }
 
 -- every call with what it returned and the block that it left
 abbrev pub entryIn : List ℕ → List ℕ → List ℕ → List ℤ → ℕ → Entry Call Result
-entryIn calls blocks refusals answers i = record { asked = callIn (drop (7 * i) calls); outcome = result (answerIn refusals answers i) (slot blocks (suc i)) }
+entryIn calls blocks refusals answers i = record { asked = callAt calls i; outcome = result (returnedAt refusals answers i) (slot blocks (suc i)) }
 
 abbrev pub entriesIn : List ℕ → List ℕ → List ℕ → List ℤ → List (Entry Call Result)
 entriesIn calls blocks refusals answers = tabulate (entryIn calls blocks refusals answers) 0 (callCount calls)
 
 -- ── refusals ──
 
--- the lengths are whole calls, a block more than calls, one refusal and three answers a call
+-- the lengths are whole calls, a block more than calls, a refusal and the answers for each call
 abbrev pub isSized : (calls blocks refusals answers : ℕ) → Bool
-isSized calls blocks refusals answers = eqb (calls % 7) 0 && eqb blocks (blockSize * suc (calls / 7)) && eqb refusals (calls / 7) && eqb answers (3 * (calls / 7))
+isSized calls blocks refusals answers =
+    let n = calls / callSize in
+    eqb (calls % callSize) 0 && eqb blocks (blockSize * suc n) && eqb refusals n && eqb answers (answerSize * n)
 
 -- every call number is a call's
 abbrev pub allCalls : List ℕ → Bool
-allCalls calls = allFrom (λ i. isCall (getD calls (7 * i) 0)) 0 (callCount calls)
+allCalls calls = allFrom (λ i. isCall (numberAt calls i)) 0 (callCount calls)
 
 -- 1: the lengths do not fit; 7: some number is not a call's; else 0
 unfoldable pub replayRefusal : List ℕ → List ℕ → List ℕ → List ℤ → ℕ

@@ -6,11 +6,16 @@ ghost use lib.ListN.{length, getD, drop};
 ghost use Rattle.rules.specs.Table.{steps};
 ghost use Rattle.block.specs.Layout.{blockSize};
 ghost use Rattle.register.specs.Made.{Made};
-ghost use Rattle.replay.specs.Replay.{isCall, CallMade, callIn, callCount, isSized, allCalls, ReplayMade};
-ghost use Rattle.replay.specs.Turn.{Copied, Stored, Sized, Turned};
+ghost use Rattle.replay.specs.Replay.{isCall, callOf, CallMade, callSize, answerSize, callIn, callCount, numberAt, isSized, allCalls, ReplayMade};
+ghost use Rattle.replay.specs.Turn.{SlotCopied, Stored, Sized, Turned};
 use block::layout;
 use register::Answer;
 use rules::refusal;
+
+// How many numbers a call has in a list, and how many answers.
+pub const CALL_SIZE: usize = 7;
+
+pub const ANSWER_SIZE: usize = 3;
 
 // Makes the call that the numbers name: 0 enrol (marks under need), 1 grant, 2 revoke, 3 downgrade, 4 reach, 5 use.
 pub fn call(
@@ -23,7 +28,7 @@ pub fn call(
     need: u32,
     bar: u32,
 ) -> Answer
-    ensures { λ r. ⌜ CallMade number by giver receiver weight need bar (now (block .entry)) r (now (block .exit)) ⌝ }
+    ensures { λ r. ⌜ CallMade number (callOf number by giver receiver weight need bar) (now (block .entry)) r (now (block .exit)) ⌝ }
 {
     if number == 0 {
         return register::enrol(block, need);
@@ -62,10 +67,10 @@ fn is_call(number: u32) -> bool
 fn all_calls(calls: &[u32]) -> bool
     ensures { λ r. ⌜ r ≡ allCalls (now (calls .entry)) ⌝ }
 {
-    let n = calls.len() / 7;
+    let n = calls.len() / CALL_SIZE;
     let mut i: usize = 0;
     while i < n {
-        if !is_call(calls[7 * i]) {
+        if !is_call(calls[CALL_SIZE * i]) {
             return false;
         }
         i += 1;
@@ -73,32 +78,32 @@ fn all_calls(calls: &[u32]) -> bool
     true
 }
 
-// The lengths fit each other: whole calls, a block more than calls, one refusal and three answers a call.
+// The lengths fit each other: whole calls, a block more than calls, a refusal and the answers for each call.
 fn is_sized(calls: usize, blocks: usize, refusals: usize, answers: usize) -> bool
     ensures { λ r. ⌜ r ≡ isSized calls blocks refusals answers ⌝ }
 {
-    if calls % 7 != 0 {
+    if calls % CALL_SIZE != 0 {
         return false;
     }
     if blocks % layout::BLOCK_SIZE != 0 {
         return false;
     }
-    if blocks / layout::BLOCK_SIZE != calls / 7 + 1 {
+    if blocks / layout::BLOCK_SIZE != calls / CALL_SIZE + 1 {
         return false;
     }
-    if refusals != calls / 7 {
+    if refusals != calls / CALL_SIZE {
         return false;
     }
-    if answers % 3 != 0 {
+    if answers % ANSWER_SIZE != 0 {
         return false;
     }
-    answers / 3 == calls / 7
+    answers / ANSWER_SIZE == calls / CALL_SIZE
 }
 
 // Slot `i` copied to the slot after it.
 fn copy_slot(blocks: &mut [u8], i: usize)
     requires { ⌜ blockSize * (i + 2) ≤ length (now blocks) ⌝ }
-    ensures { λ _. ⌜ Copied (now (blocks .entry)) i (now (blocks .exit)) ⌝ }
+    ensures { λ _. ⌜ SlotCopied (now (blocks .entry)) i (now (blocks .exit)) ⌝ }
 {
     let from = layout::BLOCK_SIZE * i;
     let to = from + layout::BLOCK_SIZE;
@@ -111,7 +116,7 @@ fn copy_slot(blocks: &mut [u8], i: usize)
 
 // What call `i` returned.
 fn store(refusals: &mut [u32], answers: &mut [i32], i: usize, o: Answer)
-    requires { ⌜ (i < length (now refusals)) × (3 * i + 3 ≤ length (now answers)) ⌝ }
+    requires { ⌜ (i < length (now refusals)) × (answerSize * i + answerSize ≤ length (now answers)) ⌝ }
     ensures { λ _. ⌜ Stored (now (refusals .entry)) (now (answers .entry)) i o (now (refusals .exit)) (now (answers .exit)) ⌝ }
 {
     let number = o.refusal;
@@ -119,14 +124,14 @@ fn store(refusals: &mut [u32], answers: &mut [i32], i: usize, o: Answer)
     let second = o.second;
     let third = o.third;
     refusals[i] = number;
-    answers[3 * i] = first;
-    answers[3 * i + 1] = second;
-    answers[3 * i + 2] = third;
+    answers[ANSWER_SIZE * i] = first;
+    answers[ANSWER_SIZE * i + 1] = second;
+    answers[ANSWER_SIZE * i + 2] = third;
 }
 
-// The call whose seven numbers begin at `at`.
+// The call whose numbers begin at `at`.
 fn call_at(calls: &[u32], at: usize, block: &mut [u8]) -> Answer
-    requires { ⌜ (at + 7 ≤ length (now calls)) × T (isCall (getD (now calls) at 0)) ⌝ }
+    requires { ⌜ (at + callSize ≤ length (now calls)) × T (isCall (getD (now calls) at 0)) ⌝ }
     ensures { λ r. ⌜ Made steps (callIn (drop at (now (calls .entry)))) (now (block .entry)) r (now (block .exit)) ⌝ }
 {
     call(
@@ -143,17 +148,17 @@ fn call_at(calls: &[u32], at: usize, block: &mut [u8]) -> Answer
 
 // Call `i`, on a copy of slot `i` in the slot after it.
 fn turn(calls: &[u32], i: usize, blocks: &mut [u8], refusals: &mut [u32], answers: &mut [i32])
-    requires { ⌜ (i < callCount (now calls)) × T (isCall (getD (now calls) (7 * i) 0)) × Sized (now calls) (now blocks) (now refusals) (now answers) ⌝ }
+    requires { ⌜ (i < callCount (now calls)) × T (isCall (numberAt (now calls) i)) × Sized (now calls) (now blocks) (now refusals) (now answers) ⌝ }
     ensures { λ _. ⌜ Turned (now (calls .entry)) (now (blocks .entry)) (now (refusals .entry)) (now (answers .entry)) i (now (blocks .exit)) (now (refusals .exit)) (now (answers .exit)) ⌝ }
 {
     copy_slot(blocks, i);
     let start = layout::BLOCK_SIZE * (i + 1);
     let end = start + layout::BLOCK_SIZE;
-    let o = call_at(calls, 7 * i, &mut blocks[start..end]);
+    let o = call_at(calls, CALL_SIZE * i, &mut blocks[start..end]);
     store(refusals, answers, i, o);
 }
 
-// Makes a list of calls, seven numbers each: call, by, giver, receiver, weight, need, bar.
+// Makes a list of calls, by the numbers of each: call, by, giver, receiver, weight, need, bar.
 // Slot 0 of `blocks` is opened; slot i + 1 is a copy of slot i on which call i is made.
 pub fn replay(calls: &[u32], blocks: &mut [u8], refusals: &mut [u32], answers: &mut [i32]) -> u32
     ensures { λ r. ⌜ ReplayMade (now (calls .entry)) (now (blocks .entry)) (now (refusals .entry)) (now (answers .entry)) r (now (blocks .exit)) (now (refusals .exit)) (now (answers .exit)) ⌝ }
@@ -165,7 +170,7 @@ pub fn replay(calls: &[u32], blocks: &mut [u8], refusals: &mut [u32], answers: &
         return refusal::MALFORMED;
     }
     register::open(&mut blocks[0..layout::BLOCK_SIZE]);
-    let n = calls.len() / 7;
+    let n = calls.len() / CALL_SIZE;
     let mut i: usize = 0;
     while i < n {
         turn(calls, i, blocks, refusals, answers);

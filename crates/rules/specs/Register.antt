@@ -27,3 +27,7 @@ reweigh d w = record { giver = d .giver; receiver = d .receiver; weight = w; nee
 -- the register with other delegations
 abbrev pub withDelegations : Register → List Delegation → Register
 withDelegations R ds = record { subjects = R .subjects; marks = R .marks; delegations = ds }
+
+-- what is read where no delegation is
+abbrev pub noDelegation : Delegation
+noDelegation = record { giver = 0; receiver = 0; weight = 0; need = 0; bar = 0 }

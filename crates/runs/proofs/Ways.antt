@@ -3,7 +3,7 @@ use mathlib.Core.Path.{_≡_, refl, sym, ap, subst, _∙_}
 use mathlib.Core.Logic.{_≢_, _⊎_, inl, inr}
 use mathlib.Core.Bool.{Bool, true, false}
 use mathlib.Core.List.{List}
-use Prim.Native.Nat.{ℕ, _+_, _<_}
+use Prim.Native.Nat.{ℕ, _<_}
 use native.Mathlib.Omega.{arith}
 use lib.Dec.{T}
 use lib.IntN.{ℤ, pos, natAbs}
@@ -15,36 +15,33 @@ use mir.Val.{SFits}
 use mir.Facts.{toZ-ofZ}
 use Rattle.rules.specs.Limit.{none, _≼_}
 use Rattle.rules.specs.Table.{next, TableRule}
+use Rattle.rules.specs.Register.{Delegation}
 use Rattle.rules.specs.Condition.{meets}
 use Rattle.rules.proofs.Lists.{eqOr, yes, no}
 use Rattle.rules.proofs.Limits.{next-top}
-use Rattle.block.specs.Bytes.{two}
-use Rattle.queue.specs.Queue.{Put, Lowest}
-use Rattle.runs.specs.Steps.{recordAt, Stepped, Waiting}
+use Rattle.queue.specs.Queue.{levels, Put, Lowest}
+use Rattle.runs.specs.Steps.{Stepped, Waiting}
 use Rattle.rules.proofs.Signed.{kept, more, read-limit, live-natural}
 
-module _ (t : List ℤ) (run : List ℕ) (at place : ℕ) (limit : ℤ) (marks : ℕ) (l : List ℤ) (p q : List ℕ) (low need bar : ℕ) (m : Bool)
-    (en : need ≡ two run (at + 4)) (eb : bar ≡ two run (at + 6)) (em : m ≡ meets marks need bar) (w : Waiting l q low) where
-  abbrev who : ℕ
-  who = getD run (at + 1) 0
-
+module _ (t : List ℤ) (d : Delegation) (place : ℕ) (limit : ℤ) (marks : ℕ) (l : List ℤ) (p q : List ℕ) (low need bar : ℕ) (m : Bool)
+    (en : need ≡ d .need) (eb : bar ≡ d .bar) (em : m ≡ meets marks need bar) (w : Waiting l q low) where
   -- what the step makes of the limits, parents and queue
   abbrev Made : List ℤ → List ℕ → List ℕ → ℕ → Type 0
-  Made l′ p′ q′ low′ = Stepped t limit marks (recordAt run at) place l p q l′ p′ q′ × Waiting l′ q′ low′
+  Made l′ p′ q′ low′ = Stepped t limit marks d place l p q l′ p′ q′ × Waiting l′ q′ low′
 
-  met : m ≡ meets marks (two run (at + 4)) (two run (at + 6))
+  met : m ≡ meets marks (d .need) (d .bar)
   met = em ∙ (λ i. meets marks (en i) (eb i))
 
   pub step-unmet : m ≡ false → Made l p q low
   step-unmet f = (inl ((λ k. no f (subst T (sym met) (k .0))), refl, refl, refl), w)
 
-  module _ (given : ℤ) (f : SFits w16 limit) (h : who < length l) (b : mag (getD l who (pos 0)) < 32768) (g : SFits w16 given)
-      (eg : given ≡ next t (kept limit) (getD run (at + 2) 0)) where
-    gives : kept given ≡ next t limit (getD run (at + 2) 0)
-    gives = toZ-ofZ g ∙ eg ∙ ap (λ (z : ℤ). next t z (getD run (at + 2) 0)) (toZ-ofZ f)
+  module _ (who weight : ℕ) (er : who ≡ d .receiver) (ew : weight ≡ d .weight) (given : ℤ) (f : SFits w16 limit) (h : who < length l) (b : mag (getD l who (pos 0)) < 32768)
+      (g : SFits w16 given) (eg : given ≡ next t (kept limit) weight) where
+    gives : kept given ≡ next t limit (d .weight)
+    gives = toZ-ofZ g ∙ eg ∙ (λ i. next t (toZ-ofZ f i) (ew i))
 
-    test : ltZ (kept (getD l who (pos 0))) (kept given) ≡ ltZ (getD l who none) (next t limit (getD run (at + 2) 0))
-    test = λ i. ltZ (read-limit l who h b i) (gives i)
+    test : ltZ (kept (getD l who (pos 0))) (kept given) ≡ ltZ (getD l (d .receiver) none) (next t limit (d .weight))
+    test = (λ i. ltZ (read-limit l who h b i) (gives i)) ∙ ap (λ (x : ℕ). ltZ (getD l x none) (next t limit (d .weight))) er
 
     pub step-not-raised : ltZ (kept (getD l who (pos 0))) (kept given) ≡ false → Made l p q low
     step-not-raised k = (inl ((λ r. no k (subst T (sym test) (r .1))), refl, refl, refl), w)
@@ -55,13 +52,13 @@ module _ (t : List ℤ) (run : List ℕ) (at place : ℕ) (limit : ℤ) (marks :
       given-live = omega (arith, more (getD l who none) (kept given) (w .limits who) (subst (λ (z : ℤ). T (ltZ z (kept given))) (read-limit l who h b) (yes k)))
 
       -- and is a level
-      pub given-level : TableRule t → limit ≼ pos 255 → T (nonNeg (kept given)) × (natAbs (kept given) < 256)
-      given-level rule small = live-natural (kept given) given-live (subst (λ (z : ℤ). z ≼ pos 255) (sym gives) (next-top t rule limit (getD run (at + 2) 0) small))
+      pub given-level : TableRule t → limit ≼ pos 255 → T (nonNeg (kept given)) × (natAbs (kept given) < levels)
+      given-level rule small = live-natural (kept given) given-live (subst (λ (z : ℤ). z ≼ pos 255) (sym gives) (next-top t rule limit (d .weight) small))
 
       pub step-raised : m ≡ true → (q′ : List ℕ) (low′ : ℕ) → Put q (natAbs (kept given)) who 1 q′ → Lowest q′ low′ → Made (set l who (kept given)) (set p who place) q′ low′
       step-raised y q′ low′ put lowest = (
-        inr ((subst T met (yes y), subst T test (yes k)), ap (set l who) gives, refl, subst (λ (z : ℤ). Put q (natAbs z) who 1 q′) gives put),
-        record { size = put .size ∙ w .size; limits = λ y. go y (eqOr who y); lowest = lowest },
+        inr ((subst T met (yes y), subst T test (yes k)), (λ i. set l (er i) (gives i)), (λ i. set p (er i) place), subst (λ (z : ℤ). Put q (natAbs z) (d .receiver) 1 q′) gives (subst (λ (x : ℕ). Put q (natAbs (kept given)) x 1 q′) er put)),
+        record { queue = record { size = put .size ∙ w .queue .size; lowest = lowest }; limits = λ y. go y (eqOr who y) },
       )
         where
           go : (y : ℕ) → (who ≡ y) ⊎ (who ≢ y) → (getD (set l who (kept given)) y none ≡ none) ⊎ (pos 0 ≼ getD (set l who (kept given)) y none)

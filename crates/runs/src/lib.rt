@@ -1,14 +1,18 @@
 // What one giver's records give.
 ghost use mathlib.Core.Path.{_≡_};
-ghost use Prim.Native.Nat.{ℕ, _+_, _*_, _/_, _≤_, _<_};
-ghost use lib.ListN.{length, getD};
-ghost use lib.IntN.{pos};
-ghost use Rattle.rules.specs.Limit.{none, _≼_};
+ghost use Prim.Native.Nat.{ℕ, _≤_, _<_};
+ghost use lib.ListN.{length, getD, drop};
+ghost use Rattle.rules.specs.Limit.{none};
 ghost use Rattle.rules.specs.Table.{TableRule};
 ghost use Rattle.rules.specs.WellFormed.{Rising};
-ghost use Rattle.runs.specs.Lent.{Lent, delegationsIn};
-ghost use Rattle.runs.specs.Steps.{recordAt, Stepped, Ran, Sought, Starts, Gave, Waiting};
+ghost use Rattle.block.specs.Layout.{mostSubjects, mostRecords};
+ghost use Rattle.block.specs.Block.{delegationIn};
+ghost use Rattle.runs.specs.Lent.{recordCount, recordAt, delegationsIn, RunLent, RecordLent};
+ghost use Rattle.runs.specs.Steps.{Stepped, SteppedTo, Sought, startCount, Starts, Indexed, Gave, Waiting, Ready};
 use block::layout;
+
+// A start for each giver, and the end of the last run.
+pub const STARTS: usize = layout::SUBJECTS + 1;
 
 // The record at `at`: where it raises its receiver, the limit is stored, and `place` as the receiver's parent, and it waits at that limit.
 fn relax_at(
@@ -23,8 +27,8 @@ fn relax_at(
     waiting: &mut [u64],
     low: usize,
 ) -> usize
-    requires { ⌜ (at + 8 ≤ length (now run)) × (place < 65536) × TableRule (now table) × (limit ≼ pos 255) × (length (now limits) ≡ 64) × (length (now parents) ≡ 64) × (getD (now run) (at + 1) 0 < 64) × Waiting (now limits) (now waiting) low ⌝ }
-    ensures { λ r. ⌜ Stepped (now (table .entry)) limit marks (recordAt (now (run .entry)) at) place (now (limits .entry)) (now (parents .entry)) (now (waiting .entry)) (now (limits .exit)) (now (parents .exit)) (now (waiting .exit)) × Waiting (now (limits .exit)) (now (waiting .exit)) r ⌝ }
+    requires { ⌜ TableRule (now table) × RecordLent (now run) at place × Ready limit (now limits) (now parents) (now waiting) low ⌝ }
+    ensures { λ r. ⌜ Stepped (now (table .entry)) limit marks (delegationIn (drop at (now (run .entry)))) place (now (limits .entry)) (now (parents .entry)) (now (waiting .entry)) (now (limits .exit)) (now (parents .exit)) (now (waiting .exit)) × Waiting (now (limits .exit)) (now (waiting .exit)) r ⌝ }
 {
     let need = block::read_two(run, at + layout::NEED);
     let bar = block::read_two(run, at + layout::BAR);
@@ -52,8 +56,8 @@ fn relax_run(
     waiting: &mut [u64],
     low: usize,
 ) -> usize
-    requires { ⌜ (first + length (now run) / 8 ≤ 256) × TableRule (now table) × (limit ≼ pos 255) × (length (now limits) ≡ 64) × (length (now parents) ≡ 64) × ((k : ℕ) → k < length (now run) / 8 → getD (now run) (8 * k + 1) 0 < 64) × Waiting (now limits) (now waiting) low ⌝ }
-    ensures { λ r. ⌜ Ran (now (table .entry)) limit marks (now (run .entry)) first (now (limits .entry)) (now (parents .entry)) (now (waiting .entry)) (length (now (run .entry)) / 8) (now (limits .exit)) (now (parents .exit)) (now (waiting .exit)) × Waiting (now (limits .exit)) (now (waiting .exit)) r ⌝ }
+    requires { ⌜ TableRule (now table) × RunLent (now run) first × Ready limit (now limits) (now parents) (now waiting) low ⌝ }
+    ensures { λ r. ⌜ SteppedTo (now (table .entry)) limit marks (now (run .entry)) first (now (limits .entry)) (now (parents .entry)) (now (waiting .entry)) (recordCount (now (run .entry))) (now (limits .exit)) (now (parents .exit)) (now (waiting .exit)) × Waiting (now (limits .exit)) (now (waiting .exit)) r ⌝ }
 {
     let n = run.len() / layout::RECORD_SIZE;
     let mut lowest = low;
@@ -78,7 +82,7 @@ fn relax_run(
 
 // The place of the first record whose giver is not below `bound`, sought from `low` on.
 fn seek(records: &[u8], low: usize, bound: usize) -> usize
-    requires { ⌜ (low ≤ length (now records) / 8) × ((k : ℕ) → k < low → getD (now records) (8 * k) 0 < bound) × Rising (delegationsIn (now records)) ⌝ }
+    requires { ⌜ (low ≤ recordCount (now records)) × ((k : ℕ) → k < low → recordAt (now records) k .giver < bound) × Rising (delegationsIn (now records)) ⌝ }
     ensures { λ r. ⌜ Sought (now (records .entry)) bound r ⌝ }
 {
     let n = records.len() / layout::RECORD_SIZE;
@@ -95,12 +99,12 @@ fn seek(records: &[u8], low: usize, bound: usize) -> usize
 
 // Where the run of each giver starts, in one pass: each is sought from the one before it.
 pub fn fill_starts(records: &[u8], starts: &mut [u16])
-    requires { ⌜ (length (now records) / 8 ≤ 256) × Rising (delegationsIn (now records)) × (length (now starts) ≡ 65) ⌝ }
+    requires { ⌜ (recordCount (now records) ≤ mostRecords) × Rising (delegationsIn (now records)) × (length (now starts) ≡ startCount) ⌝ }
     ensures { λ _. ⌜ Starts (now (records .entry)) (now (starts .exit)) ⌝ }
 {
     let mut k: usize = 0;
     let mut giver: usize = 0;
-    while giver < 65 {
+    while giver < STARTS {
         k = seek(records, k, giver);
         starts[giver] = k as u16;
         giver += 1;
@@ -119,7 +123,7 @@ pub fn relax_giver(
     waiting: &mut [u64],
     low: usize,
 ) -> usize
-    requires { ⌜ Lent (now table) (now records) (length (now records) / 8) × Starts (now records) (now starts) × (giver < 64) × (getD (now limits) giver none ≼ pos 255) × (length (now limits) ≡ 64) × (length (now parents) ≡ 64) × Waiting (now limits) (now waiting) low ⌝ }
+    requires { ⌜ Indexed (now table) (now records) (now starts) × (giver < mostSubjects) × Ready (getD (now limits) giver none) (now limits) (now parents) (now waiting) low ⌝ }
     ensures { λ r. ⌜ Gave (now (table .entry)) (now (records .entry)) marks giver (now (limits .entry)) (now (parents .entry)) (now (waiting .entry)) (now (limits .exit)) (now (parents .exit)) (now (waiting .exit)) × Waiting (now (limits .exit)) (now (waiting .exit)) r ⌝ }
 {
     let a = starts[giver] as usize;

@@ -12,13 +12,15 @@ use lib.ListN.{length, getD, set, List·getD-eq-default}
 use lib.Seq.{getD-set-same, getD-set-other}
 use Rattle.rules.specs.Limit.{none}
 use Rattle.rules.proofs.Lists.{either}
+use Rattle.block.specs.Layout.{mostSubjects}
+use Rattle.runs.specs.Lent.{Room}
 use Rattle.search.specs.Search.{Started}
 
 pub filled-more : {A : Type 0} (l : List A) (i : ℕ) (v d : A) → i < length l → ((y : ℕ) → y < i → getD l y d ≡ v) → (y : ℕ) → y < i + 1 → getD (set l i v) y d ≡ v
 filled-more l i v d h all =
     below-more (λ y. getD (set l i v) y d ≡ v) i (λ y b. let n : y ≢ i = λ e. omega arith in getD-set-other l i y v d n ∙ all y b) (getD-set-same l i v d h)
 
--- 64 values of which each is the default: so is what stands past the end
+-- n values of which each is the default: so is what stands past the end
 everywhere : {A : Type 0} (l : List A) (v : A) (n : ℕ) → length l ≡ n → ((y : ℕ) → y < n → getD l y v ≡ v) → (y : ℕ) → getD l y v ≡ v
 everywhere l v n h a y = go (either (ltb y n))
   where
@@ -26,10 +28,10 @@ everywhere l v n h a y = go (either (ltb y n))
     go (inl q) = a y (ltb→lt y n q)
     go (inr q) = List·getD-eq-default l v (omega (arith, nltb→le y n q))
 
-pub started : (l : List ℤ) (p : List ℕ) → length l ≡ 64 → length p ≡ 64 → ((y : ℕ) → y < 64 → getD l y none ≡ none) → ((y : ℕ) → y < 64 → getD p y 0 ≡ 0)
+pub started : (l : List ℤ) (p : List ℕ) → Room l p → ((y : ℕ) → y < mostSubjects → getD l y none ≡ none) → ((y : ℕ) → y < mostSubjects → getD p y 0 ≡ 0)
     → Started (set l 0 (pos 255)) p
-started l p h k a b = record {
-  owner = getD-set-same l 0 (pos 255) none (omega arith);
-  others = λ y n. getD-set-other l 0 y (pos 255) none (λ e. n (sym e)) ∙ everywhere l none 64 h a y;
-  places = everywhere p 0 64 k b;
+started l p room a b = record {
+  owner = getD-set-same l 0 (pos 255) none (omega (arith, room .limits));
+  others = λ y n. getD-set-other l 0 y (pos 255) none (λ e. n (sym e)) ∙ everywhere l none mostSubjects (room .limits) a y;
+  places = everywhere p 0 mostSubjects (room .parents) b;
 }

@@ -18,14 +18,15 @@ use Rattle.rules.specs.Reach.{chains, reach}
 use Rattle.rules.specs.Links.{linksTo}
 use Rattle.rules.specs.WellFormed.{Rising}
 use Rattle.rules.proofs.Lists.{getD-tabulate}
-use Rattle.block.specs.Layout.{recordsAt}
+use Rattle.block.specs.Layout.{mostSubjects, mostRecords, recordsAt, recordSize}
 use Rattle.block.specs.Bytes.{IsBytes}
-use Rattle.block.specs.Block.{delegationIn, subjectsIn, countIn, recordsIn, decode}
+use Rattle.block.specs.Block.{subjectsIn, countIn, recordsIn, decode}
 use Rattle.block.specs.WellFormed.{wellFormed}
 use Rattle.block.proofs.Held.{held-formed, size-held, count-most, delegations-held}
 use Rattle.block.specs.Records.{marksFor, delegationAt, recordFrom}
-use Rattle.runs.specs.Lent.{delegationsOf, Lent, delegationsIn}
-use Rattle.search.specs.Search.{underMarks, parentIn}
+use Rattle.runs.specs.Lent.{recordCount, recordAt, delegationsOf, delegationsIn, Lent}
+use Rattle.runs.proofs.Records.{delegation-same}
+use Rattle.search.specs.Search.{underMarks, parentIn, mostLinks}
 use Rattle.search.specs.Found.{Searched}
 
 tabulate-below : {A : Type 0} (f g : ℕ → A) (i n : ℕ) → ((k : ℕ) → k < n → f (i + k) ≡ g (i + k)) → tabulate f i n ≡ tabulate g i n
@@ -45,40 +46,32 @@ chain-marks : (t : List ℤ) (R : Register) (u v : ℕ) (ds : List Delegation) �
 chain-marks t R u v ds c = record { standing = c .standing; linked = c .linked; distinct = c .distinct; met = c .met; live = c .live }
 
 module _ (b : List ℕ) (bytes : IsBytes b) (formed : wellFormed b ≡ true) where
-  length-records : length (recordsIn b) ≡ 8 * countIn b
-  length-records = length-take (8 * countIn b) (drop recordsAt b) ∙ omega (arith, length-drop recordsAt b, size-held b bytes formed, count-most b bytes formed)
+  length-records : length (recordsIn b) ≡ recordSize * countIn b
+  length-records = length-take (recordSize * countIn b) (drop recordsAt b) ∙ omega (arith, length-drop recordsAt b, size-held b bytes formed, count-most b bytes formed)
 
-  records-count : length (recordsIn b) / 8 ≡ countIn b
-  records-count = ap (λ (n : ℕ). n / 8) length-records ∙ mul-div-right (countIn b) (omega arith)
+  records-count : recordCount (recordsIn b) ≡ countIn b
+  records-count = ap (λ (n : ℕ). n / recordSize) length-records ∙ mul-div-right (countIn b) (omega arith)
 
-  field : (k j : ℕ) → k < countIn b → j < 8 → getD (drop (8 * k) (recordsIn b)) j 0 ≡ getD (recordFrom b k) j 0
-  field k j l m = getD-drop (8 * k) (recordsIn b) j 0 ∙ getD-take (8 * countIn b) (drop recordsAt b) (8 * k + j) 0 (omega arith) ∙ sym (getD-drop (8 * k) (drop recordsAt b) j 0)
-
-  same-record : (k : ℕ) → k < countIn b → delegationIn (drop (8 * k) (recordsIn b)) ≡ delegationAt b k
-  same-record k l = λ i. record {
-    giver = field k 0 l (omega arith) i;
-    receiver = field k 1 l (omega arith) i;
-    weight = field k 2 l (omega arith) i;
-    need = field k 4 l (omega arith) i + field k 5 l (omega arith) i * 256;
-    bar = field k 6 l (omega arith) i + field k 7 l (omega arith) i * 256;
-  }
+  same-record : (k : ℕ) → k < countIn b → recordAt (recordsIn b) k ≡ delegationAt b k
+  same-record k l = delegation-same (drop (recordSize * k) (recordsIn b)) (recordFrom b k) (λ j m.
+      getD-drop (recordSize * k) (recordsIn b) j 0 ∙ getD-take (recordSize * countIn b) (drop recordsAt b) (recordSize * k + j) 0 (omega arith) ∙ sym (getD-drop (recordSize * k) (drop recordsAt b) j 0))
 
   -- the records lent are the register's delegations
   pub records-held : delegationsIn (recordsIn b) ≡ decode b .delegations
   records-held =
       ap (delegationsOf (recordsIn b)) records-count
-      ∙ tabulate-below (λ k. delegationIn (drop (8 * k) (recordsIn b))) (delegationAt b) 0 (countIn b)
-      (λ k l. subst (λ (m : ℕ). delegationIn (drop (8 * m) (recordsIn b)) ≡ delegationAt b m) (sym (zero-add k)) (same-record k l))
+      ∙ tabulate-below (recordAt (recordsIn b)) (delegationAt b) 0 (countIn b)
+      (λ k l. subst (λ (m : ℕ). recordAt (recordsIn b) m ≡ delegationAt b m) (sym (zero-add k)) (same-record k l))
       ∙ sym (delegations-held b bytes formed)
 
-  pub lent-held : (t : List ℤ) → TableRule t → Lent t (recordsIn b) (length (recordsIn b) / 8)
+  pub lent-held : (t : List ℤ) → TableRule t → Lent t (recordsIn b) (recordCount (recordsIn b))
   lent-held t rule =
       let f = held-formed b bytes formed in
-      let e : delegationsOf (recordsIn b) (length (recordsIn b) / 8) ≡ decode b .delegations = records-held in
+      let e : delegationsOf (recordsIn b) (recordCount (recordsIn b)) ≡ decode b .delegations = records-held in
       record {
         rule = rule;
-        size = length-records ∙ ap (λ (n : ℕ). 8 * n) (sym records-count);
-        few = subst (λ (n : ℕ). n ≤ 256) (sym records-count) (count-most b bytes formed);
+        size = length-records ∙ ap (λ (n : ℕ). recordSize * n) (sym records-count);
+        few = subst (λ (n : ℕ). n ≤ mostRecords) (sym records-count) (count-most b bytes formed);
         rising = subst Rising (sym e) (f .rising);
         givers = λ d m. let k = f .each d (subst (λ (ds : List Delegation). d ∈ ds) e m) .giver in omega (arith, f .most);
         receivers = λ d m. let k = f .each d (subst (λ (ds : List Delegation). d ∈ ds) e m) .receiver in omega (arith, f .most);
@@ -90,17 +83,17 @@ module _ (b : List ℕ) (bytes : IsBytes b) (formed : wellFormed b ≡ true) whe
 
   -- the limits found are the reaches
   module _ (t : List ℤ) (v : ℕ) (l : List ℤ) (p : List ℕ) (s : Searched t (recordsIn b) (marksOf (decode b) v) l p) where
-    pub reach-found : (u : ℕ) → u < 64 → getD l u (pos 0) ≡ reach t (decode b) u v
+    pub reach-found : (u : ℕ) → u < mostSubjects → getD l u (pos 0) ≡ reach t (decode b) u v
     reach-found u h =
         ap (λ (x : List ℤ). getD x u (pos 0)) (s .limits)
-        ∙ getD-tabulate (λ x. reach t (underMarks (delegationsIn (recordsIn b)) (marksOf (decode b) v)) x 0) (pos 0) 0 64 u h
+        ∙ getD-tabulate (λ x. reach t (underMarks (delegationsIn (recordsIn b)) (marksOf (decode b) v)) x 0) (pos 0) 0 mostSubjects u h
         ∙ ap (λ (x : ℕ). reach t (underMarks (delegationsIn (recordsIn b)) (marksOf (decode b) v)) x 0) (zero-add u)
         ∙ ap (λ (ds : List Delegation). reach t (underMarks ds (marksOf (decode b) v)) u 0) records-held
         ∙ sym (reach-marks t (decode b) u v)
 
     -- the parents lead back along a chain that carries the reach, where there is one
-    pub chain-found : (u : ℕ) → u < 64 → (reach t (decode b) u v ≡ none)
-        ⊎ (IsChain t (decode b) u v (linksTo (parentIn (delegationsIn (recordsIn b)) p) 63 u) × (reach t (decode b) u v ≡ limit t (linksTo (parentIn (delegationsIn (recordsIn b)) p) 63 u)))
+    pub chain-found : (u : ℕ) → u < mostSubjects → (reach t (decode b) u v ≡ none)
+        ⊎ (IsChain t (decode b) u v (linksTo (parentIn (delegationsIn (recordsIn b)) p) mostLinks u) × (reach t (decode b) u v ≡ limit t (linksTo (parentIn (delegationsIn (recordsIn b)) p) mostLinks u)))
     chain-found u h = go (s .leads u h)
       where
         ds : List Delegation
@@ -113,14 +106,14 @@ module _ (b : List ℕ) (bytes : IsBytes b) (formed : wellFormed b ≡ true) whe
         same = ap (λ (x : List Delegation). reach t (underMarks x (marksOf (decode b) v)) u 0) records-held ∙ sym (reach-marks t (decode b) u v)
 
         go : (reach t (underMarks (delegationsIn (recordsIn b)) (marksOf (decode b) v)) u 0 ≡ none)
-            ⊎ (IsChain t (underMarks (delegationsIn (recordsIn b)) (marksOf (decode b) v)) u 0 (linksTo (parentIn (delegationsIn (recordsIn b)) p) 63 u)
-            × (reach t (underMarks (delegationsIn (recordsIn b)) (marksOf (decode b) v)) u 0 ≡ limit t (linksTo (parentIn (delegationsIn (recordsIn b)) p) 63 u)))
+            ⊎ (IsChain t (underMarks (delegationsIn (recordsIn b)) (marksOf (decode b) v)) u 0 (linksTo (parentIn (delegationsIn (recordsIn b)) p) mostLinks u)
+            × (reach t (underMarks (delegationsIn (recordsIn b)) (marksOf (decode b) v)) u 0 ≡ limit t (linksTo (parentIn (delegationsIn (recordsIn b)) p) mostLinks u)))
             → (reach t (decode b) u v ≡ none)
-            ⊎ (IsChain t (decode b) u v (linksTo (parentIn (delegationsIn (recordsIn b)) p) 63 u) × (reach t (decode b) u v ≡ limit t (linksTo (parentIn (delegationsIn (recordsIn b)) p) 63 u)))
+            ⊎ (IsChain t (decode b) u v (linksTo (parentIn (delegationsIn (recordsIn b)) p) mostLinks u) × (reach t (decode b) u v ≡ limit t (linksTo (parentIn (delegationsIn (recordsIn b)) p) mostLinks u)))
         go (inl e) = inl (sym same ∙ e)
         go (inr r) =
             inr (
-              chain-marks t (decode b) u v (linksTo (parentIn (delegationsIn (recordsIn b)) p) 63 u)
-                  (subst (λ (x : List Delegation). IsChain t (underMarks x (marksOf (decode b) v)) u 0 (linksTo (parentIn (delegationsIn (recordsIn b)) p) 63 u)) records-held (r .0)),
+              chain-marks t (decode b) u v (linksTo (parentIn (delegationsIn (recordsIn b)) p) mostLinks u)
+                  (subst (λ (x : List Delegation). IsChain t (underMarks x (marksOf (decode b) v)) u 0 (linksTo (parentIn (delegationsIn (recordsIn b)) p) mostLinks u)) records-held (r .0)),
               sym same ∙ r .1,
             )

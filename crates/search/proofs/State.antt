@@ -4,7 +4,7 @@ use mathlib.Core.Path.{_≡_, refl, sym, ap, subst, _∙_}
 use mathlib.Core.Logic.{_≢_, _⊎_, inl, inr}
 use mathlib.Core.Bool.{Bool, false, not}
 use mathlib.Core.List.{List, _∷_, List·Memᴰ·head}
-use Prim.Native.Nat.{ℕ, zero, suc, _+_, _*_, _-_, _/_, _≤_, _<_, zero-le}
+use Prim.Native.Nat.{ℕ, zero, suc, _+_, _*_, _-_, _≤_, _<_, zero-le}
 use native.Mathlib.Nat.{le-refl, add-suc}
 use native.Mathlib.Omega.{arith}
 use lib.Dec.{T, eqb}
@@ -14,19 +14,20 @@ use lib.Seq.{getD-set-same, getD-set-other}
 use Rattle.rules.specs.List.{tabulate}
 use Rattle.rules.specs.Limit.{none, code, _≼_}
 use Rattle.rules.specs.Table.{next, TableRule}
-use Rattle.rules.specs.Register.{Delegation}
+use Rattle.rules.specs.Register.{Delegation, noDelegation}
 use Rattle.rules.specs.Condition.{meets}
 use Rattle.rules.specs.Chain.{limit}
 use Rattle.rules.proofs.Lists.{either, eqOr, unset}
 use Rattle.rules.proofs.Limits.{next-below}
 use Rattle.rules.proofs.Chains.{limitFrom-top}
 use Rattle.rules.proofs.Search.{Found, Search, search-skip, search-raise}
+use Rattle.block.specs.Layout.{mostSubjects, recordSize}
 use Rattle.search.specs.Search.{underMarks, parentIn}
-use Rattle.runs.specs.Steps.{recordAt, Stepped, Ran, ran-none, ran-more, part}
+use Rattle.runs.specs.Steps.{Stepped, SteppedTo, stepped-none, stepped-more, part}
 use Rattle.queue.specs.Queue.{waits, Put}
-use Rattle.runs.specs.Lent.{delegationsIn}
-use Rattle.search.specs.Found.{Placed}
-use Rattle.runs.proofs.Records.{blank, delegation-at, record-part}
+use Rattle.runs.specs.Lent.{recordCount, recordAt, delegationsIn}
+use Rattle.search.specs.Found.{ParentsAmong}
+use Rattle.runs.proofs.Records.{delegation-at, record-part}
 use Rattle.rules.proofs.Signed.{more, not-more, code-live}
 
 abbrev pub limitOf : List ℤ → ℕ → ℤ
@@ -50,11 +51,11 @@ settled-same l l′ q q′ u e w = ap (λ (z : ℤ). settledAt q′ u (code z)) 
 
 -- no open subject has a limit of `past` or more
 pub record State (t : List ℤ) (s : List ℕ) (marks : ℕ) (settled : ℕ → Bool) (past : ℕ) (l : List ℤ) (p q : List ℕ) (pending : List Delegation) : Type 0 where
-  pub limits : length l ≡ 64
-  pub parents : length p ≡ 64
+  pub limits : length l ≡ mostSubjects
+  pub parents : length p ≡ mostSubjects
   pub most : (u : ℕ) → T (not (settled u)) → code (limitOf l u) ≤ past
   pub same : (u : ℕ) → settled u ≡ isSettled l q u
-  pub placed : 0 < length s / 8 → Placed p (length s / 8)
+  pub among : 0 < recordCount s → ParentsAmong p (recordCount s)
   pub search : Search t (underMarks (delegationsIn s) marks) 0 (limitOf l) settled (parentIn (delegationsIn s) p) pending
 
 module _ (t : List ℤ) (rule : TableRule t) (s : List ℕ) (marks : ℕ) (settled : ℕ → Bool) (past : ℕ) where
@@ -78,10 +79,10 @@ module _ (t : List ℤ) (rule : TableRule t) (s : List ℕ) (marks : ℕ) (settl
     abbrev pub Kept : List ℤ → List ℕ → List ℕ → List Delegation → Type 0
     Kept l p q ds = State t s marks settled past l p q ds × (limitOf l u ≡ limit)
 
-    module _ (k : ℕ) (rest : List Delegation) (l : List ℤ) (p q : List ℕ) (h : k < length s / 8) (from : getD s (8 * k) 0 ≡ u) (to : getD s (8 * k + 1) 0 < 64)
-        (now : Kept l p q (recordAt s (8 * k) ∷ rest)) where
+    module _ (k : ℕ) (rest : List Delegation) (l : List ℤ) (p q : List ℕ) (h : k < recordCount s) (from : recordAt s k .giver ≡ u) (to : recordAt s k .receiver < mostSubjects)
+        (now : Kept l p q (recordAt s k ∷ rest)) where
       abbrev d : Delegation
-      d = recordAt s (8 * k)
+      d = recordAt s k
 
       abbrev given : ℤ
       given = next t limit (d .weight)
@@ -96,7 +97,7 @@ module _ (t : List ℤ) (rule : TableRule t) (s : List ℕ) (marks : ℕ) (settl
           parents = now .0 .parents;
           most = now .0 .most;
           same = now .0 .same;
-          placed = now .0 .placed;
+          among = now .0 .among;
           search = search-skip t rule (underMarks (delegationsIn s) marks) 0 (limitOf l) settled (parentIn (delegationsIn s) p) d rest (now .0 .search)
               (λ m. subst (λ (z : ℤ). next t z (d .weight) ≼ limitOf l (d .receiver)) (sym at-giver) (f m));
         },
@@ -128,9 +129,9 @@ module _ (t : List ℤ) (rule : TableRule t) (s : List ℕ) (marks : ℕ) (settl
         most y o (inl e) = subst (λ (i : ℕ). code (limitOf l′ i) ≤ past) e (omega (arith, ap code at, below))
         most y o (inr n) = omega (arith, ap code (off y n), now .0 .most y o)
 
-        place : {y : ℕ} → (d .receiver ≡ y) ⊎ (d .receiver ≢ y) → getD p y 0 < length s / 8 → getD (set p (d .receiver) k) y 0 < length s / 8
-        place {y} (inl e) b = subst (λ (i : ℕ). getD (set p (d .receiver) k) i 0 < length s / 8) e (subst (λ (i : ℕ). i < length s / 8) (sym (getD-set-same p (d .receiver) k 0 (omega (arith, now .0 .parents)))) h)
-        place {y} (inr n) b = subst (λ (i : ℕ). i < length s / 8) (sym (getD-set-other p (d .receiver) y k 0 (λ e. n (sym e)))) b
+        place : {y : ℕ} → (d .receiver ≡ y) ⊎ (d .receiver ≢ y) → getD p y 0 < recordCount s → getD (set p (d .receiver) k) y 0 < recordCount s
+        place {y} (inl e) b = subst (λ (i : ℕ). getD (set p (d .receiver) k) i 0 < recordCount s) e (subst (λ (i : ℕ). i < recordCount s) (sym (getD-set-same p (d .receiver) k 0 (omega (arith, now .0 .parents)))) h)
+        place {y} (inr n) b = subst (λ (i : ℕ). i < recordCount s) (sym (getD-set-other p (d .receiver) y k 0 (λ e. n (sym e)))) b
 
         -- the receiver waits at its new limit, and is as open as before
         same : (q′ : List ℕ) → Put q (natAbs given) (d .receiver) 1 q′ → (y : ℕ) → (d .receiver ≡ y) ⊎ (d .receiver ≢ y) → settled y ≡ isSettled l′ q′ y
@@ -152,13 +153,13 @@ module _ (t : List ℤ) (rule : TableRule t) (s : List ℕ) (marks : ℕ) (settl
             parents = simp length-set (now .0 .parents);
             most = λ y o. most y o (eqOr (d .receiver) y);
             same = λ y. same q′ put y (eqOr (d .receiver) y);
-            placed = λ z y b. place (eqOr (d .receiver) y) (now .0 .placed z y b);
+            among = λ z y b. place (eqOr (d .receiver) y) (now .0 .among z y b);
             search = search-raise t rule (underMarks (delegationsIn s) marks) 0 (limitOf l) (limitOf l′) settled (parentIn (delegationsIn s) p)
                 (parentIn (delegationsIn s) (set p (d .receiver) k)) d rest (now .0 .search) m
                 (subst (λ (z : ℤ). code (limitOf l (d .receiver)) < code (next t z (d .weight))) (sym at-giver) f)
                 (at ∙ ap (λ (z : ℤ). next t z (d .weight)) (sym at-giver)) off
-                (ap (λ (i : ℕ). getD (delegationsIn s) i blank) (getD-set-same p (d .receiver) k 0 (omega (arith, now .0 .parents))) ∙ delegation-at s (length s / 8) k blank h)
-                (λ y n. ap (λ (i : ℕ). getD (delegationsIn s) i blank) (getD-set-other p (d .receiver) y k 0 (λ e. n (sym e))));
+                (ap (λ (i : ℕ). getD (delegationsIn s) i noDelegation) (getD-set-same p (d .receiver) k 0 (omega (arith, now .0 .parents))) ∙ delegation-at s (recordCount s) k noDelegation h)
+                (λ y n. ap (λ (i : ℕ). getD (delegationsIn s) i noDelegation) (getD-set-other p (d .receiver) y k 0 (λ e. n (sym e))));
           },
           off u other ∙ now .1,
         )
@@ -172,25 +173,25 @@ module _ (t : List ℤ) (rule : TableRule t) (s : List ℕ) (marks : ℕ) (settl
           (raised m (more (limitOf l (d .receiver)) given (state-limit l p q (d ∷ rest) (now .0) (d .receiver)) f) q′ put))
 
     -- the records from place a to place e
-    module _ (a e : ℕ) (order : a ≤ e) (within : e ≤ length s / 8) (here : (k : ℕ) → a ≤ k → k < e → getD s (8 * k) 0 ≡ u) (receivers : (k : ℕ) → k < length s / 8 → getD s (8 * k + 1) 0 < 64)
-        (l : List ℤ) (p q : List ℕ) (now : Kept l p q (tabulate (λ k. recordAt s (8 * k)) a (e - a))) where
+    module _ (a e : ℕ) (order : a ≤ e) (within : e ≤ recordCount s) (here : (k : ℕ) → a ≤ k → k < e → recordAt s k .giver ≡ u) (receivers : (k : ℕ) → k < recordCount s → recordAt s k .receiver < mostSubjects)
+        (l : List ℤ) (p q : List ℕ) (now : Kept l p q (tabulate (recordAt s) a (e - a))) where
       abbrev pub left : ℕ → List Delegation
-      left k = tabulate (λ i. recordAt s (8 * i)) (a + k) (e - a - k)
+      left k = tabulate (recordAt s) (a + k) (e - a - k)
 
-      left-cons : (k : ℕ) → k < e - a → left k ≡ (recordAt s (8 * (a + k)) ∷ left (suc k))
+      left-cons : (k : ℕ) → k < e - a → left k ≡ (recordAt s (a + k) ∷ left (suc k))
       left-cons k h =
           let n : e - a - k ≡ suc (e - a - suc k) = omega arith in
-          ap (tabulate (λ i. recordAt s (8 * i)) (a + k)) n ∙ ap (λ (j : ℕ). recordAt s (8 * (a + k)) ∷ tabulate (λ i. recordAt s (8 * i)) j (e - a - suc k)) (sym (add-suc a k))
+          ap (tabulate (recordAt s) (a + k)) n ∙ ap (λ (j : ℕ). recordAt s (a + k) ∷ tabulate (recordAt s) j (e - a - suc k)) (sym (add-suc a k))
 
-      pub ran : (k : ℕ) (l′ : List ℤ) (p′ q′ : List ℕ) → Ran t limit marks (part s a e) a l p q k l′ p′ q′ → k ≤ e - a → Kept l′ p′ q′ (left k)
-      ran k l′ p′ q′ ran-none h = subst (λ (ds : List Delegation). Kept l p q ds) (λ i. tabulate (λ j. recordAt s (8 * j)) (first i) (count i)) now
+      pub ran : (k : ℕ) (l′ : List ℤ) (p′ q′ : List ℕ) → SteppedTo t limit marks (part s a e) a l p q k l′ p′ q′ → k ≤ e - a → Kept l′ p′ q′ (left k)
+      ran k l′ p′ q′ stepped-none h = subst (λ (ds : List Delegation). Kept l p q ds) (λ i. tabulate (recordAt s) (first i) (count i)) now
         where
           first : a ≡ a + 0
           first = omega arith
 
           count : e - a ≡ e - a - 0
           count = omega arith
-      ran (suc k) l″ p″ q″ (ran-more {l′ = l′} {p′ = p′} {q′ = q′} before f) h =
+      ran (suc k) l″ p″ q″ (stepped-more {l′ = l′} {p′ = p′} {q′ = q′} before f) h =
           stepped (a + k) (left (suc k)) l′ p′ q′ (omega arith) (here (a + k) (omega arith) (omega arith)) (receivers (a + k) (omega arith))
           (subst (λ (ds : List Delegation). Kept l′ p′ q′ ds) (left-cons k (omega arith)) (ran k l′ p′ q′ before (omega arith))) l″ p″ q″
-          (subst (λ (d : Delegation). Stepped t limit marks d (a + k) l′ p′ q′ l″ p″ q″) (record-part s a (8 * e - 8 * a) k (omega arith)) f)
+          (subst (λ (d : Delegation). Stepped t limit marks d (a + k) l′ p′ q′ l″ p″ q″) (record-part s a (recordSize * e - recordSize * a) k (omega arith)) f)

@@ -3,7 +3,7 @@ use mathlib.Core.Path.{_≡_, refl, sym, ap, subst, _∙_}
 use mathlib.Core.Logic.{_≢_, _⊎_, inl, inr}
 use mathlib.Core.Bool.{Bool, true, false, not}
 use mathlib.Core.List.{List, []}
-use Prim.Native.Nat.{ℕ, zero, suc, _+_, _*_, _-_, _/_, _≤_, _<_}
+use Prim.Native.Nat.{ℕ, zero, suc, _+_, _*_, _-_, _≤_, _<_}
 use native.Mathlib.Nat.{zero-add, le-refl}
 use native.Mathlib.Omega.{arith}
 use lib.Dec.{T, eqb, ltb, ltb→lt, nltb→le}
@@ -20,10 +20,11 @@ use Rattle.rules.proofs.Lists.{either, eqOr, getD-tabulate, yes}
 use Rattle.rules.proofs.Search.{Found, search-start, search-settle, search-reach}
 use Rattle.rules.proofs.Links.{found-links}
 use Rattle.block.proofs.Bytes.{length-tabulate, tabulate-mem, mem-tabulate}
-use Rattle.search.specs.Search.{underMarks, parentIn, Started}
-use Rattle.runs.specs.Lent.{Lent, delegationsIn}
-use Rattle.runs.specs.Steps.{recordAt, Gave, Waiting}
-use Rattle.queue.specs.Queue.{waits, Put, Lowest}
+use Rattle.block.specs.Layout.{mostSubjects}
+use Rattle.search.specs.Search.{underMarks, parentIn, mostLinks, Started}
+use Rattle.runs.specs.Lent.{recordCount, recordAt, Lent, Room, delegationsIn}
+use Rattle.runs.specs.Steps.{Gave, Waiting}
+use Rattle.queue.specs.Queue.{levels, waits, Put, Lowest}
 use Rattle.search.specs.Found.{Searched}
 use Rattle.runs.proofs.Records.{delegation-mem, mem-delegation}
 use Rattle.search.proofs.State.{limitOf, settledAt, isSettled, settled-same, State, state-limit, state-top, ran}
@@ -32,7 +33,7 @@ use Rattle.queue.proofs.Buckets.{left, left-same, left-falls, members, members-
 
 -- how many subjects are open
 abbrev pub unsettled : List ℤ → List ℕ → ℕ
-unsettled l q = left (isSettled l q) 64
+unsettled l q = left (isSettled l q) mostSubjects
 
 -- what falls with every turn: the open subjects, then the level, then how many wait there; at most 64 wait at a level, and there are 256 levels
 abbrev pub measure : List ℤ → List ℕ → ℕ → ℕ
@@ -40,11 +41,14 @@ measure l q past = 16705 * unsettled l q + 65 * past + members (getD q (past - 1
 
 -- a subject taken from a level that is not below the lowest
 pub waiting-taken : (l : List ℤ) (q q′ : List ℕ) (z u low : ℕ) → Waiting l q low → Put q z u 0 q′ → low ≤ z → Waiting l q′ low
-waiting-taken l q q′ z u low w put h = record { size = put .size ∙ w .size; limits = w .limits; lowest = lowest-put q q′ z u 0 low low (w .lowest) put (le-refl low) h }
+waiting-taken l q q′ z u low w put h = record {
+  queue = record { size = put .size ∙ w .queue .size; lowest = lowest-put q q′ z u 0 low low (w .queue .lowest) put (le-refl low) h };
+  limits = w .limits;
+}
 
-module _ (t : List ℤ) (s : List ℕ) (lent : Lent t s (length s / 8)) (marks : ℕ) where
+module _ (t : List ℤ) (s : List ℕ) (lent : Lent t s (recordCount s)) (marks : ℕ) where
   -- ── the start ──
-  module _ (l : List ℤ) (p q₀ q : List ℕ) (h : length l ≡ 64) (k : length p ≡ 64) (st : Started l p) (put : Put q₀ 255 0 1 q) where
+  module _ (l : List ℤ) (p q₀ q : List ℕ) (room : Room l p) (st : Started l p) (put : Put q₀ 255 0 1 q) where
     open-all : (y : ℕ) → isSettled l q y ≡ false
     open-all y = go (eqOr 0 y)
       where
@@ -52,13 +56,13 @@ module _ (t : List ℤ) (s : List ℕ) (lent : Lent t s (length s / 8)) (marks :
         go (inl e) = subst (λ (i : ℕ). isSettled l q i ≡ false) e (ap (λ (z : ℤ). settledAt q 0 (code z)) (st .owner) ∙ ap (λ (x : ℕ). eqb x 0) (put .here))
         go (inr n) = ap (λ (z : ℤ). settledAt q y (code z)) (st .others y n)
 
-    pub state-start : State t s marks (isSettled l q) 256 l p q []
+    pub state-start : State t s marks (isSettled l q) levels l p q []
     state-start = record {
-      limits = h;
-      parents = k;
+      limits = room .limits;
+      parents = room .parents;
       most = λ y _. top y (eqOr 0 y);
       same = λ y. refl;
-      placed = λ z u b. subst (λ (i : ℕ). i < length s / 8) (sym (st .places u)) z;
+      among = λ z u b. subst (λ (i : ℕ). i < recordCount s) (sym (st .places u)) z;
       search = search-start t (lent .rule) (underMarks (delegationsIn s) marks) 0 (limitOf l) (isSettled l q) (parentIn (delegationsIn s) p) (st .owner) (st .others) (λ y. subst (λ (b : Bool). T (not b)) (sym (open-all y)) tt);
     }
       where
@@ -66,8 +70,8 @@ module _ (t : List ℤ) (s : List ℕ) (lent : Lent t s (length s / 8)) (marks :
         top y (inl e) = subst (λ (i : ℕ). code (limitOf l i) ≤ 256) e (omega (arith, ap code (st .owner)))
         top y (inr n) = omega (arith, ap code (st .others y n))
 
-    pub waiting-start : length q₀ ≡ 256 → (low : ℕ) → Lowest q low → Waiting l q low
-    waiting-start size low w = record { size = put .size ∙ size; limits = λ y. go (eqOr 0 y); lowest = w }
+    pub waiting-start : length q₀ ≡ levels → (low : ℕ) → Lowest q low → Waiting l q low
+    waiting-start size low w = record { queue = record { size = put .size ∙ size; lowest = w }; limits = λ y. go (eqOr 0 y) }
       where
         go : {y : ℕ} → (0 ≡ y) ⊎ (0 ≢ y) → (limitOf l y ≡ none) ⊎ (pos 0 ≼ limitOf l y)
         go {y} (inl e) = inr (subst (λ (i : ℕ). pos 0 ≼ limitOf l i) e (subst (λ (z : ℤ). pos 0 ≼ z) (sym (st .owner)) (omega arith)))
@@ -87,7 +91,7 @@ module _ (t : List ℤ) (s : List ℕ) (lent : Lent t s (length s / 8)) (marks :
       parents = now .parents;
       most = λ y o. go y (code (limitOf l y)) refl o (now .most y o);
       same = now .same;
-      placed = now .placed;
+      among = now .among;
       search = now .search;
     }
       where
@@ -119,15 +123,15 @@ module _ (t : List ℤ) (s : List ℕ) (lent : Lent t s (length s / 8)) (marks :
           parents = now .parents;
           most = now .most;
           same = λ y. sym (stale y);
-          placed = now .placed;
+          among = now .among;
           search = now .search;
         }
 
-        pub stale-less : u < 64 → waits q level u ≡ 1 → measure l q₁ past < measure l q past
-        stale-less h w = omega (arith, left-same (isSettled l q₁) (isSettled l q) 64 stale, members-fall q q₁ level u h w put)
+        pub stale-less : u < mostSubjects → waits q level u ≡ 1 → measure l q₁ past < measure l q past
+        stale-less h w = omega (arith, left-same (isSettled l q₁) (isSettled l q) mostSubjects stale, members-fall q q₁ level u h w put)
 
       -- it is settled
-      module _ (h : u < 64) (waited : waits q level u ≡ 1) (here : limitOf l u ≡ pos level) where
+      module _ (h : u < mostSubjects) (waited : waits q level u ≡ 1) (here : limitOf l u ≡ pos level) where
         abbrev after : ℕ → Bool
         after = isSettled l q₁
 
@@ -139,31 +143,31 @@ module _ (t : List ℤ) (s : List ℕ) (lent : Lent t s (length s / 8)) (marks :
 
         module _ (l′ : List ℤ) (p′ q′ : List ℕ) (g : Gave t s marks u l p q₁ l′ p′ q′) where
           abbrev gives : List Delegation
-          gives = tabulate (λ k. recordAt s (8 * k)) (g .first) (g .past - g .first)
+          gives = tabulate (recordAt s) (g .first) (g .past - g .first)
 
           inRun : (d : Delegation) → d ∈ gives → (d ∈ delegationsIn s) × (d .giver ≡ u)
           inRun d m =
-              let (k, b, e) = tabulate-mem (λ k. recordAt s (8 * k)) (g .first) (g .past - g .first) m in
+              let (k, b, e) = tabulate-mem (recordAt s) (g .first) (g .past - g .first) m in
               let c : g .first + k < g .past = omega arith in (
-                subst (λ (x : Delegation). x ∈ delegationsIn s) (sym e) (delegation-mem s (length s / 8) (g .first + k) (omega (arith, g .within))),
+                subst (λ (x : Delegation). x ∈ delegationsIn s) (sym e) (delegation-mem s (recordCount s) (g .first + k) (omega (arith, g .within))),
                 ap (λ (x : Delegation). x .giver) e ∙ g .here (g .first + k) (omega arith) c,
               )
 
           allRun : (d : Delegation) → d ∈ delegationsIn s → d .giver ≡ u → d ∈ gives
           allRun d m f =
-              let (k, b, e) = mem-delegation s (length s / 8) d m in
-              let at : getD s (8 * k) 0 ≡ u = sym (ap (λ (x : Delegation). x .giver) e) ∙ f in
+              let (k, b, e) = mem-delegation s (recordCount s) d m in
+              let at : recordAt s k .giver ≡ u = sym (ap (λ (x : Delegation). x .giver) e) ∙ f in
               let low : g .first ≤ k = low k at (either (ltb k (g .first))) in
               let high : k < g .past = high k b at (either (ltb k (g .past))) in
               let n : g .first + (k - g .first) ≡ k = omega arith in
-              subst (λ (x : Delegation). x ∈ gives) (ap (λ (i : ℕ). recordAt s (8 * i)) n ∙ sym e)
-              (mem-tabulate (λ k. recordAt s (8 * k)) (g .first) (g .past - g .first) (k - g .first) (omega arith))
+              subst (λ (x : Delegation). x ∈ gives) (ap (λ (i : ℕ). recordAt s i) n ∙ sym e)
+              (mem-tabulate (recordAt s) (g .first) (g .past - g .first) (k - g .first) (omega arith))
             where
-              low : (k : ℕ) → getD s (8 * k) 0 ≡ u → T (ltb k (g .first)) ⊎ T (not (ltb k (g .first))) → g .first ≤ k
+              low : (k : ℕ) → recordAt s k .giver ≡ u → T (ltb k (g .first)) ⊎ T (not (ltb k (g .first))) → g .first ≤ k
               low k e (inl f) = absurd (omega (arith, g .before k (ltb→lt k (g .first) f)))
               low k e (inr f) = nltb→le k (g .first) f
 
-              high : (k : ℕ) → k < length s / 8 → getD s (8 * k) 0 ≡ u → T (ltb k (g .past)) ⊎ T (not (ltb k (g .past))) → k < g .past
+              high : (k : ℕ) → k < recordCount s → recordAt s k .giver ≡ u → T (ltb k (g .past)) ⊎ T (not (ltb k (g .past))) → k < g .past
               high k b e (inl f) = ltb→lt k (g .past) f
               high k b e (inr f) = absurd (omega (arith, g .after k (nltb→le k (g .past) f) b))
 
@@ -173,7 +177,7 @@ module _ (t : List ℤ) (s : List ℕ) (lent : Lent t s (length s / 8)) (marks :
             parents = now .parents;
             most = λ y o. most y o (eqOr u y);
             same = λ y. refl;
-            placed = now .placed;
+            among = now .among;
             search = search-settle t (lent .rule) (underMarks (delegationsIn s) marks) 0 (limitOf l) (isSettled l q) after (parentIn (delegationsIn s) p) u gives (now .search)
                 (subst (λ (b : Bool). T (not b)) (sym was) tt) (λ y o. omega (arith, now .most y o, ap code here)) (yes at) others inRun allRun;
           }
@@ -185,18 +189,18 @@ module _ (t : List ℤ) (s : List ℕ) (lent : Lent t s (length s / 8)) (marks :
           closed : State t s marks after past l′ p′ q′ []
           closed =
               let d = ran t (lent .rule) s marks after past u (limitOf l u) (state-top t (lent .rule) s marks (isSettled l q) past l p q [] now u) (omega (arith, ap code here))
-              (g .first) (g .past) (g .order) (g .within) (g .here) receivers l p q₁ (opened, refl) (g .past - g .first) l′ p′ q′ (g .ran) (omega arith) in
+              (g .first) (g .past) (g .order) (g .within) (g .here) receivers l p q₁ (opened, refl) (g .past - g .first) l′ p′ q′ (g .stepped) (omega arith) in
               let none-left : g .past - g .first - (g .past - g .first) ≡ 0 = omega arith in
-              subst (λ (n : ℕ). State t s marks after past l′ p′ q′ (tabulate (λ k. recordAt s (8 * k)) (g .first + (g .past - g .first)) n)) none-left (d .0)
+              subst (λ (n : ℕ). State t s marks after past l′ p′ q′ (tabulate (recordAt s) (g .first + (g .past - g .first)) n)) none-left (d .0)
             where
-              receivers : (k : ℕ) → k < length s / 8 → getD s (8 * k + 1) 0 < 64
-              receivers k b = lent .receivers (recordAt s (8 * k)) (delegation-mem s (length s / 8) k b)
+              receivers : (k : ℕ) → k < recordCount s → recordAt s k .receiver < mostSubjects
+              receivers k b = lent .receivers (recordAt s k) (delegation-mem s (recordCount s) k b)
 
           pub state-settle : State t s marks (isSettled l′ q′) past l′ p′ q′ []
           state-settle = subst (λ (f : ℕ → Bool). State t s marks f past l′ p′ q′ []) (λ i y. closed .same y i) closed
 
-          pub settle-less : past ≤ 256 → measure l′ q′ past < measure l q past
-          settle-less top = omega (arith, left-same after (isSettled l′ q′) 64 (closed .same), left-falls (isSettled l q) after 64 u h was at others, members-few (getD q′ level 0))
+          pub settle-less : past ≤ levels → measure l′ q′ past < measure l q past
+          settle-less top = omega (arith, left-same after (isSettled l′ q′) mostSubjects (closed .same), left-falls (isSettled l q) after mostSubjects u h was at others, members-few (getD q′ level 0))
 
   -- ── the end ──
   module _ (l : List ℤ) (p q : List ℕ) (past low : ℕ) (now : State t s marks (isSettled l q) past l p q []) (w : Lowest q low) (h : past ≤ low) where
@@ -216,9 +220,9 @@ module _ (t : List ℤ) (s : List ℕ) (lent : Lent t s (length s / 8)) (marks :
 
     pub state-end : Searched t s marks l p
     state-end = record {
-      limits = listed l (λ u. reach t (underMarks (delegationsIn s) marks) u 0) 64 (now .limits) (λ k b. sym (reached k));
+      limits = listed l (λ u. reach t (underMarks (delegationsIn s) marks) u 0) mostSubjects (now .limits) (λ k b. sym (reached k));
       leads = λ u b. back u (now .search .found u);
-      placed = now .placed;
+      among = now .among;
     }
       where
         listed : (xs : List ℤ) (f : ℕ → ℤ) (n : ℕ) → length xs ≡ n → ((k : ℕ) → k < n → getD xs k none ≡ f k) → xs ≡ tabulate f 0 n
@@ -227,7 +231,7 @@ module _ (t : List ℤ) (s : List ℕ) (lent : Lent t s (length s / 8)) (marks :
 
         back : (u : ℕ) → (limitOf l u ≡ none) ⊎ Found t (underMarks (delegationsIn s) marks) 0 (limitOf l) (isSettled l q) (parentIn (delegationsIn s) p) u
             → (reach t (underMarks (delegationsIn s) marks) u 0 ≡ none)
-            ⊎ (IsChain t (underMarks (delegationsIn s) marks) u 0 (linksTo (parentIn (delegationsIn s) p) 63 u) × (reach t (underMarks (delegationsIn s) marks) u 0 ≡ limit t (linksTo (parentIn (delegationsIn s) p) 63 u)))
+            ⊎ (IsChain t (underMarks (delegationsIn s) marks) u 0 (linksTo (parentIn (delegationsIn s) p) mostLinks u) × (reach t (underMarks (delegationsIn s) marks) u 0 ≡ limit t (linksTo (parentIn (delegationsIn s) p) mostLinks u)))
         back u (inl e) = inl (reached u ∙ e)
         back u (inr f) =
             let e = found-links t (underMarks (delegationsIn s) marks) 0 (limitOf l) (isSettled l q) (parentIn (delegationsIn s) p) u (lent .receivers) f in

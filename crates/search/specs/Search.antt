@@ -2,15 +2,16 @@
 use mathlib.Core.Path.{_≡_}
 use mathlib.Core.Logic.{_≢_, _⊎_}
 use mathlib.Core.List.{List, [], _∷_}
-use Prim.Native.Nat.{ℕ, _<_}
+use Prim.Native.Nat.{ℕ, _-_, _<_}
 use lib.ListN.{getD}
 use lib.IntN.{ℤ, pos}
 use Rattle.rules.specs.List.{tabulate}
 use Rattle.rules.specs.Limit.{none}
-use Rattle.rules.specs.Register.{Delegation, Register}
+use Rattle.rules.specs.Register.{Delegation, Register, noDelegation}
 use Rattle.rules.specs.Chain.{limit, IsChain}
 use Rattle.rules.specs.Reach.{reach}
 use Rattle.rules.specs.Links.{linksTo}
+use Rattle.block.specs.Layout.{mostSubjects}
 
 -- a register with these delegations in which subject 0 has these marks: the reach of a pair looks at nothing else
 abbrev pub underMarks : List Delegation → ℕ → Register
@@ -22,16 +23,20 @@ pub record Started (l : List ℤ) (p : List ℕ) : Type 0 where
   pub others : (y : ℕ) → 0 ≢ y → getD l y none ≡ none
   pub places : (y : ℕ) → getD p y 0 ≡ 0
 
--- the reach of each of the 64 subjects, for these marks
+-- the reach of each subject, for these marks
 abbrev pub reaches : List ℤ → List Delegation → ℕ → List ℤ
-reaches t ds m = tabulate (λ u. reach t (underMarks ds m) u 0) 0 64
+reaches t ds m = tabulate (λ u. reach t (underMarks ds m) u 0) 0 mostSubjects
 
 -- the delegation by which each subject was reached, as the place of its record
 abbrev pub parentIn : List Delegation → List ℕ → ℕ → Delegation
-parentIn ds parents u = getD ds (getD parents u 0) record { giver = 0; receiver = 0; weight = 0; need = 0; bar = 0 }
+parentIn ds parents u = getD ds (getD parents u 0) noDelegation
+
+-- no chain has more links: each receiver is another subject, and none is the owner
+abbrev pub mostLinks : ℕ
+mostLinks = mostSubjects - 1
 
 -- the parents lead back along chains: each subject has no reach, or the links up to it are a chain that carries its reach
 abbrev pub LeadBack : List ℤ → List Delegation → ℕ → List ℕ → Type 0
 LeadBack t ds m parents =
-    (u : ℕ) → u < 64 → (reach t (underMarks ds m) u 0 ≡ none)
-    ⊎ (IsChain t (underMarks ds m) u 0 (linksTo (parentIn ds parents) 63 u) × (reach t (underMarks ds m) u 0 ≡ limit t (linksTo (parentIn ds parents) 63 u)))
+    (u : ℕ) → u < mostSubjects → (reach t (underMarks ds m) u 0 ≡ none)
+    ⊎ (IsChain t (underMarks ds m) u 0 (linksTo (parentIn ds parents) mostLinks u) × (reach t (underMarks ds m) u 0 ≡ limit t (linksTo (parentIn ds parents) mostLinks u)))

@@ -1,11 +1,9 @@
 // The search for reach: for one receiver's marks, the largest limit of every subject.
-ghost use mathlib.Core.Path.{_≡_};
-ghost use Prim.Native.Nat.{_/_};
-ghost use lib.ListN.{length};
-ghost use Rattle.runs.specs.Lent.{Lent};
+ghost use Rattle.runs.specs.Lent.{Room};
+ghost use Rattle.runs.specs.Steps.{Indexed};
 ghost use Rattle.search.specs.Search.{Started};
-ghost use Rattle.runs.specs.Steps.{Starts};
 ghost use Rattle.search.specs.Found.{Searched};
+use block::layout;
 
 mod on_block;
 
@@ -15,11 +13,11 @@ pub use on_block::starts_of;
 
 // 255 at the owner, none elsewhere, no parents.
 fn start(limits: &mut [i16], parents: &mut [u16])
-    requires { ⌜ (length (now limits) ≡ 64) × (length (now parents) ≡ 64) ⌝ }
+    requires { ⌜ Room (now limits) (now parents) ⌝ }
     ensures { λ _. ⌜ Started (now (limits .exit)) (now (parents .exit)) ⌝ }
 {
     let mut i: usize = 0;
-    while i < 64 {
+    while i < layout::SUBJECTS {
         limits[i] = -1;
         parents[i] = 0;
         i += 1;
@@ -37,16 +35,16 @@ pub fn search(
     limits: &mut [i16],
     parents: &mut [u16],
 )
-    requires { ⌜ Lent (now table) (now records) (length (now records) / 8) × Starts (now records) (now starts) × (length (now limits) ≡ 64) × (length (now parents) ≡ 64) ⌝ }
+    requires { ⌜ Indexed (now table) (now records) (now starts) × Room (now limits) (now parents) ⌝ }
     ensures { λ _. ⌜ Searched (now (table .entry)) (now (records .entry)) marks (now (limits .exit)) (now (parents .exit)) ⌝ }
 {
     start(limits, parents);
-    let mut waiting = [0u64; 256];
-    let mut low = queue::join(&mut waiting, 255, 0, 256);
-    let mut past: usize = 256;
+    let mut waiting = [0u64; queue::LEVELS];
+    let mut low = queue::join(&mut waiting, 255, 0, queue::LEVELS);
+    let mut past = queue::LEVELS;
     while low < past {
         let u = queue::take(&mut waiting, past - 1);
-        if u == 64 {
+        if u == queue::SET_BITS {
             past -= 1;
         } else if limits[u] == (past - 1) as i16 {
             low = runs::relax_giver(

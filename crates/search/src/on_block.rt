@@ -3,18 +3,19 @@ ghost use mathlib.Core.Path.{_≡_};
 ghost use mathlib.Core.Bool.{true};
 ghost use Prim.Native.Nat.{_<_};
 ghost use lib.ListN.{length};
-ghost use Rattle.rules.specs.Table.{TableRule};
 ghost use Rattle.rules.specs.Register.{marksOf};
 ghost use Rattle.rules.specs.Reach.{reach};
 ghost use Rattle.block.specs.Block.{subjectsIn, recordsIn, decode};
 ghost use Rattle.block.specs.WellFormed.{wellFormed};
-ghost use Rattle.search.specs.Found.{Searched};
-ghost use Rattle.runs.specs.Steps.{Starts};
+ghost use Rattle.runs.specs.Lent.{Room};
+ghost use Rattle.runs.specs.Steps.{startCount, Starts};
+ghost use Rattle.search.specs.Found.{Searchable, Prepared, Searched};
 use crate::search;
+use block::layout;
 
 // Where the run of each giver starts.
 pub fn starts_of(block: &[u8], starts: &mut [u16])
-    requires { ⌜ (wellFormed (now block) ≡ true) × (length (now starts) ≡ 65) ⌝ }
+    requires { ⌜ (wellFormed (now block) ≡ true) × (length (now starts) ≡ startCount) ⌝ }
     ensures { λ _. ⌜ Starts (recordsIn (now (block .entry))) (now (starts .exit)) ⌝ }
 {
     runs::fill_starts(block::records(block), starts);
@@ -29,7 +30,7 @@ pub fn limits_for(
     limits: &mut [i16],
     parents: &mut [u16],
 )
-    requires { ⌜ (wellFormed (now block) ≡ true) × Starts (recordsIn (now block)) (now starts) × TableRule (now table) × (receiver < subjectsIn (now block)) × (length (now limits) ≡ 64) × (length (now parents) ≡ 64) ⌝ }
+    requires { ⌜ Prepared (now table) (now block) (now starts) × (receiver < subjectsIn (now block)) × Room (now limits) (now parents) ⌝ }
     ensures { λ _. ⌜ Searched (now (table .entry)) (recordsIn (now (block .entry))) (marksOf (decode (now (block .entry))) receiver) (now (limits .exit)) (now (parents .exit)) ⌝ }
 {
     let marks = block::marks(block, receiver);
@@ -38,13 +39,13 @@ pub fn limits_for(
 
 // The reach of one pair.
 pub fn reach_of(block: &[u8], table: &[i16], giver: usize, receiver: usize) -> i16
-    requires { ⌜ (wellFormed (now block) ≡ true) × TableRule (now table) × (giver < subjectsIn (now block)) × (receiver < subjectsIn (now block)) ⌝ }
+    requires { ⌜ Searchable (now table) (now block) × (giver < subjectsIn (now block)) × (receiver < subjectsIn (now block)) ⌝ }
     ensures { λ r. ⌜ r ≡ reach (now (table .entry)) (decode (now (block .entry))) giver receiver ⌝ }
 {
-    let mut starts = [0u16; 65];
+    let mut starts = [0u16; runs::STARTS];
     starts_of(block, &mut starts);
-    let mut limits = [-1i16; 64];
-    let mut parents = [0u16; 64];
+    let mut limits = [-1i16; layout::SUBJECTS];
+    let mut parents = [0u16; layout::SUBJECTS];
     limits_for(block, &starts, table, receiver, &mut limits, &mut parents);
     limits[giver]
 }

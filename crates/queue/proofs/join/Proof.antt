@@ -30,7 +30,7 @@ returns c =
     let s = c .before .before in
     let a = s .args in
     let put = put-in (a .queue .now) (a .level) (a .subject) (omega arith) _ (shl-exact 1 (a .subject) 64 (omega arith) (omega arith)) in
-    (put, lowest-put (a .queue .now) _ (a .level) (a .subject) 1 (a .low) (a .level) (s .pre .3) put (omega arith) (le-refl (a .level)))
+    (put, lowest-put (a .queue .now) _ (a .level) (a .subject) 1 (a .low) (a .level) (s .pre .0 .lowest) put (omega arith) (le-refl (a .level)))
 
 same-length-2 : tie.Need-same-length-2
 same-length-2 c = search needs
@@ -40,7 +40,7 @@ returns-2 c =
     let s = c .before .before in
     let a = s .args in
     let put = put-in (a .queue .now) (a .level) (a .subject) (omega arith) _ (shl-exact 1 (a .subject) 64 (omega arith) (omega arith)) in
-    (put, lowest-put (a .queue .now) _ (a .level) (a .subject) 1 (a .low) (a .low) (s .pre .3) put (le-refl (a .low)) (omega arith))
+    (put, lowest-put (a .queue .now) _ (a .level) (a .subject) 1 (a .low) (a .low) (s .pre .0 .lowest) put (le-refl (a .low)) (omega arith))
 
 pub join-spec : {M : Type 1} → statement M
 join-spec =

@@ -15,7 +15,7 @@ slice-aggregate-reach-of : tie.Need-slice-aggregate-reach-of
 slice-aggregate-reach-of c = search needs
 
 reach-of-requires : tie.Need-reach-of-requires
-reach-of-requires c κs = let p = c .before .before .before .pre in rw (c .before .steps .ensures) (p .0, steps-rule, p .1, p .2)
+reach-of-requires c κs = let p = c .before .before .before .pre in rw (c .before .steps .ensures) (record { formed = p .0; rule = steps-rule }, p .1, p .2)
 
 returns : tie.Need-returns
 returns c = toZ-ofZ {w = w16} {z = c .reach-of .result} record { sfits = omega (arith, c .reach-of .ok) } ∙ (rw (c .before .before .steps .ensures) at (c .reach-of .ensures))

@@ -1,10 +1,16 @@
 -- `replay::call` makes the call that its numbers name. Assumes nothing.
 use borrow.Author.Needs.{needs}
 use mathlib.Core.Path.{refl}
+use Prim.Native.Nat.{ℕ}
+use Rattle.rules.specs.Call.{Call}
 use Rattle.replay.specs.Replay.{callOf}
 use Rattle.replay.proofs.Calling.{no-call, call-named, call-other}
 use Rattle.replay.proofs.call.Statement.{statement}
 use Rattle.replay.proofs.call.Tie as tie
+
+-- the call that a number names with the columns that were passed
+abbrev named : tie.Start → ℕ → Call
+named s n = let a = s .args in callOf n (a .by) (a .giver) (a .receiver) (a .weight) (a .need) (a .bar)
 
 enrol-requires : tie.Need-enrol-requires
 enrol-requires c κs = search needs
@@ -15,8 +21,8 @@ same-length c = search needs
 returns : tie.Need-returns
 unfolding callOf
 returns c =
-    let a = c .before .before .before .before .before .before .args in
-    call-named (a .number) (a .by) (a .giver) (a .receiver) (a .weight) (a .need) (a .bar) (a .block .now) _ _ 0 (c .before .before .before .before .if1 .taken) tt (c .before .before .enrol .ensures)
+    let s = c .before .before .before .before .before .before in
+    call-named (s .args .number) (named s) (s .args .block .now) _ _ 0 (c .before .before .before .before .if1 .taken) tt (c .before .before .enrol .ensures)
 
 grant-requires : tie.Need-grant-requires
 grant-requires c κs = search needs
@@ -27,8 +33,8 @@ same-length-2 c = search needs
 returns-2 : tie.Need-returns-2
 unfolding callOf
 returns-2 c =
-    let a = c .before .before .before .before .before .before .before .args in
-    call-named (a .number) (a .by) (a .giver) (a .receiver) (a .weight) (a .need) (a .bar) (a .block .now) _ _ 1 (c .before .before .before .before .if2 .taken) tt (c .before .before .grant .ensures)
+    let s = c .before .before .before .before .before .before .before in
+    call-named (s .args .number) (named s) (s .args .block .now) _ _ 1 (c .before .before .before .before .if2 .taken) tt (c .before .before .grant .ensures)
 
 revoke-requires : tie.Need-revoke-requires
 revoke-requires c κs = search needs
@@ -39,8 +45,8 @@ same-length-3 c = search needs
 returns-3 : tie.Need-returns-3
 unfolding callOf
 returns-3 c =
-    let a = c .before .before .before .before .before .before .before .before .args in
-    call-named (a .number) (a .by) (a .giver) (a .receiver) (a .weight) (a .need) (a .bar) (a .block .now) _ _ 2 (c .before .before .before .before .if3 .taken) tt (c .before .before .revoke .ensures .outcome)
+    let s = c .before .before .before .before .before .before .before .before in
+    call-named (s .args .number) (named s) (s .args .block .now) _ _ 2 (c .before .before .before .before .if3 .taken) tt (c .before .before .revoke .ensures .outcome)
 
 downgrade-requires : tie.Need-downgrade-requires
 downgrade-requires c κs = search needs
@@ -51,8 +57,8 @@ same-length-4 c = search needs
 returns-4 : tie.Need-returns-4
 unfolding callOf
 returns-4 c =
-    let a = c .before .before .before .before .before .before .before .before .before .args in
-    call-named (a .number) (a .by) (a .giver) (a .receiver) (a .weight) (a .need) (a .bar) (a .block .now) _ _ 3 (c .before .before .before .before .if4 .taken) tt (c .before .before .downgrade .ensures .outcome)
+    let s = c .before .before .before .before .before .before .before .before .before in
+    call-named (s .args .number) (named s) (s .args .block .now) _ _ 3 (c .before .before .before .before .if4 .taken) tt (c .before .before .downgrade .ensures .outcome)
 
 reach-requires : tie.Need-reach-requires
 reach-requires c κs = search needs
@@ -63,8 +69,8 @@ same-length-5 c = search needs
 returns-5 : tie.Need-returns-5
 unfolding callOf
 returns-5 c =
-    let a = c .before .before .before .before .before .before .before .before .args in
-    call-named (a .number) (a .by) (a .giver) (a .receiver) (a .weight) (a .need) (a .bar) (a .block .now) _ _ 4 (c .before .before .if5 .taken) tt (c .reach .ensures)
+    let s = c .before .before .before .before .before .before .before .before in
+    call-named (s .args .number) (named s) (s .args .block .now) _ _ 4 (c .before .before .if5 .taken) tt (c .reach .ensures)
 
 use-right-requires : tie.Need-use-right-requires
 use-right-requires c κs = search needs
@@ -75,14 +81,14 @@ same-length-6 c = search needs
 returns-6 : tie.Need-returns-6
 unfolding callOf
 returns-6 c =
-    let a = c .before .before .before .before .before .before .before .before .before .args in
-    call-named (a .number) (a .by) (a .giver) (a .receiver) (a .weight) (a .need) (a .bar) (a .block .now) _ _ 5 (c .before .before .if6 .taken) tt (c .use-right .ensures)
+    let s = c .before .before .before .before .before .before .before .before .before in
+    call-named (s .args .number) (named s) (s .args .block .now) _ _ 5 (c .before .before .if6 .taken) tt (c .use-right .ensures)
 
 returns-7 : tie.Need-returns-7
 returns-7 c =
-    let a = c .before .before .before .before .before .before .before .args in
-    call-other (a .number) (a .by) (a .giver) (a .receiver) (a .weight) (a .need) (a .bar) (a .block .now) _ _
-    (no-call (a .number) (c .before .before .before .before .before .if1 .left) (c .before .before .before .before .if2 .left) (c .before .before .before .if3 .left) (c .before .before .if4 .left) (c .before .if5 .left) (c .if6 .left)) refl refl
+    let s = c .before .before .before .before .before .before .before in
+    call-other (s .args .number) (named s) (s .args .block .now) _ _
+    (no-call (s .args .number) (c .before .before .before .before .before .if1 .left) (c .before .before .before .before .if2 .left) (c .before .before .before .if3 .left) (c .before .before .if4 .left) (c .before .if5 .left) (c .if6 .left)) refl refl
 
 pub call-spec : {M : Type 1} → statement M
 call-spec =

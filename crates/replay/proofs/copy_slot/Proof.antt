@@ -4,16 +4,17 @@ use Prim.Native.Nat.{_+_, _*_, _-_, _≤_}
 use native.Mathlib.Omega.{arith}
 use lib.ListN.{length, drop, length-set}
 use lib.Seq.{paste, paste-zero}
+use Rattle.block.specs.Layout.{blockSize}
 use Rattle.replay.proofs.Slots.{copied-on, copied-all}
 use Rattle.replay.proofs.copy_slot.Statement.{statement}
 use Rattle.replay.proofs.copy_slot.Tie as tie
 
 abbrev Inv-loop : tie.InvT-loop
 Inv-loop blocks₀ i from to j₀ blocks j =
-    (j ≤ 2180) × (from ≡ 2180 * i) × (to ≡ from + 2180) × (length blocks ≡ length blocks₀) × (blocks ≡ paste blocks₀ to (drop from blocks₀) j)
+    (j ≤ blockSize) × (from ≡ blockSize * i) × (to ≡ from + blockSize) × (length blocks ≡ length blocks₀) × (blocks ≡ paste blocks₀ to (drop from blocks₀) j)
 
 abbrev μ-loop : tie.MeasureT-loop
-μ-loop blocks₀ i from to j₀ blocks j = 2180 - j
+μ-loop blocks₀ i from to j₀ blocks j = blockSize - j
 
 mul-from : tie.Need-mul-from Inv-loop μ-loop
 mul-from c = omega (arith, c .good .0 .0)
@@ -24,7 +25,7 @@ add-to c = omega (arith, c .good .0 .0)
 loop-holds : tie.Need-loop-holds Inv-loop μ-loop
 loop-holds c =
     let a = c .args in
-    (omega arith, refl, refl, refl, paste-zero (a .blocks .now) (2180 * a .i + 2180) (drop (2180 * a .i) (a .blocks .now)))
+    (omega arith, refl, refl, refl, paste-zero (a .blocks .now) (blockSize * a .i + blockSize) (drop (blockSize * a .i) (a .blocks .now)))
 
 add-blocks : tie.Need-add-blocks Inv-loop μ-loop
 add-blocks c = omega (arith, c .before .before .good .0 .0)
@@ -52,7 +53,7 @@ loop-again c =
       refl,
       refl,
       simp length-set (l .inv .3),
-      copied-on (a .blocks .now) (2180 * a .i) (2180 * a .i + 2180) refl (omega arith) (l .j) (omega arith) (l .blocks) (l .inv .4),
+      copied-on (a .blocks .now) (blockSize * a .i) (blockSize * a .i + blockSize) refl (omega arith) (l .j) (omega arith) (l .blocks) (l .inv .4),
     )
 
 same-length : tie.Need-same-length Inv-loop μ-loop
@@ -62,8 +63,8 @@ returns : tie.Need-returns Inv-loop μ-loop
 returns c =
     let a = c .before .before .args in
     let l = c .before .loop in
-    let e : l .j ≡ 2180 = omega arith in
-    copied-all (a .blocks .now) (2180 * a .i) (2180 * a .i + 2180) refl (omega arith) (a .i) refl (l .blocks) (rw e at (l .inv .4))
+    let e : l .j ≡ blockSize = omega arith in
+    copied-all (a .blocks .now) (blockSize * a .i) (blockSize * a .i + blockSize) refl (omega arith) (a .i) refl (l .blocks) (rw e at (l .inv .4))
 
 pub copy-slot-spec : {M : Type 1} → statement M
 copy-slot-spec =

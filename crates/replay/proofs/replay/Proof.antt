@@ -6,6 +6,7 @@ use native.Mathlib.Omega.{arith}
 use borrow.Author.Tests.{not-true, not-false}
 use borrow.Rule.Slice.PartMut.{postOf, same-len-mid}
 use lib.ListN.{length}
+use Rattle.block.specs.Layout.{blockSize}
 use Rattle.replay.specs.Replay.{isSized, callCount, allCalls}
 use Rattle.replay.specs.Turn.{Sized}
 use Rattle.replay.proofs.Calling.{numbered}
@@ -28,7 +29,7 @@ fit c = sym (c .before .is-sized .ensures) ∙ not-false (c .before .is-sized .r
 sizes : (c : tie.Else1 Inv-loop μ-loop) → let a = c .before .before .before .before .before .args in Sized (a .calls .now) (a .blocks .now) (a .refusals .now) (a .answers .now)
 sizes c =
     let a = c .before .before .before .before .before .args in
-    sized (length (a .calls .now)) (length (a .blocks .now)) (length (a .refusals .now)) (length (a .answers .now)) (fit c)
+    sized (a .calls .now) (a .blocks .now) (a .refusals .now) (a .answers .now) (fit c)
 
 all-known : (c : tie.Else2 Inv-loop μ-loop) → allCalls (c .before .before .before .before .before .before .before .args .calls .now) ≡ true
 all-known c = sym (c .before .all-calls .ensures) ∙ not-false (c .before .all-calls .result) (c .if2 .left)
@@ -58,7 +59,7 @@ part-open-start : tie.Need-part-open-start Inv-loop μ-loop
 part-open-start c = omega arith
 
 part-open-end : tie.Need-part-open-end Inv-loop μ-loop
-part-open-end c = omega (arith, sizes (c .before .before) .0)
+part-open-end c = omega (arith, sizes (c .before .before) .blocks)
 
 open-requires : tie.Need-open-requires Inv-loop μ-loop
 open-requires c κs = tt
@@ -71,9 +72,9 @@ loop-holds c =
     let z = sizes e in (
       omega arith,
       refl,
-      (same-len-mid 0 2180 (a .blocks .now) (o .last .0) (o .kept .0) ∙ z .0, z .1, z .2),
+      record { blocks = same-len-mid 0 blockSize (a .blocks .now) (o .last .0) (o .kept .0) ∙ z .blocks; refusals = z .refusals; answers = z .answers },
       through-none (a .calls .now) _ (a .refusals .now) (a .answers .now)
-          (opened (a .blocks .now) (o .last .0) (postOf 0 2180 (a .blocks .now)) (o .result) (omega (arith, z .0)) (o .kept .0) (o .ensures)),
+          (opened (a .blocks .now) (o .last .0) (postOf 0 blockSize (a .blocks .now)) (o .result) (omega (arith, z .blocks)) (o .kept .0) (o .ensures)),
     )
 
 turn-requires : tie.Need-turn-requires Inv-loop μ-loop
@@ -95,18 +96,18 @@ loop-again c =
     let t = c .before .before .before .before .before .turn in (
       omega arith,
       refl,
-      (t .kept .1 .1 .0 ∙ l .inv .2 .0, t .kept .1 .1 .1 .0 ∙ l .inv .2 .1, t .kept .1 .1 .1 .1 .0 ∙ l .inv .2 .2),
+      record { blocks = t .kept .1 .1 .0 ∙ l .inv .2 .blocks; refusals = t .kept .1 .1 .1 .0 ∙ l .inv .2 .refusals; answers = t .kept .1 .1 .1 .1 .0 ∙ l .inv .2 .answers },
       through-on (a .calls .now) (l .blocks) (l .refusals) (l .answers) (l .i) (l .inv .3) _ _ _ (t .ensures),
     )
 
 same-length : tie.Need-same-length Inv-loop μ-loop
-same-length c = c .before .loop .inv .2 .0 ∙ sym (sizes (c .before .before .before .before .before .before .before .before) .0)
+same-length c = c .before .loop .inv .2 .blocks ∙ sym (sizes (c .before .before .before .before .before .before .before .before) .blocks)
 
 same-length-2 : tie.Need-same-length-2 Inv-loop μ-loop
-same-length-2 c = c .before .loop .inv .2 .1 ∙ sym (sizes (c .before .before .before .before .before .before .before .before) .1)
+same-length-2 c = c .before .loop .inv .2 .refusals ∙ sym (sizes (c .before .before .before .before .before .before .before .before) .refusals)
 
 same-length-3 : tie.Need-same-length-3 Inv-loop μ-loop
-same-length-3 c = c .before .loop .inv .2 .2 ∙ sym (sizes (c .before .before .before .before .before .before .before .before) .2)
+same-length-3 c = c .before .loop .inv .2 .answers ∙ sym (sizes (c .before .before .before .before .before .before .before .before) .answers)
 
 returns-3 : tie.Need-returns-3 Inv-loop μ-loop
 returns-3 c =

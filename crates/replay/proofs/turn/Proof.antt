@@ -5,6 +5,7 @@ use mathlib.Core.Path.{_≡_}
 use Prim.Native.Nat.{_+_, _*_, _-_}
 use native.Mathlib.Omega.{arith}
 use lib.ListN.{length}
+use Rattle.block.specs.Layout.{blockSize}
 use Rattle.replay.proofs.Turns.{turned}
 use Rattle.replay.proofs.turn.Statement.{statement}
 use Rattle.replay.proofs.turn.Tie as tie
@@ -56,10 +57,10 @@ returns c =
     let made = c .before .before .before .before .before .before .before .before .call-at in
     let stored = c .before .before .before .store in
     let same : length (copy .last .0) ≡ length (a .blocks .now) = copy .kept .0 in
-    let m = 2180 * (a .i + 1) in
+    let m = blockSize * (a .i + 1) in
     turned (a .calls .now) (a .blocks .now) (a .refusals .now) (a .answers .now) (a .i)
-    (copy .last .0) (copy .ensures) m (m + 2180 - m) (omega arith) (omega arith) (omega (arith, s .pre .0, s .pre .2 .0))
-    (made .result) (made .last .1 .1 .0) (postOf m (m + 2180 - m) (copy .last .0)) (made .kept .1 .1 .0) (made .ensures)
+    (copy .last .0) (copy .ensures) m (m + blockSize - m) (omega arith) (omega arith) (omega (arith, s .pre .0, s .pre .2 .blocks))
+    (made .result) (made .last .1 .1 .0) (postOf m (m + blockSize - m) (copy .last .0)) (made .kept .1 .1 .0) (made .ensures)
     (stored .last .0) (stored .last .1 .0) (stored .ensures)
 
 pub turn-spec : {M : Type 1} → statement M

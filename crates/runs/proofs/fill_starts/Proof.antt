@@ -1,20 +1,21 @@
 -- `runs::run::fill_starts` stores where the run of each giver starts. Assumes nothing.
 use mathlib.Core.Path.{_≡_, sym, _∙_}
-use Prim.Native.Nat.{ℕ, _*_, _-_, _/_, _≤_, _<_}
+use Prim.Native.Nat.{ℕ, _-_, _≤_, _<_}
 use native.Mathlib.Nat.{not-suc-le-zero}
 use native.Mathlib.Omega.{arith}
 use lib.ListN.{length, getD, length-set}
-use Rattle.runs.specs.Steps.{Sought}
+use Rattle.runs.specs.Lent.{recordCount, recordAt}
+use Rattle.runs.specs.Steps.{Sought, startCount}
 use Rattle.runs.proofs.Givers.{starts-more}
 use Rattle.runs.proofs.fill_starts.Statement.{statement}
 use Rattle.runs.proofs.fill_starts.Tie as tie
 
 abbrev Inv-loop : tie.InvT-loop
 Inv-loop records starts₀ k₀ giver₀ starts k giver =
-    (length starts ≡ 65) × (giver ≤ 65) × (k ≤ length records / 8) × ((j : ℕ) → j < k → getD records (8 * j) 0 < giver) × ((g : ℕ) → g < giver → Sought records g (getD starts g 0))
+    (length starts ≡ startCount) × (giver ≤ startCount) × (k ≤ recordCount records) × ((j : ℕ) → j < k → recordAt records j .giver < giver) × ((g : ℕ) → g < giver → Sought records g (getD starts g 0))
 
 abbrev μ-loop : tie.MeasureT-loop
-μ-loop records starts₀ k₀ giver₀ starts k giver = 65 - giver
+μ-loop records starts₀ k₀ giver₀ starts k giver = startCount - giver
 
 loop-holds : tie.Need-loop-holds Inv-loop μ-loop
 loop-holds c = (c .before .before .pre .2, omega arith, omega arith, (λ j h. absurd (not-suc-le-zero h)), (λ g h. absurd (not-suc-le-zero h)))

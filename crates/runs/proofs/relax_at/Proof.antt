@@ -1,9 +1,20 @@
 -- `runs::run::relax_at` takes the step of one record. Assumes nothing.
+use mathlib.Core.Path.{sym, _∙_}
 use native.Mathlib.Omega.{arith}
 use borrow.Author.Needs.{needs}
+use Prim.Native.Nat.{_+_, _<_}
+use lib.ListN.{getD, drop}
+use lib.Seq.{getD-drop}
+use Rattle.block.specs.Layout.{mostSubjects}
+use Rattle.block.specs.Block.{delegationIn}
+use Rattle.block.proofs.Fields.{two-in}
 use Rattle.runs.proofs.Ways.{given-level, step-unmet, step-not-raised, step-raised}
 use Rattle.runs.proofs.relax_at.Statement.{statement}
 use Rattle.runs.proofs.relax_at.Tie as tie
+
+-- the receiver that is read is a subject
+subject : (s : tie.Start) → getD (s .args .run .now) (s .args .at + 1) 0 < mostSubjects
+subject s = omega (arith, getD-drop (s .args .at) (s .args .run .now) 1 0, s .pre .1 .receiver)
 
 add-read-two : tie.Need-add-read-two
 add-read-two c = search needs
@@ -27,7 +38,7 @@ shared-slice-read-receiver : tie.Need-shared-slice-read-receiver
 shared-slice-read-receiver c = search needs
 
 cast-receiver : tie.Need-cast-receiver
-cast-receiver c = search needs
+cast-receiver c = omega (arith, subject (c .before .before .before .before .before .before .before .before))
 
 add-next : tie.Need-add-next
 add-next c = search needs
@@ -39,25 +50,25 @@ next-requires : tie.Need-next-requires
 next-requires c κs = search needs
 
 mul-if2 : tie.Need-mul-if2
-mul-if2 c = search needs
+mul-if2 c = omega (arith, subject (c .before .before .before .before .before .before .before .before .before .before))
 
 slice-copy-out-if2 : tie.Need-slice-copy-out-if2
-slice-copy-out-if2 c = search needs
+slice-copy-out-if2 c = omega (arith, subject (c .before .before .before .before .before .before .before .before .before .before))
 
 mul-given : tie.Need-mul-given
-mul-given c = search needs
+mul-given c = omega (arith, subject (c .before .before .before .before .before .before .before .before .before .before .before .before))
 
 slice-set-from-given : tie.Need-slice-set-from-given
-slice-set-from-given c = search needs
+slice-set-from-given c = omega (arith, subject (c .before .before .before .before .before .before .before .before .before .before .before .before))
 
 cast-parents : tie.Need-cast-parents
 cast-parents c = search needs
 
 mul-parents : tie.Need-mul-parents
-mul-parents c = search needs
+mul-parents c = omega (arith, subject (c .before .before .before .before .before .before .before .before .before .before .before .before))
 
 slice-write-parents : tie.Need-slice-write-parents
-slice-write-parents c = search needs
+slice-write-parents c = omega (arith, subject (c .before .before .before .before .before .before .before .before .before .before .before .before))
 
 cast-join : tie.Need-cast-join
 cast-join c =
@@ -66,9 +77,9 @@ cast-join c =
     let m = n .before .before .before .before in
     let s = m .before .before .before .before .before .before in
     let a = s .args in
-    let level = given-level (a .table .now) (a .run .now) (a .at) (a .place) (a .limit) (a .marks) (a .limits .now) (a .parents .now) (a .waiting .now) (a .low)
-    _ _ _ (m .before .before .read-two .ensures) (m .before .read-two2 .ensures) (m .meets .ensures) (s .pre .7)
-    _ (s .fits .limit) (omega arith) (i .if22 .given) (record { sfits = n .next .ok }) (n .next .ensures) (c .before .if2 .taken) (s .pre .2) (s .pre .3) in
+    let level = given-level (a .table .now) (delegationIn (drop (a .at) (a .run .now))) (a .place) (a .limit) (a .marks) (a .limits .now) (a .parents .now) (a .waiting .now) (a .low)
+    _ _ _ (m .before .before .read-two .ensures ∙ two-in (a .run .now) (a .at) 4) (m .before .read-two2 .ensures ∙ two-in (a .run .now) (a .at) 6) (m .meets .ensures) (s .pre .2 .waiting)
+    _ _ (sym (getD-drop (a .at) (a .run .now) 1 0)) (sym (getD-drop (a .at) (a .run .now) 2 0)) _ (s .fits .limit) (omega (arith, subject s)) (i .if22 .given) (record { sfits = n .next .ok }) (n .next .ensures) (c .before .if2 .taken) (s .pre .0) (s .pre .2 .most) in
     (level .0, omega (arith, level .1))
 
 join-requires : tie.Need-join-requires
@@ -78,10 +89,10 @@ join-requires c κs =
     let m = n .before .before .before .before in
     let s = m .before .before .before .before .before .before in
     let a = s .args in
-    let level = given-level (a .table .now) (a .run .now) (a .at) (a .place) (a .limit) (a .marks) (a .limits .now) (a .parents .now) (a .waiting .now) (a .low)
-    _ _ _ (m .before .before .read-two .ensures) (m .before .read-two2 .ensures) (m .meets .ensures) (s .pre .7)
-    _ (s .fits .limit) (omega arith) (i .if22 .given) (record { sfits = n .next .ok }) (n .next .ensures) (c .before .if2 .taken) (s .pre .2) (s .pre .3) in
-    (s .pre .7 .size, level .1, s .pre .6, s .pre .7 .lowest)
+    let level = given-level (a .table .now) (delegationIn (drop (a .at) (a .run .now))) (a .place) (a .limit) (a .marks) (a .limits .now) (a .parents .now) (a .waiting .now) (a .low)
+    _ _ _ (m .before .before .read-two .ensures ∙ two-in (a .run .now) (a .at) 4) (m .before .read-two2 .ensures ∙ two-in (a .run .now) (a .at) 6) (m .meets .ensures) (s .pre .2 .waiting)
+    _ _ (sym (getD-drop (a .at) (a .run .now) 1 0)) (sym (getD-drop (a .at) (a .run .now) 2 0)) _ (s .fits .limit) (omega (arith, subject s)) (i .if22 .given) (record { sfits = n .next .ok }) (n .next .ensures) (c .before .if2 .taken) (s .pre .0) (s .pre .2 .most) in
+    (s .pre .2 .waiting .queue, level .1, subject s)
 
 same-length : tie.Need-same-length
 same-length c = search needs
@@ -100,9 +111,9 @@ returns c =
     let m = n .before .before .before .before in
     let s = m .before .before .before .before .before .before in
     let a = s .args in
-    step-raised (a .table .now) (a .run .now) (a .at) (a .place) (a .limit) (a .marks) (a .limits .now) (a .parents .now) (a .waiting .now) (a .low)
-    _ _ _ (m .before .before .read-two .ensures) (m .before .read-two2 .ensures) (m .meets .ensures) (s .pre .7)
-    _ (s .fits .limit) (omega arith) (i .if22 .given) (record { sfits = n .next .ok }) (n .next .ensures) (j .before .before .if2 .taken) (n .before .before .before .if1 .taken) _ _ (j .join .ensures .0) (j .join .ensures .1)
+    step-raised (a .table .now) (delegationIn (drop (a .at) (a .run .now))) (a .place) (a .limit) (a .marks) (a .limits .now) (a .parents .now) (a .waiting .now) (a .low)
+    _ _ _ (m .before .before .read-two .ensures ∙ two-in (a .run .now) (a .at) 4) (m .before .read-two2 .ensures ∙ two-in (a .run .now) (a .at) 6) (m .meets .ensures) (s .pre .2 .waiting)
+    _ _ (sym (getD-drop (a .at) (a .run .now) 1 0)) (sym (getD-drop (a .at) (a .run .now) 2 0)) _ (s .fits .limit) (omega (arith, subject s)) (i .if22 .given) (record { sfits = n .next .ok }) (n .next .ensures) (j .before .before .if2 .taken) (n .before .before .before .if1 .taken) _ _ (j .join .ensures .0) (j .join .ensures .1)
 
 returns-2 : tie.Need-returns-2
 returns-2 c =
@@ -111,17 +122,17 @@ returns-2 c =
     let m = n .before .before .before .before in
     let s = m .before .before .before .before .before .before in
     let a = s .args in
-    step-not-raised (a .table .now) (a .run .now) (a .at) (a .place) (a .limit) (a .marks) (a .limits .now) (a .parents .now) (a .waiting .now) (a .low)
-    _ _ _ (m .before .before .read-two .ensures) (m .before .read-two2 .ensures) (m .meets .ensures) (s .pre .7)
-    _ (s .fits .limit) (omega arith) (i .if22 .given) (record { sfits = n .next .ok }) (n .next .ensures) (c .if2 .left)
+    step-not-raised (a .table .now) (delegationIn (drop (a .at) (a .run .now))) (a .place) (a .limit) (a .marks) (a .limits .now) (a .parents .now) (a .waiting .now) (a .low)
+    _ _ _ (m .before .before .read-two .ensures ∙ two-in (a .run .now) (a .at) 4) (m .before .read-two2 .ensures ∙ two-in (a .run .now) (a .at) 6) (m .meets .ensures) (s .pre .2 .waiting)
+    _ _ (sym (getD-drop (a .at) (a .run .now) 1 0)) (sym (getD-drop (a .at) (a .run .now) 2 0)) _ (s .fits .limit) (omega (arith, subject s)) (i .if22 .given) (record { sfits = n .next .ok }) (n .next .ensures) (c .if2 .left)
 
 returns-3 : tie.Need-returns-3
 returns-3 c =
     let m = c .before in
     let s = m .before .before .before .before .before .before in
     let a = s .args in
-    step-unmet (a .table .now) (a .run .now) (a .at) (a .place) (a .limit) (a .marks) (a .limits .now) (a .parents .now) (a .waiting .now) (a .low)
-    _ _ _ (m .before .before .read-two .ensures) (m .before .read-two2 .ensures) (m .meets .ensures) (s .pre .7) (c .if1 .left)
+    step-unmet (a .table .now) (delegationIn (drop (a .at) (a .run .now))) (a .place) (a .limit) (a .marks) (a .limits .now) (a .parents .now) (a .waiting .now) (a .low)
+    _ _ _ (m .before .before .read-two .ensures ∙ two-in (a .run .now) (a .at) 4) (m .before .read-two2 .ensures ∙ two-in (a .run .now) (a .at) 6) (m .meets .ensures) (s .pre .2 .waiting) (c .if1 .left)
 
 pub relax-at-spec : {M : Type 1} → statement M
 relax-at-spec =

@@ -41,31 +41,31 @@ slice-copy-out-limit c = search needs
 mul-relax-run : tie.Need-mul-relax-run
 mul-relax-run c =
     let s = c .before .before .before .before .before .before .before in
-    let r = run-of (s .args .table .now) (s .args .records .now) (s .args .starts .now) (s .args .giver) (s .pre .0) (s .pre .1) (s .pre .2) in
+    let r = run-of (s .args .table .now) (s .args .records .now) (s .args .starts .now) (s .args .giver) (s .pre .0) (s .pre .1) in
     omega (arith, r .order, r .within, r .few, r .size)
 
 mul-relax-run-2 : tie.Need-mul-relax-run-2
 mul-relax-run-2 c =
     let s = c .before .before .before .before .before .before .before in
-    let r = run-of (s .args .table .now) (s .args .records .now) (s .args .starts .now) (s .args .giver) (s .pre .0) (s .pre .1) (s .pre .2) in
+    let r = run-of (s .args .table .now) (s .args .records .now) (s .args .starts .now) (s .args .giver) (s .pre .0) (s .pre .1) in
     omega (arith, r .order, r .within, r .few, r .size)
 
 sub-relax-run : tie.Need-sub-relax-run
 sub-relax-run c =
     let s = c .before .before .before .before .before .before .before in
-    let r = run-of (s .args .table .now) (s .args .records .now) (s .args .starts .now) (s .args .giver) (s .pre .0) (s .pre .1) (s .pre .2) in
+    let r = run-of (s .args .table .now) (s .args .records .now) (s .args .starts .now) (s .args .giver) (s .pre .0) (s .pre .1) in
     omega (arith, r .order, r .within, r .few, r .size)
 
 part-relax-run-start : tie.Need-part-relax-run-start
 part-relax-run-start c =
     let s = c .before .before .before .before .before .before .before in
-    let r = run-of (s .args .table .now) (s .args .records .now) (s .args .starts .now) (s .args .giver) (s .pre .0) (s .pre .1) (s .pre .2) in
+    let r = run-of (s .args .table .now) (s .args .records .now) (s .args .starts .now) (s .args .giver) (s .pre .0) (s .pre .1) in
     omega (arith, r .order, r .within, r .few, r .size)
 
 part-relax-run-end : tie.Need-part-relax-run-end
 part-relax-run-end c =
     let s = c .before .before .before .before .before .before .before in
-    let r = run-of (s .args .table .now) (s .args .records .now) (s .args .starts .now) (s .args .giver) (s .pre .0) (s .pre .1) (s .pre .2) in
+    let r = run-of (s .args .table .now) (s .args .records .now) (s .args .starts .now) (s .args .giver) (s .pre .0) (s .pre .1) in
     omega (arith, r .order, r .within, r .few, r .size)
 
 relax-run-requires : tie.Need-relax-run-requires
@@ -75,15 +75,18 @@ relax-run-requires c κs =
     let g = a .giver in
     let from = getD (a .starts .now) g 0 in
     let past = getD (a .starts .now) (g + 1) 0 in
-    let lent = s .pre .0 in
-    let r = run-of (a .table .now) (a .records .now) (a .starts .now) g lent (s .pre .1) (s .pre .2) in (
-      omega (arith, part-count (a .records .now) from past (r .order) (r .within), r .order, r .within, r .few),
+    let lent = s .pre .0 .lent in
+    let r = run-of (a .table .now) (a .records .now) (a .starts .now) g (s .pre .0) (s .pre .1) in (
       lent .rule,
-      subst (λ (z : ℤ). z ≼ pos 255) (sym (read-limit (a .limits .now) g (omega arith) (c .before .before .before .before .limit .given))) (s .pre .3),
-      s .pre .4,
-      s .pre .5,
-      part-receivers (a .records .now) from past (r .order) (r .within) (a .table .now) lent,
-      s .pre .6,
+      record {
+        few = omega (arith, part-count (a .records .now) from past (r .order) (r .within), r .order, r .within, r .few);
+        receivers = part-receivers (a .records .now) from past (r .order) (r .within) (a .table .now) lent;
+      },
+      record {
+        most = subst (λ (z : ℤ). z ≼ pos 255) (sym (read-limit (a .limits .now) g (omega (arith, s .pre .2 .room .limits)) (c .before .before .before .before .limit .given))) (s .pre .2 .most);
+        room = s .pre .2 .room;
+        waiting = s .pre .2 .waiting;
+      },
     )
 
 same-length : tie.Need-same-length
@@ -100,9 +103,9 @@ returns c =
     let s = c .before .before .before .before .before .before .before .before .before .before .before .before .before .before .before .before .before in
     let a = s .args in
     let g = a .giver in
-    let r = run-of (a .table .now) (a .records .now) (a .starts .now) g (s .pre .0) (s .pre .1) (s .pre .2) in
+    let r = run-of (a .table .now) (a .records .now) (a .starts .now) g (s .pre .0) (s .pre .1) in
     let f = c .before .before .before .before .before .relax-run in
-    let e = read-limit (a .limits .now) g (omega arith) (c .before .before .before .before .before .before .before .before .before .before .limit .given) in (
+    let e = read-limit (a .limits .now) g (omega (arith, s .pre .2 .room .limits)) (c .before .before .before .before .before .before .before .before .before .before .limit .given) in (
       gave (a .table .now) (a .records .now) (a .marks) g (a .limits .now) (a .parents .now) (a .waiting .now) _ _ _ _ _ _ (r .low) (r .high) (r .order)
           e (f .ensures .0),
       f .ensures .1,

@@ -1,19 +1,19 @@
 -- `runs::run::relax_run` takes the step of each record of a run in turn. Assumes nothing.
 use mathlib.Core.Path.{_≡_, refl, sym, _∙_}
-use Prim.Native.Nat.{_-_, _/_, _≤_}
+use Prim.Native.Nat.{_-_, _≤_}
 use native.Mathlib.Omega.{arith}
 use native.Mathlib.Numerals.{add-one}
-use lib.ListN.{length}
 use mir.Syntax.{w16}
 use mir.Val.{toZ}
 use mir.Facts.{toZ-ofZ}
-use Rattle.runs.specs.Steps.{Ran, ran-none, ran-more, Waiting}
+use Rattle.runs.specs.Lent.{recordCount, Room}
+use Rattle.runs.specs.Steps.{SteppedTo, stepped-none, stepped-more, Waiting}
 use Rattle.runs.proofs.relax_run.Statement.{statement}
 use Rattle.runs.proofs.relax_run.Tie as tie
 
 abbrev Inv-loop : tie.InvT-loop
 Inv-loop run first limit marks table limits₀ parents₀ waiting₀ low n lowest₀ k₀ limits parents waiting lowest k =
-    (n ≡ length run / 8) × (k ≤ n) × (length limits ≡ 64) × (length parents ≡ 64) × Ran table (toZ w16 limit) marks run first limits₀ parents₀ waiting₀ k limits parents waiting × Waiting limits waiting lowest
+    (n ≡ recordCount run) × (k ≤ n) × Room limits parents × SteppedTo table (toZ w16 limit) marks run first limits₀ parents₀ waiting₀ k limits parents waiting × Waiting limits waiting lowest
 
 abbrev μ-loop : tie.MeasureT-loop
 μ-loop run first limit marks table limits₀ parents₀ waiting₀ low n lowest₀ k₀ limits parents waiting lowest k = n - k
@@ -21,7 +21,7 @@ abbrev μ-loop : tie.MeasureT-loop
 loop-holds : tie.Need-loop-holds Inv-loop μ-loop
 loop-holds c =
     let s = c .before .before .before in
-    (refl, omega arith, s .pre .3, s .pre .4, ran-none, s .pre .6)
+    (refl, omega arith, s .pre .2 .room, stepped-none, s .pre .2 .waiting)
 
 mul-relax-at : tie.Need-mul-relax-at Inv-loop μ-loop
 mul-relax-at c = omega arith
@@ -33,8 +33,11 @@ relax-at-requires : tie.Need-relax-at-requires Inv-loop μ-loop
 relax-at-requires c κs =
     let s = c .before .before .before .before .before .before .before .before in
     let q = s .pre in
-    let v = c .before .before .before .before .loop in
-    (omega arith, omega arith, q .1, rw (toZ-ofZ {w = w16} (s .fits .limit)) (q .2), v .inv .2, v .inv .3, q .5 (v .k) (omega arith), v .inv .5)
+    let v = c .before .before .before .before .loop in (
+      q .0,
+      record { whole = omega arith; few = omega (arith, q .1 .few); receiver = q .1 .receivers (v .k) (omega arith) },
+      record { most = rw (toZ-ofZ {w = w16} (s .fits .limit)) (q .2 .most); room = v .inv .2; waiting = v .inv .4 },
+    )
 
 add-k : tie.Need-add-k Inv-loop μ-loop
 add-k c = omega arith
@@ -48,26 +51,25 @@ loop-again c =
     let f = c .before .before .before .before .before .relax-at in (
       refl,
       omega arith,
-      f .kept .1 .1 .1 .1 .1 .1 .0 ∙ v .inv .2,
-      f .kept .1 .1 .1 .1 .1 .1 .1 .0 ∙ v .inv .3,
-      rw add-one (ran-more (v .inv .4) (f .ensures .0)),
+      record { limits = f .kept .1 .1 .1 .1 .1 .1 .0 ∙ v .inv .2 .limits; parents = f .kept .1 .1 .1 .1 .1 .1 .1 .0 ∙ v .inv .2 .parents },
+      rw add-one (stepped-more (v .inv .3) (f .ensures .0)),
       f .ensures .1,
     )
 
 same-length : tie.Need-same-length Inv-loop μ-loop
-same-length c = c .before .loop .inv .2 ∙ sym (c .before .before .before .before .before .pre .3)
+same-length c = c .before .loop .inv .2 .limits ∙ sym (c .before .before .before .before .before .pre .2 .room .limits)
 
 same-length-2 : tie.Need-same-length-2 Inv-loop μ-loop
-same-length-2 c = c .before .loop .inv .3 ∙ sym (c .before .before .before .before .before .pre .4)
+same-length-2 c = c .before .loop .inv .2 .parents ∙ sym (c .before .before .before .before .before .pre .2 .room .parents)
 
 same-length-3 : tie.Need-same-length-3 Inv-loop μ-loop
-same-length-3 c = c .before .loop .inv .5 .size ∙ sym (c .before .before .before .before .before .pre .6 .size)
+same-length-3 c = c .before .loop .inv .4 .queue .size ∙ sym (c .before .before .before .before .before .pre .2 .waiting .queue .size)
 
 returns : tie.Need-returns Inv-loop μ-loop
 returns c =
     let s = c .before .before .before .before .before in
-    let e : c .before .loop .k ≡ length (s .args .run .now) / 8 = omega arith in
-    rw (← toZ-ofZ {w = w16} (s .fits .limit), ← e) (c .before .loop .inv .4, c .before .loop .inv .5)
+    let e : c .before .loop .k ≡ recordCount (s .args .run .now) = omega arith in
+    rw (← toZ-ofZ {w = w16} (s .fits .limit), ← e) (c .before .loop .inv .3, c .before .loop .inv .4)
 
 pub relax-run-spec : {M : Type 1} → statement M
 relax-run-spec =

@@ -1,16 +1,15 @@
 -- `runs::run::seek` finds the first record whose giver is not below a bound: the givers rise, so none before it is left out. Assumes nothing.
 use mathlib.Core.Path.{_≡_, refl}
-use Prim.Native.Nat.{ℕ, _*_, _-_, _/_, _≤_, _<_}
-use native.Mathlib.Nat.{le-trans}
+use Prim.Native.Nat.{ℕ, _*_, _-_, _≤_, _<_}
 use native.Mathlib.Omega.{arith}
 use borrow.Author.Count.{below-more}
-use lib.ListN.{length, getD}
-use Rattle.runs.proofs.Records.{records-rise}
+use Rattle.runs.specs.Lent.{recordCount, recordAt}
+use Rattle.runs.proofs.Records.{giver-at, records-rise}
 use Rattle.runs.proofs.seek.Statement.{statement}
 use Rattle.runs.proofs.seek.Tie as tie
 
 abbrev Inv-loop : tie.InvT-loop
-Inv-loop records low bound n k₀ k = (n ≡ length records / 8) × (k ≤ n) × ((j : ℕ) → j < k → getD records (8 * j) 0 < bound)
+Inv-loop records low bound n k₀ k = (n ≡ recordCount records) × (k ≤ n) × ((j : ℕ) → j < k → recordAt records j .giver < bound)
 
 abbrev μ-loop : tie.MeasureT-loop
 μ-loop records low bound n k₀ k = n - k
@@ -35,7 +34,7 @@ returns c =
     record {
       within = omega arith;
       below = inv .2;
-      above = λ j h l. le-trans (c .if1 .taken) (records-rise (s .args .records .now) _ (s .pre .2) k j h l);
+      above = λ j h l. omega (arith, giver-at (s .args .records .now) k, c .if1 .taken, records-rise (s .args .records .now) _ (s .pre .2) k j h l);
     }
 
 add-k : tie.Need-add-k Inv-loop μ-loop
@@ -45,7 +44,9 @@ loop-less : tie.Need-loop-less Inv-loop μ-loop
 loop-less c = omega arith
 
 loop-again : tie.Need-loop-again Inv-loop μ-loop
-loop-again c = (refl, omega arith, below-more _ _ (c .before .before .before .loop .inv .2) (c .if1 .left))
+loop-again c =
+    let v = c .before .before .before .loop in
+    (refl, omega arith, below-more _ _ (v .inv .2) (omega (arith, giver-at (c .before .before .before .before .args .records .now) (v .k), c .if1 .left)))
 
 returns-2 : tie.Need-returns-2 Inv-loop μ-loop
 returns-2 c =

@@ -11,6 +11,8 @@ use mir.Val.{ofZ, toZ}
 use mir.Facts.{toZ-ofZ}
 use Rattle.rules.specs.Limit.{none}
 use Rattle.rules.proofs.Signed.{getD-within, read-limit}
+use Rattle.queue.specs.Queue.{levels}
+use Rattle.runs.specs.Lent.{Room}
 use Rattle.runs.specs.Steps.{Waiting}
 use Rattle.queue.proofs.Buckets.{empty-waits, taken-none, taken-some}
 use Rattle.search.proofs.State.{isSettled, State, state-top}
@@ -20,38 +22,39 @@ use Rattle.search.proofs.search.Tie as tie
 
 abbrev Inv-loop : tie.InvT-loop
 Inv-loop records starts table marks limits₀ parents₀ waiting₀ low₀ past₀ limits parents waiting low past =
-    State table records marks (isSettled limits waiting) past limits parents waiting [] × Waiting limits waiting low × (past ≤ 256)
+    State table records marks (isSettled limits waiting) past limits parents waiting [] × Waiting limits waiting low × (past ≤ levels)
 
 abbrev μ-loop : tie.MeasureT-loop
 μ-loop records starts table marks limits₀ parents₀ waiting₀ low₀ past₀ limits parents waiting low past = measure limits waiting past
 
 start-requires : tie.Need-start-requires Inv-loop μ-loop
-start-requires c κs = (c .before .before .before .before .before .pre .2, c .before .before .before .before .before .pre .3)
+start-requires c κs = c .before .before .before .before .before .pre .1
 
 slice-aggregate-join : tie.Need-slice-aggregate-join Inv-loop μ-loop
 slice-aggregate-join c = refl
 
 join-requires : tie.Need-join-requires Inv-loop μ-loop
-join-requires c κs = (refl, omega arith, omega arith, λ x y _. empty-waits 256 x y)
+join-requires c κs = (record { size = refl; lowest = λ x y _. empty-waits levels x y }, omega arith, omega arith)
 
 loop-holds : tie.Need-loop-holds Inv-loop μ-loop
 loop-holds c =
     let s = c .before .before .before .before .before .before .before .before .before .before .before .before in
     let f = c .before .before .before .before .before .before .start in
-    let j = c .before .join in (
-      state-start (s .args .table .now) (s .args .records .now) (s .pre .0) (s .args .marks) _ _ _ _ (f .kept .0 ∙ s .pre .2) (f .kept .1 .0 ∙ s .pre .3) (f .ensures) (j .ensures .0),
-      waiting-start (s .args .table .now) (s .args .records .now) (s .pre .0) (s .args .marks) _ _ _ _ (f .kept .0 ∙ s .pre .2) (f .kept .1 .0 ∙ s .pre .3) (f .ensures) (j .ensures .0) refl _ (j .ensures .1),
+    let j = c .before .join in
+    let room : Room _ _ = record { limits = f .kept .0 ∙ s .pre .1 .limits; parents = f .kept .1 .0 ∙ s .pre .1 .parents } in (
+      state-start (s .args .table .now) (s .args .records .now) (s .pre .0 .lent) (s .args .marks) _ _ _ _ room (f .ensures) (j .ensures .0),
+      waiting-start (s .args .table .now) (s .args .records .now) (s .pre .0 .lent) (s .args .marks) _ _ _ _ room (f .ensures) (j .ensures .0) refl _ (j .ensures .1),
       omega arith,
     )
 
 slice-aggregate-take : tie.Need-slice-aggregate-take Inv-loop μ-loop
-slice-aggregate-take c = sym (c .before .before .loop .inv .1 .size)
+slice-aggregate-take c = sym (c .before .before .loop .inv .1 .queue .size)
 
 sub-take : tie.Need-sub-take Inv-loop μ-loop
 sub-take c = omega (arith, c .before .loop-test .taken)
 
 take-requires : tie.Need-take-requires Inv-loop μ-loop
-take-requires c κs = (c .before .before .loop .inv .1 .size, omega (arith, c .before .before .loop .inv .2))
+take-requires c κs = (c .before .before .loop .inv .1 .queue .size, omega (arith, c .before .before .loop .inv .2))
 
 sub-past : tie.Need-sub-past Inv-loop μ-loop
 sub-past c = omega (arith, c .before .before .before .before .loop-test .taken)
@@ -62,7 +65,7 @@ loop-less c =
     let v = c .before .before .before .before .before .loop in
     let n = taken-none (v .waiting) _ (v .past - 1) _ (c .before .before .take .ensures) (c .if1 .taken) in
     subst (λ (q : List ℕ). measure (v .limits) q (v .past - 1) < measure (v .limits) (v .waiting) (v .past)) (sym (n .1))
-    (lower-less (s .args .table .now) (s .args .records .now) (s .pre .0) (s .args .marks) (v .limits) (v .parents) (v .waiting) (v .past) (omega (arith, c .before .before .before .before .loop-test .taken)) (v .inv .0))
+    (lower-less (s .args .table .now) (s .args .records .now) (s .pre .0 .lent) (s .args .marks) (v .limits) (v .parents) (v .waiting) (v .past) (omega (arith, c .before .before .before .before .loop-test .taken)) (v .inv .0))
 
 loop-again : tie.Need-loop-again Inv-loop μ-loop
 loop-again c =
@@ -71,8 +74,8 @@ loop-again c =
     let n = taken-none (v .waiting) _ (v .past - 1) _ (c .before .before .take .ensures) (c .if1 .taken) in
     let e : 0 < v .past = omega (arith, c .before .before .before .before .loop-test .taken) in
     subst
-    (λ (q : List ℕ). State (s .args .table .now) (s .args .records .now) (s .args .marks) (isSettled (v .limits) q) (v .past - 1) (v .limits) (v .parents) q [] × Waiting (v .limits) q (v .low) × (v .past - 1 ≤ 256)) (sym (n .1))
-    (state-lower (s .args .table .now) (s .args .records .now) (s .pre .0) (s .args .marks) (v .limits) (v .parents) (v .waiting) (v .past) e (v .inv .0) (n .0), v .inv .1, omega (arith, v .inv .2))
+    (λ (q : List ℕ). State (s .args .table .now) (s .args .records .now) (s .args .marks) (isSettled (v .limits) q) (v .past - 1) (v .limits) (v .parents) q [] × Waiting (v .limits) q (v .low) × (v .past - 1 ≤ levels)) (sym (n .1))
+    (state-lower (s .args .table .now) (s .args .records .now) (s .pre .0 .lent) (s .args .marks) (v .limits) (v .parents) (v .waiting) (v .past) e (v .inv .0) (n .0), v .inv .1, omega (arith, v .inv .2))
 
 mul-if2 : tie.Need-mul-if2 Inv-loop μ-loop
 mul-if2 c =
@@ -94,7 +97,7 @@ slice-aggregate-relax-giver : tie.Need-slice-aggregate-relax-giver Inv-loop μ-l
 slice-aggregate-relax-giver c =
     let v = c .before .before .before .before .before .before .before .before .before .before .loop in
     let some = taken-some (v .waiting) _ (v .past - 1) _ (c .before .before .before .before .before .before .before .take .ensures) (c .before .before .before .before .before .if1 .left) in
-    sym (some .2 .size ∙ v .inv .1 .size)
+    sym (some .2 .size ∙ v .inv .1 .queue .size)
 
 relax-giver-requires : tie.Need-relax-giver-requires Inv-loop μ-loop
 relax-giver-requires c κs =
@@ -102,12 +105,12 @@ relax-giver-requires c κs =
     let v = c .before .before .before .before .before .before .before .before .before .before .loop in
     let some = taken-some (v .waiting) _ (v .past - 1) _ (c .before .before .before .before .before .before .before .take .ensures) (c .before .before .before .before .before .if1 .left) in (
       s .pre .0,
-      s .pre .1,
       some .0,
-      state-top (s .args .table .now) (s .pre .0 .rule) (s .args .records .now) (s .args .marks) (isSettled (v .limits) (v .waiting)) (v .past) (v .limits) (v .parents) (v .waiting) [] (v .inv .0) (c .before .before .before .before .before .before .before .take .result),
-      v .inv .0 .limits,
-      v .inv .0 .parents,
-      waiting-taken (v .limits) (v .waiting) _ (v .past - 1) _ (v .low) (v .inv .1) (some .2) (omega (arith, c .before .before .before .before .before .before .before .before .before .loop-test .taken)),
+      record {
+        most = state-top (s .args .table .now) (s .pre .0 .lent .rule) (s .args .records .now) (s .args .marks) (isSettled (v .limits) (v .waiting)) (v .past) (v .limits) (v .parents) (v .waiting) [] (v .inv .0) (c .before .before .before .before .before .before .before .take .result);
+        room = record { limits = v .inv .0 .limits; parents = v .inv .0 .parents };
+        waiting = waiting-taken (v .limits) (v .waiting) _ (v .past - 1) _ (v .low) (v .inv .1) (some .2) (omega (arith, c .before .before .before .before .before .before .before .before .before .loop-test .taken));
+      },
     )
 
 loop-less-2 : tie.Need-loop-less-2 Inv-loop μ-loop
@@ -119,7 +122,7 @@ loop-less-2 c =
     let e : 0 < v .past = omega (arith, c .before .before .before .before .before .before .before .before .before .before .before .before .before .before .loop-test .taken) in
     let here : getD (v .limits) u none ≡ pos (v .past - 1) = sym (read-limit (v .limits) u (omega (arith, some .0, v .inv .0 .limits)) (c .before .before .before .before .before .before .before .before .before .if22 .given)) ∙ ap (toZ w16) (c .before .before .before .before .before .before .before .before .if2 .taken) ∙ toZ-ofZ {w = w16} (record { sfits = omega (arith, v .inv .2) }) in
     let f = c .before .before .before .before .relax-giver in
-    settle-less (s .args .table .now) (s .args .records .now) (s .pre .0) (s .args .marks) (v .limits) (v .parents) (v .waiting) (v .past) e (v .inv .0) u _ (some .2) (some .0) (some .1) here _ _ _ (f .ensures .0) (v .inv .2)
+    settle-less (s .args .table .now) (s .args .records .now) (s .pre .0 .lent) (s .args .marks) (v .limits) (v .parents) (v .waiting) (v .past) e (v .inv .0) u _ (some .2) (some .0) (some .1) here _ _ _ (f .ensures .0) (v .inv .2)
 
 loop-again-2 : tie.Need-loop-again-2 Inv-loop μ-loop
 loop-again-2 c =
@@ -130,7 +133,7 @@ loop-again-2 c =
     let e : 0 < v .past = omega (arith, c .before .before .before .before .before .before .before .before .before .before .before .before .before .before .loop-test .taken) in
     let here : getD (v .limits) u none ≡ pos (v .past - 1) = sym (read-limit (v .limits) u (omega (arith, some .0, v .inv .0 .limits)) (c .before .before .before .before .before .before .before .before .before .if22 .given)) ∙ ap (toZ w16) (c .before .before .before .before .before .before .before .before .if2 .taken) ∙ toZ-ofZ {w = w16} (record { sfits = omega (arith, v .inv .2) }) in
     let f = c .before .before .before .before .relax-giver in
-    (state-settle (s .args .table .now) (s .args .records .now) (s .pre .0) (s .args .marks) (v .limits) (v .parents) (v .waiting) (v .past) e (v .inv .0) u _ (some .2) (some .0) (some .1) here _ _ _ (f .ensures .0), f .ensures .1, v .inv .2)
+    (state-settle (s .args .table .now) (s .args .records .now) (s .pre .0 .lent) (s .args .marks) (v .limits) (v .parents) (v .waiting) (v .past) e (v .inv .0) u _ (some .2) (some .0) (some .1) here _ _ _ (f .ensures .0), f .ensures .1, v .inv .2)
 
 loop-less-3 : tie.Need-loop-less-3 Inv-loop μ-loop
 loop-less-3 c =
@@ -140,7 +143,7 @@ loop-less-3 c =
     let some = taken-some (v .waiting) _ (v .past - 1) u (c .before .before .before .before .take .ensures) (c .before .before .if1 .left) in
     let e : 0 < v .past = omega (arith, c .before .before .before .before .before .before .loop-test .taken) in
     let raised : getD (v .limits) u none ≢ pos (v .past - 1) = λ z. c .if2 .left (ap (ofZ w16) (getD-within (v .limits) u (pos 0) none (omega (arith, some .0, v .inv .0 .limits)) ∙ z)) in
-    stale-less (s .args .table .now) (s .args .records .now) (s .pre .0) (s .args .marks) (v .limits) (v .parents) (v .waiting) (v .past) e (v .inv .0) u _ (some .2) raised (some .0) (some .1)
+    stale-less (s .args .table .now) (s .args .records .now) (s .pre .0 .lent) (s .args .marks) (v .limits) (v .parents) (v .waiting) (v .past) e (v .inv .0) u _ (some .2) raised (some .0) (some .1)
 
 loop-again-3 : tie.Need-loop-again-3 Inv-loop μ-loop
 loop-again-3 c =
@@ -150,22 +153,22 @@ loop-again-3 c =
     let some = taken-some (v .waiting) _ (v .past - 1) u (c .before .before .before .before .take .ensures) (c .before .before .if1 .left) in
     let e : 0 < v .past = omega (arith, c .before .before .before .before .before .before .loop-test .taken) in
     let raised : getD (v .limits) u none ≢ pos (v .past - 1) = λ z. c .if2 .left (ap (ofZ w16) (getD-within (v .limits) u (pos 0) none (omega (arith, some .0, v .inv .0 .limits)) ∙ z)) in (
-      state-stale (s .args .table .now) (s .args .records .now) (s .pre .0) (s .args .marks) (v .limits) (v .parents) (v .waiting) (v .past) e (v .inv .0) u _ (some .2) raised,
+      state-stale (s .args .table .now) (s .args .records .now) (s .pre .0 .lent) (s .args .marks) (v .limits) (v .parents) (v .waiting) (v .past) e (v .inv .0) u _ (some .2) raised,
       waiting-taken (v .limits) (v .waiting) _ (v .past - 1) u (v .low) (v .inv .1) (some .2) (omega (arith, c .before .before .before .before .before .before .loop-test .taken)),
       v .inv .2,
     )
 
 same-length : tie.Need-same-length Inv-loop μ-loop
-same-length c = c .before .loop .inv .0 .limits ∙ sym (c .before .before .before .before .before .before .before .before .before .before .before .before .before .before .pre .2)
+same-length c = c .before .loop .inv .0 .limits ∙ sym (c .before .before .before .before .before .before .before .before .before .before .before .before .before .before .pre .1 .limits)
 
 same-length-2 : tie.Need-same-length-2 Inv-loop μ-loop
-same-length-2 c = c .before .loop .inv .0 .parents ∙ sym (c .before .before .before .before .before .before .before .before .before .before .before .before .before .before .pre .3)
+same-length-2 c = c .before .loop .inv .0 .parents ∙ sym (c .before .before .before .before .before .before .before .before .before .before .before .before .before .before .pre .1 .parents)
 
 returns : tie.Need-returns Inv-loop μ-loop
 returns c =
     let s = c .before .before .before .before .before .before .before .before .before .before .before .before .before .before in
     let v = c .before .loop in
-    state-end (s .args .table .now) (s .args .records .now) (s .pre .0) (s .args .marks) (v .limits) (v .parents) (v .waiting) (v .past) (v .low) (v .inv .0) (v .inv .1 .lowest) (omega (arith, c .loop-test .left))
+    state-end (s .args .table .now) (s .args .records .now) (s .pre .0 .lent) (s .args .marks) (v .limits) (v .parents) (v .waiting) (v .past) (v .low) (v .inv .0) (v .inv .1 .queue .lowest) (omega (arith, c .loop-test .left))
 
 pub search-spec : {M : Type 1} → statement M
 search-spec =

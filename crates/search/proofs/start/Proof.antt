@@ -3,23 +3,23 @@ use mathlib.Core.Path.{_≡_}
 use Prim.Native.Nat.{ℕ, _-_, _≤_, _<_}
 use native.Mathlib.Nat.{not-suc-le-zero}
 use native.Mathlib.Omega.{arith}
-use lib.ListN.{length-set, length, getD}
+use lib.ListN.{length-set, getD}
 use Rattle.rules.specs.Limit.{none}
+use Rattle.block.specs.Layout.{mostSubjects}
+use Rattle.runs.specs.Lent.{Room}
 use Rattle.search.proofs.Fill.{filled-more, started}
 use Rattle.search.proofs.start.Statement.{statement}
 use Rattle.search.proofs.start.Tie as tie
 
 abbrev Inv-loop : tie.InvT-loop
 Inv-loop limits₀ parents₀ i₀ limits parents i =
-    (i ≤ 64) × (length limits ≡ 64) × (length parents ≡ 64) × ((y : ℕ) → y < i → getD limits y none ≡ none) × ((y : ℕ) → y < i → getD parents y 0 ≡ 0)
+    (i ≤ mostSubjects) × Room limits parents × ((y : ℕ) → y < i → getD limits y none ≡ none) × ((y : ℕ) → y < i → getD parents y 0 ≡ 0)
 
 abbrev μ-loop : tie.MeasureT-loop
-μ-loop limits₀ parents₀ i₀ limits parents i = 64 - i
+μ-loop limits₀ parents₀ i₀ limits parents i = mostSubjects - i
 
 loop-holds : tie.Need-loop-holds Inv-loop μ-loop
-loop-holds c =
-    let q = c .pre in
-    (omega arith, q .0, q .1, (λ y h. absurd (not-suc-le-zero h)), (λ y h. absurd (not-suc-le-zero h)))
+loop-holds c = (omega arith, c .pre, (λ y h. absurd (not-suc-le-zero h)), (λ y h. absurd (not-suc-le-zero h)))
 
 mul-limits : tie.Need-mul-limits Inv-loop μ-loop
 mul-limits c = omega arith
@@ -43,10 +43,9 @@ loop-again : tie.Need-loop-again Inv-loop μ-loop
 loop-again c =
     let v = c .before .loop in (
       omega arith,
-      simp length-set (v .inv .1),
-      simp length-set (v .inv .2),
-      filled-more (v .limits) (v .i) none none (omega arith) (v .inv .3),
-      filled-more (v .parents) (v .i) 0 0 (omega arith) (v .inv .4),
+      record { limits = simp length-set (v .inv .1 .limits); parents = simp length-set (v .inv .1 .parents) },
+      filled-more (v .limits) (v .i) none none (omega arith) (v .inv .2),
+      filled-more (v .parents) (v .i) 0 0 (omega arith) (v .inv .3),
     )
 
 slice-set-of-limits-2 : tie.Need-slice-set-of-limits-2 Inv-loop μ-loop
@@ -61,7 +60,7 @@ same-length-2 c = omega arith
 returns : tie.Need-returns Inv-loop μ-loop
 returns c =
     let v = c .before .loop in
-    started (v .limits) (v .parents) (v .inv .1) (v .inv .2) (λ y h. v .inv .3 y (omega arith)) (λ y h. v .inv .4 y (omega arith))
+    started (v .limits) (v .parents) (v .inv .1) (λ y h. v .inv .2 y (omega arith)) (λ y h. v .inv .3 y (omega arith))
 
 pub start-spec : {M : Type 1} → statement M
 start-spec =

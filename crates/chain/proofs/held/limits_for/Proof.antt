@@ -22,7 +22,7 @@ slice-aggregate-limits-for-2 c = search needs
 limits-for-requires : tie.Need-limits-for-requires
 limits-for-requires c κs =
     let p = c .before .before .before .before .before .before .before .before .before .before .pre in
-    rw (c .before .before .before .before .before .before .before .steps .ensures) (p .0, c .before .before .before .before .before .starts-of .ensures, steps-rule, p .1, p .2, p .3)
+    rw (c .before .before .before .before .before .before .before .steps .ensures) (record { block = record { formed = p .0; rule = steps-rule }; starts = c .before .before .before .before .before .starts-of .ensures }, p .1, record { limits = p .2; parents = p .3 })
 
 same-length : tie.Need-same-length
 same-length c = search needs

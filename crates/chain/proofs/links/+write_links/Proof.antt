@@ -1,5 +1,5 @@
 -- `chain::links::write_links` meets its contract. The measure is the number of links that may still be written. Assumes nothing.
-use mathlib.Core.Path.{ap}
+use mathlib.Core.Path.{ap, _∙_}
 use Prim.Native.Nat.{_+_, _*_, _-_, _/_, _≤_, ℕ, _<_}
 use native.Mathlib.Omega.{arith}
 use borrow.Author.Needs.{needs}
@@ -7,9 +7,8 @@ use borrow.Fn.PlainCycle.{Measures, is, falls, and}
 use lib.ListN.{length, getD, length-set}
 use Rattle.rules.specs.Register.{Delegation}
 use Rattle.search.specs.Search.{parentIn}
-use Rattle.runs.specs.Steps.{recordAt}
-use Rattle.runs.specs.Lent.{delegationsIn}
-use Rattle.runs.proofs.Records.{delegation-mem}
+use Rattle.runs.specs.Lent.{recordAt, delegationsIn}
+use Rattle.runs.proofs.Records.{receiver-at, giver-at, delegation-mem}
 use Rattle.chain.proofs.Ready.{parent-record}
 use Rattle.chain.proofs.LinkBytes.{links-short, written-left, written-owner, written-more}
 use borrow.Fn.Kinds.{In}
@@ -127,13 +126,13 @@ write-links-write-links-requires : (t : ℕ) → write-links-lts.Need-write-link
 ) (write-links-at t) write-links.Post
 write-links-write-links-requires t c κs =
     let s = c .before .before .before .before .before .before .before .before .before in
-    let below = s .pre .1 .0 .givers (recordAt (s .args .records .now) (8 * getD (s .args .parents .now) (s .args .subject) 0))
+    let below = s .pre .1 .0 .givers (recordAt (s .args .records .now) (getD (s .args .parents .now) (s .args .subject) 0))
     (delegation-mem (s .args .records .now) (length (s .args .records .now) / 8) (getD (s .args .parents .now) (s .args .subject) 0) (write-links-placed t (c .before .before .before .before))) in (
       omega arith,
       (
         record {
           size = s .pre .1 .0 .size;
-          subject = below;
+          subject = omega (arith, below, giver-at (s .args .records .now) (getD (s .args .parents .now) (s .args .subject) 0));
           placed = λ n. s .pre .1 .0 .placed (c .before .before .before .before .if2 .left);
           givers = s .pre .1 .0 .givers;
         },
@@ -190,9 +189,10 @@ write-links-returns-3 : (t : ℕ) → write-links-lts.Need-returns-3 (
 write-links-returns-3 t c =
     let s = c .before .before .before .before .before .before .before .before .before .before .before .before in
     let f = c .before .before .write-links in
+    let k = getD (s .args .parents .now) (s .args .subject) 0 in
     let e = parent-record (s .args .records .now) (s .args .parents .now) (s .args .subject) (write-links-placed t (c .before .before .before .before .before .before .before)) in
     written-more (parentIn (delegationsIn (s .args .records .now)) (s .args .parents .now)) (s .args .left) (s .args .subject) _ _ (f .result) (s .args .buf .now) _ (c .before .before .before .before .before .before .before .before .if1 .left) (c .before .before .before .before .before .before .before .if2 .left)
-    (ap (λ (d : Delegation). d .giver) e) (ap (λ (d : Delegation). d .receiver) e) (s .pre .1 .1) (f .ensures)
+    (ap (λ (d : Delegation). d .giver) e ∙ giver-at (s .args .records .now) k) (ap (λ (d : Delegation). d .receiver) e ∙ receiver-at (s .args .records .now) k) (s .pre .1 .1) (f .ensures)
 
 pub +write-links-spec : {M : Type 1} → statement M
 +write-links-spec = close μ-write-links λ t. write-links-lts.spec (

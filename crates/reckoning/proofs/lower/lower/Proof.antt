@@ -50,7 +50,7 @@ use denote.Triple.Spec.{Meets, tripleOf}
 use denote.Triple.Table.{entered, cited}
 use denote.Triple.Walked.{says, Stays, stay-slice, stay-none-slice, walkOf, AllGo, goes-slice, goes-none-slice, Walks, ends-at, walked, walk-meets}
 use denote.Exit.{yes}
-use Rattle.reckoning.specs.Reckoned.{loweredTo, lowerOne, noEntry}
+use Rattle.reckoning.specs.Reckoned.{loweredTo, lowerOne, noneDecoded}
 use Rattle.reckoning.specs.declared.Delegation.{Delegation}
 use Rattle.reckoning.proofs.Delegation as T
 use Rattle.reckoning.proofs.Delegation.Laws as T′
@@ -113,10 +113,10 @@ module _ {M : Type 1} (𝓤 : URA M) (H : Heap 𝓤) (A : Atoms 𝓤) (W : Given
 
   -- the run with i elements lowered, element i of that, its weight after the round, and it with that
   abbrev run-at : ℕ → List Delegation
-  run-at i = eachTo (lowerOne (reaches .now)) noEntry i ys
+  run-at i = eachTo (lowerOne (reaches .now)) noneDecoded i ys
 
   abbrev h : ℕ → Delegation
-  h i = getD (run-at i) i noEntry
+  h i = getD (run-at i) i noneDecoded
 
   abbrev w : Delegation → ℤ
   w d = loweredTo (reaches .now) (d .giver) (d .receiver) (d .weight)
@@ -168,12 +168,12 @@ module _ {M : Type 1} (𝓤 : URA M) (H : Heap 𝓤) (A : Atoms 𝓤) (W : Given
   Had i = ‵ (fobs γ (codedHoleys R .code (heres R (run-at i)))) ∷ ‵ (fbor κ (Held R (length (run-at i)) b o γ)) ∷ ‵ (flft κ q) ∷ ‵ (flft κ′ q′) ∷ ‵ Shr ∷ []
 
   long : (i : ℕ) → length (run-at i) ≡ n
-  long i = as-long (lowerOne (reaches .now)) noEntry i ys
+  long i = as-long (lowerOne (reaches .now)) noneDecoded i ys
 
   exits : (i : ℕ) → i ≡ n → Room R n → ent 𝓤 (⋆ 𝓤 H A (Had i)) (Post vunit)
   exits i e room =
       qed W (Had i) ∵
-      suffices ! _ (ends-at 𝓤 H A f.ended stayed (f.clauses 𝓤 H A mem run) W (((κ, (κ′, tt)), (q, (q′, tt)), bounds, x, at), tt) vunit tt (run-at i, (tt, tt)) (long i, (tt, tt))) $ says ! (ap run-at e ∙ each-all (lowerOne (reaches .now)) noEntry ys) $
+      suffices ! _ (ends-at 𝓤 H A f.ended stayed (f.clauses 𝓤 H A mem run) W (((κ, (κ′, tt)), (q, (q′, tt)), bounds, x, at), tt) vunit tt (run-at i, (tt, tt)) (long i, (tt, tt))) $ says ! (ap run-at e ∙ each-all (lowerOne (reaches .now)) noneDecoded ys) $
       nothing ! $ move ! (4 ∷ 0 ∷ []) $ join ! $ move ! (3 ∷ 0 ∷ []) $ join ! $ frame ! $
       fjoin ! $ pureI ! (at-slice R (y i) (at .0)) (tt, (tt, tt)) (ap (λ (m : ℕ). sliceVal (b, o) m ∷ []) (sym (long i)), subst (Room R) (sym (long i)) room) $ fjoin ! $
       move ! (1 ∷ []) $ nothing ! $ move ! (1 ∷ 0 ∷ []) $ fjoin ! $ move ! (1 ∷ 0 ∷ []) $ fjoin ! $ frame ! $
@@ -235,7 +235,7 @@ module _ {M : Type 1} (𝓤 : URA M) (H : Heap 𝓤) (A : Atoms 𝓤) (W : Given
         assigns ! (bin ! (load ! (from ! (stop !)) (look ! 3 refl)) (lit ! tt) (record { fits = offset-fits (room .1) (less held) })) (from ! (stop !)) (store ! 6 refl (tt, record { fits = offset-fits (room .1) (less held) })) $
         assigns ! (bin ! (load ! (from ! (fld ! refl (stop !))) (look-in ! 11 (sub ! 0 refl (whole !)))) (load ! (from ! (stop !)) (look ! 6 refl)) tt) (from ! (stop !)) (init ! 8 refl (tt, tt)) $
         rewrite ! 8 (λ (p : ℕ). ‵ (fat fullShare tyPtr l₈ 0 (vptr b p))) (sym (place-is 8 o (i .0))) refl $
-        elem-out ! R (Is R) (shows 𝓤 H A R) (LL.vals T.the-type T′.the-laws) (LL.tells T.the-type T′.the-laws) fullShare (run-at (i .0)) (i .0) noEntry b o (within (i .0) (less held)) (λ was.
+        elem-out ! R (Is R) (shows 𝓤 H A R) (LL.vals T.the-type T′.the-laws) (LL.tells T.the-type T′.the-laws) fullShare (run-at (i .0)) (i .0) noneDecoded b o (within (i .0) (less held)) (λ was.
         -- the cell stands at the raw form of the struct's type (`Mir/Raw.antt`), and is read whole at the type itself
         use1 W (‵ (fat fullShare T′.mir b (place 8 o (i .0)) (mach (h (i .0)) (h (i .0) .weight)))) (W .laws .raw-at fullShare T′.mir b (place 8 o (i .0)) (mach (h (i .0)) (h (i .0) .weight))) $
         -- [ds[i]; what it owns; the others; the token; reaches; local k at k + 2; ds 13; its local 14; room for _0 15; …]

@@ -10,7 +10,7 @@ use lib.Signed.{ltZ}
 use lib.ListN.{length, getD, length-set}
 use Rattle.block.specs.Records.{delegationAt}
 use Rattle.rules.proofs.Signed.{kept}
-use Rattle.reckoning.specs.Reckoned.{noEntry, WeightsRead}
+use Rattle.reckoning.specs.Reckoned.{noneDecoded, WeightsRead}
 use Rattle.reckoning.proofs.Lowering.{read-none, read-less, read-same}
 use Rattle.reckoning.proofs.lower.read_weights.Statement.{statement}
 use Rattle.reckoning.proofs.lower.read_weights.Tie as tie
@@ -55,7 +55,7 @@ loop-again c =
     let l = c .before .before .before .before .before .loop in
     let s = c .before .before .before .before .before .before .before in
     let f = delegationAt (s .args .block .now) in
-    let v = getD (s .args .t2) (l .k) noEntry .weight in
+    let v = getD (s .args .t2) (l .k) noneDecoded .weight in
     let e = toZ-ofZ {w = w16} {z = v} record { sfits = c .before .before .struct-told .given .1 .1 .0 .1 } in
     let room : l .k < length (l .weights) = omega arith in
     let b = toZ-pos w16 {n = c .before .weight .result} (omega (arith, c .before .weight .ok)) ∙ ap pos (c .before .weight .ensures) in

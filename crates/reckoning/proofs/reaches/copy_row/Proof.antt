@@ -6,19 +6,20 @@ use mir.Syntax.{w16}
 use mir.Facts.{toZ-ofZ}
 use lib.IntN.{pos}
 use lib.ListN.{length, getD, length-set}
-use Rattle.reckoning.specs.Reckoned.{Copied}
+use Rattle.block.specs.Layout.{mostSubjects}
+use Rattle.reckoning.specs.Reckoned.{reachCount, PlacesCopied}
 use Rattle.reckoning.proofs.Filling.{copied-none, copied-on}
 use Rattle.reckoning.proofs.reaches.copy_row.Statement.{statement}
 use Rattle.reckoning.proofs.reaches.copy_row.Tie as tie
 
 abbrev Inv-loop : tie.InvT-loop
-Inv-loop reaches₀ from to i₀ reaches i = (length reaches ≡ 4096) × (i ≤ 64) × Copied (64 * from) (64 * to) i reaches₀ reaches
+Inv-loop reaches₀ from to i₀ reaches i = (length reaches ≡ reachCount) × (i ≤ mostSubjects) × PlacesCopied (mostSubjects * from) (mostSubjects * to) i reaches₀ reaches
 
 abbrev μ-loop : tie.MeasureT-loop
-μ-loop reaches₀ from to i₀ reaches i = 64 - i
+μ-loop reaches₀ from to i₀ reaches i = mostSubjects - i
 
 loop-holds : tie.Need-loop-holds Inv-loop μ-loop
-loop-holds c = (c .pre .2, omega arith, copied-none (64 * c .args .from) (64 * c .args .to) (c .args .reaches .now))
+loop-holds c = (c .pre .2, omega arith, copied-none (mostSubjects * c .args .from) (mostSubjects * c .args .to) (c .args .reaches .now))
 
 mul-reach : tie.Need-mul-reach Inv-loop μ-loop
 mul-reach c = omega arith
@@ -54,8 +55,8 @@ loop-again : tie.Need-loop-again Inv-loop μ-loop
 loop-again c =
     let a = c .before .before .before .args in
     let l = c .before .before .loop in
-    let e = toZ-ofZ {w = w16} {z = getD (l .reaches) (64 * a .from + l .i) (pos 0)} record { sfits = c .reach .given } in
-    (simp length-set (l .inv .0), omega arith, copied-on (64 * a .from) (64 * a .to) (l .i) (a .reaches .now) (l .reaches) _ (omega arith) (omega arith) e (l .inv .2))
+    let e = toZ-ofZ {w = w16} {z = getD (l .reaches) (mostSubjects * a .from + l .i) (pos 0)} record { sfits = c .reach .given } in
+    (simp length-set (l .inv .0), omega arith, copied-on (mostSubjects * a .from) (mostSubjects * a .to) (l .i) (a .reaches .now) (l .reaches) _ (omega arith) (omega arith) e (l .inv .2))
 
 same-length : tie.Need-same-length Inv-loop μ-loop
 same-length c = c .before .loop .inv .0 ∙ sym (c .before .before .pre .2)
@@ -64,7 +65,7 @@ returns : tie.Need-returns Inv-loop μ-loop
 returns c =
     let a = c .before .before .args in
     let l = c .before .loop in
-    subst (λ (n : ℕ). Copied (64 * a .from) (64 * a .to) n (a .reaches .now) (l .reaches)) (omega (arith, l .inv .1)) (l .inv .2)
+    subst (λ (n : ℕ). PlacesCopied (mostSubjects * a .from) (mostSubjects * a .to) n (a .reaches .now) (l .reaches)) (omega (arith, l .inv .1)) (l .inv .2)
 
 pub copy-row-spec : {M : Type 1} → statement M
 copy-row-spec =

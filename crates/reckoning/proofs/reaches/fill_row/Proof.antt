@@ -21,13 +21,13 @@ abbrev μ-loop : tie.MeasureT-loop
 count-requires : tie.Need-count-requires Inv-loop μ-loop
 count-requires c κs =
     let s = c .before .before in
-    omega (arith, size-held (s .args .block .now) (fits-bytes (s .args .block .now) (c .before .shared-slice-known .given)) (s .pre .0))
+    omega (arith, size-held (s .args .block .now) (fits-bytes (s .args .block .now) (c .before .shared-slice-known .given)) (s .pre .0 .block .formed))
 
 marks-requires : tie.Need-marks-requires Inv-loop μ-loop
 marks-requires c κs =
     let s = c .before .before .before in
-    let r = rules-of (s .args .block .now) (fits-bytes (s .args .block .now) (c .before .before .shared-slice-known .given)) (s .pre .0) in
-    omega (arith, r .size, r .most, s .pre .3)
+    let r = rules-of (s .args .block .now) (fits-bytes (s .args .block .now) (c .before .before .shared-slice-known .given)) (s .pre .0 .block .formed) in
+    omega (arith, r .size, r .most, s .pre .1)
 
 loop-holds : tie.Need-loop-holds Inv-loop μ-loop
 loop-holds c = (omega arith, refl)
@@ -41,13 +41,13 @@ cast-marks c = search needs
 marks-requires-2 : tie.Need-marks-requires-2 Inv-loop μ-loop
 marks-requires-2 c κs =
     let s = c .before .before .before .before .before .before in
-    let r = rules-of (s .args .block .now) (fits-bytes (s .args .block .now) (c .before .before .before .before .before .shared-slice-known .given)) (s .pre .0) in
-    omega (arith, r .size, r .most, s .pre .3, c .before .loop .inv .0)
+    let r = rules-of (s .args .block .now) (fits-bytes (s .args .block .now) (c .before .before .before .before .before .shared-slice-known .given)) (s .pre .0 .block .formed) in
+    omega (arith, r .size, r .most, s .pre .1, c .before .loop .inv .0)
 
 receives-requires : tie.Need-receives-requires Inv-loop μ-loop
 receives-requires c κs =
     let s = c .before .before .before .before .before .before .before .before in
-    let r = rules-of (s .args .block .now) (fits-bytes (s .args .block .now) (c .before .before .before .before .before .before .before .shared-slice-known .given)) (s .pre .0) in
+    let r = rules-of (s .args .block .now) (fits-bytes (s .args .block .now) (c .before .before .before .before .before .before .before .shared-slice-known .given)) (s .pre .0 .block .formed) in
     omega (arith, r .size, r .few, c .before .before .before .before .before .count .ensures)
 
 cast-copy-row : tie.Need-cast-copy-row Inv-loop μ-loop
@@ -57,8 +57,8 @@ copy-row-requires : tie.Need-copy-row-requires Inv-loop μ-loop
 copy-row-requires c κs =
     let l = c .before .before .before .before .before in
     let s = l .before .before .before .before .before .before in
-    let r = rules-of (s .args .block .now) (fits-bytes (s .args .block .now) (l .before .before .before .before .before .shared-slice-known .given)) (s .pre .0) in
-    (omega (arith, l .loop-test .taken, l .before .loop .inv .0), omega (arith, r .most, s .pre .3), ap length (l .before .loop .inv .1) ∙ s .pre .4)
+    let r = rules-of (s .args .block .now) (fits-bytes (s .args .block .now) (l .before .before .before .before .before .shared-slice-known .given)) (s .pre .0 .block .formed) in
+    (omega (arith, l .loop-test .taken, l .before .loop .inv .0), omega (arith, r .most, s .pre .1), ap length (l .before .loop .inv .1) ∙ s .pre .2 .size)
 
 same-length : tie.Need-same-length Inv-loop μ-loop
 same-length c = c .before .copy-row .kept .0 ∙ ap length (c .before .before .before .before .before .before .before .before .loop .inv .1)
@@ -76,9 +76,9 @@ returns c =
     let at-other = c .before .before .before .before .before .before .marks2 in
     let at-if = c .before .before .before .before .before .if1 in
     let at-receives = c .before .before .before .before .receives in
-    let e = sym (marks-held b g (s .pre .0) j (omega (arith, o, s .pre .3))) ∙ sym (at-other .ensures) ∙ at-if .taken ∙ at-marks .ensures ∙ marks-held b g (s .pre .0) v (s .pre .3) in
-    let h = sym (receives-held b g (s .pre .0) j _ (at-receives .result) (l .before .before .before .count .ensures) (at-receives .ensures)) ∙ c .before .before .before .if2 .taken in
-    row-copied (s .args .table .now) (decode b) j v (s .args .reaches .now) (c .before .copy-row .last .0) (s .pre .5 j o h) e (rw (l .before .loop .inv .1) at (c .before .copy-row .ensures))
+    let e = sym (marks-held b g (s .pre .0 .block .formed) j (omega (arith, o, s .pre .1))) ∙ sym (at-other .ensures) ∙ at-if .taken ∙ at-marks .ensures ∙ marks-held b g (s .pre .0 .block .formed) v (s .pre .1) in
+    let h = sym (receives-held b g (s .pre .0 .block .formed) j _ (at-receives .result) (l .before .before .before .count .ensures) (at-receives .ensures)) ∙ c .before .before .before .if2 .taken in
+    row-copied (s .args .table .now) (decode b) j v (s .args .reaches .now) (c .before .copy-row .last .0) (s .pre .2 .rows j o h) e (rw (l .before .loop .inv .1) at (c .before .copy-row .ensures))
 
 loop-less : tie.Need-loop-less Inv-loop μ-loop
 loop-less c = omega arith
@@ -89,7 +89,7 @@ loop-again c = (omega arith, c .before .before .before .loop .inv .1)
 search-row-requires : tie.Need-search-row-requires Inv-loop μ-loop
 search-row-requires c κs =
     let s = c .before .before .before .before .before .before .before in
-    (s .pre .0, s .pre .1, s .pre .2, s .pre .3, ap length (c .before .before .loop .inv .1) ∙ s .pre .4)
+    (s .pre .0, s .pre .1, ap length (c .before .before .loop .inv .1) ∙ s .pre .2 .size)
 
 same-length-2 : tie.Need-same-length-2 Inv-loop μ-loop
 same-length-2 c = c .before .search-row .kept .1 .1 .1 .1 .0 ∙ ap length (c .before .before .before .before .loop .inv .1)

@@ -13,15 +13,15 @@ bytes c = fits-bytes (c .before .args .block .now) (c .shared-slice-known .given
 marks-requires : tie.Need-marks-requires
 marks-requires c κs =
     let s = c .before .before .before in
-    has-marks (s .args .block .now) (bytes (c .before .before)) (s .pre .0) (s .args .receiver) (s .pre .3)
+    has-marks (s .args .block .now) (bytes (c .before .before)) (s .pre .0 .block .formed) (s .args .receiver) (s .pre .1)
 
 records-requires : tie.Need-records-requires
-records-requires c κs = has-records (c .before .before .before .before .args .block .now) (bytes (c .before .before .before)) (c .before .before .before .before .pre .0)
+records-requires c κs = has-records (c .before .before .before .before .args .block .now) (bytes (c .before .before .before)) (c .before .before .before .before .pre .0 .block .formed)
 
 search-requires : tie.Need-search-requires
 search-requires c κs =
     let s = c .before .before .before .before .before .before .before in
-    rw (c .before .before .records .ensures) (lent-held (s .args .block .now) (bytes (c .before .before .before .before .before .before)) (s .pre .0) (s .args .table .now) (s .pre .2), s .pre .1, s .pre .4, s .pre .5)
+    rw (c .before .before .records .ensures) (record { lent = lent-held (s .args .block .now) (bytes (c .before .before .before .before .before .before)) (s .pre .0 .block .formed) (s .args .table .now) (s .pre .0 .block .rule); starts = s .pre .0 .starts }, s .pre .2)
 
 same-length : tie.Need-same-length
 same-length c = search needs
@@ -32,7 +32,7 @@ same-length-2 c = search needs
 returns : tie.Need-returns
 returns c =
     let s = c .before .before .before .before .before .before .before .before .before .before .before in
-    rw (c .before .before .before .before .before .before .records .ensures, c .before .before .before .before .before .before .before .marks .ensures, marks-held (s .args .block .now) (bytes (c .before .before .before .before .before .before .before .before .before .before)) (s .pre .0) (s .args .receiver) (s .pre .3)) at (c .before .before .before .search .ensures)
+    rw (c .before .before .before .before .before .before .records .ensures, c .before .before .before .before .before .before .before .marks .ensures, marks-held (s .args .block .now) (bytes (c .before .before .before .before .before .before .before .before .before .before)) (s .pre .0 .block .formed) (s .args .receiver) (s .pre .1)) at (c .before .before .before .search .ensures)
 
 pub limits-for-spec : {M : Type 1} → statement M
 limits-for-spec =

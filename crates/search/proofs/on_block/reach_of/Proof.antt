@@ -34,7 +34,7 @@ mul-result c =
     let a = s .args in
     let b = a .block .now in
     let bytes = fits-bytes b (c .before .before .before .before .before .before .before .before .before .shared-slice-known .given) in
-    omega (arith, rules-of b bytes (s .pre .0) .most, s .pre .1)
+    omega (arith, rules-of b bytes (s .pre .0 .formed) .most, s .pre .1)
 
 array-copy-out-result : tie.Need-array-copy-out-result
 array-copy-out-result c =
@@ -42,7 +42,7 @@ array-copy-out-result c =
     let a = s .args in
     let b = a .block .now in
     let bytes = fits-bytes b (c .before .before .before .before .before .before .before .before .before .shared-slice-known .given) in
-    omega (arith, rules-of b bytes (s .pre .0) .most, s .pre .1)
+    omega (arith, rules-of b bytes (s .pre .0 .formed) .most, s .pre .1)
 
 returns : tie.Need-returns
 returns c =
@@ -51,7 +51,7 @@ returns c =
     let b = a .block .now in
     let bytes = fits-bytes b (c .before .before .before .before .before .before .before .before .before .before .shared-slice-known .given) in
     let at-limits-for = c .before .before .before .limits-for in
-    toZ-ofZ {w = w16} record { sfits = c .result .given } ∙ reach-found b bytes (s .pre .0) (a .table .now) (a .receiver) (at-limits-for .last .1 .1 .1 .1 .0) (at-limits-for .last .1 .1 .1 .1 .1 .0) (at-limits-for .ensures) (a .giver) (omega (arith, rules-of b bytes (s .pre .0) .most, s .pre .1))
+    toZ-ofZ {w = w16} record { sfits = c .result .given } ∙ reach-found b bytes (s .pre .0 .formed) (a .table .now) (a .receiver) (at-limits-for .last .1 .1 .1 .1 .0) (at-limits-for .last .1 .1 .1 .1 .1 .0) (at-limits-for .ensures) (a .giver) (omega (arith, rules-of b bytes (s .pre .0 .formed) .most, s .pre .1))
 
 pub reach-of-spec : {M : Type 1} → statement M
 reach-of-spec =
