@@ -12,7 +12,7 @@ use lib.IntN.{pos}
 use Rattle.rules.specs.List.{_∈_, any}
 use Rattle.rules.specs.Limit.{none, code, _≼_, larger}
 use Rattle.rules.specs.Table.{next, step, steps}
-use Rattle.rules.specs.Register.{Delegation, Register}
+use Rattle.rules.specs.Register.{Delegation, Register, granted}
 use Rattle.rules.specs.Condition.{meets}
 use Rattle.rules.specs.Chain.{limitFrom, IsChain}
 use Rattle.rules.specs.Reach.{IsReach, goesOn, chains, reach}
@@ -28,6 +28,7 @@ use Rattle.rules.specs.History.{registerAt, CutRight, CutsRight}
 use Rattle.rules.specs.Examples.{P1, P2, P3-with, P4, P5, P6, entry, needing}
 use Rattle.rules.proofs.Lists.{T-both, eq→eqb, any-mem}
 use Rattle.rules.proofs.Table.{steps-rule}
+use Rattle.rules.proofs.AtMost.{AtMost-refl, AtMost-reweigh, at-giver, at-receiver}
 use Rattle.rules.proofs.Chains.{chain-owner}
 use Rattle.rules.proofs.Reach.{reach-only}
 use Rattle.rules.proofs.Support.{carried-chain, carried-allowed, allowed-carried}
@@ -89,18 +90,14 @@ P2-cut = P2-left (entry 0 2 3 ∷ entry 1 3 4 ∷ entry 2 3 2 ∷ entry 3 4 3 �
 abbrev P2-best : Register
 P2-best = P2-left (P2 .standing)
 
-module _ {d e : Delegation} (g : d .giver ≡ e .giver) (r : d .receiver ≡ e .receiver) (n : d .need ≡ e .need) (b : d .bar ≡ e .bar) (w : d .weight ≤ e .weight) where
-  atMost : AtMost d e
-  atMost = record { giver = g; receiver = r; need = n; bar = b; weight = w }
-
 P2-within : Within P2-best P2-cut
 P2-within = record { subjects = refl; marks = refl; held = at }
   where
     at : (d : Delegation) → d ∈ P2-best .delegations → (e : Delegation) × (e ∈ P2-cut .delegations) × AtMost d e
-    at d (List·Memᴰ·head q) = (entry 0 2 3, List·Memᴰ·head refl, subst (λ (x : Delegation). AtMost x (entry 0 2 3)) (sym q) (atMost refl refl refl refl (le-refl 3)))
-    at d (List·Memᴰ·tail (List·Memᴰ·head q)) = (entry 2 3 2, List·Memᴰ·tail (List·Memᴰ·tail (List·Memᴰ·head refl)), subst (λ (x : Delegation). AtMost x (entry 2 3 2)) (sym q) (atMost refl refl refl refl (le-refl 2)))
+    at d (List·Memᴰ·head q) = (entry 0 2 3, List·Memᴰ·head refl, subst (λ (x : Delegation). AtMost x (entry 0 2 3)) (sym q) (AtMost-refl (entry 0 2 3)))
+    at d (List·Memᴰ·tail (List·Memᴰ·head q)) = (entry 2 3 2, List·Memᴰ·tail (List·Memᴰ·tail (List·Memᴰ·head refl)), subst (λ (x : Delegation). AtMost x (entry 2 3 2)) (sym q) (AtMost-refl (entry 2 3 2)))
     at d (List·Memᴰ·tail (List·Memᴰ·tail (List·Memᴰ·head q))) =
-        (entry 3 4 3, List·Memᴰ·tail (List·Memᴰ·tail (List·Memᴰ·tail (List·Memᴰ·head refl))), subst (λ (x : Delegation). AtMost x (entry 3 4 3)) (sym q) (atMost refl refl refl refl (leb→le 1 3 tt)))
+        (entry 3 4 3, List·Memᴰ·tail (List·Memᴰ·tail (List·Memᴰ·tail (List·Memᴰ·head refl))), subst (λ (x : Delegation). AtMost x (entry 3 4 3)) (sym q) (AtMost-reweigh (entry 3 4 3) 1 (leb→le 1 3 tt)))
     at d (List·Memᴰ·tail (List·Memᴰ·tail (List·Memᴰ·tail m))) = absurd (List·Memᴰ·not-nil m)
 
 P2-supported : (d : Delegation) → d ∈ P2-best .delegations → pos (d .weight) ≼ allowed steps P2-best d
@@ -121,7 +118,7 @@ found : (d : Delegation) {e : Delegation} {es : List Delegation} → e ∈ es �
 found d {e} m a =
     any-mem (λ x. eqb (d .giver) (x .giver) && eqb (d .receiver) (x .receiver) && leb (d .weight) (x .weight)) m
     (T-both (eqb (d .giver) (e .giver) && eqb (d .receiver) (e .receiver)) (leb (d .weight) (e .weight))
-    (T-both (eqb (d .giver) (e .giver)) (eqb (d .receiver) (e .receiver)) (eq→eqb (a .giver)) (eq→eqb (a .receiver)))
+    (T-both (eqb (d .giver) (e .giver)) (eqb (d .receiver) (e .receiver)) (eq→eqb (at-giver a)) (eq→eqb (at-receiver a)))
     (le→leb (d .weight) (e .weight) (a .weight)))
 
 -- a best remainder holds what document 01 says is left
@@ -179,7 +176,7 @@ unfolding limitFrom
 not-none r = let h = r .bounds [] (chain-owner steps P6-register 1) in omega arith
 
 -- grant returns 16 before looking for a chain: P6
-pub not-sixteen : PlaceRight (callStep steps) (CutsRight steps) P6-register (grant 0 1 255 0 0) (refused 16 P6-register) → ⊥
+pub not-sixteen : PlaceRight (callStep steps) (CutsRight steps) P6-register (grant (granted 0 1 255 0 0)) (refused 16 P6-register) → ⊥
 unfolding larger next step steps meets limitFrom goesOn chains reach allowed passed held refusalOf accepted callStep
 not-sixteen r = let e : _≡_ {A = ℕ} 16 0 = ap (λ (o : Outcome). o .refusal) (r .outcome) in omega arith
 

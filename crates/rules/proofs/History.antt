@@ -33,7 +33,7 @@ module _ (t : List ℤ) (rule : TableRule t) where
   accepted-cut : (R : Register) (c : Call) (k : Change) → Makes c k → CutRight t (changed R k) (accepted t R c)
   unfolding accepted
   accepted-cut R (enrol m) k e = absurd e
-  accepted-cut R (grant g r w n b) k e = absurd e
+  accepted-cut R (grant d) k e = absurd e
   accepted-cut R (revoke y g r) k e = change-right R k (cutting (removal g r)) e
   accepted-cut R (downgrade y g r w) k e = change-right R k (cutting (lowering g r w)) e
   accepted-cut R (askReach g r) k e = absurd e

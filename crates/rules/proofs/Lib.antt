@@ -4,6 +4,7 @@ pub mod Table
 pub mod Signed
 pub mod Chains
 pub mod Reach
+pub mod AtMost
 pub mod Support
 pub mod Rounds
 pub mod WellFormed

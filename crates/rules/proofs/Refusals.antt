@@ -58,7 +58,7 @@ passes-of (p ∷ ps) h e n = go (p .1) (eqb (p .0) n) (passes-of ps (T-right (lt
 pub passes : (t : List ℤ) (R : Register) (c : Call) → refusalOf t R c ≡ 0 → Passes (passed c ++ held t R c)
 unfolding refusalOf passed held
 passes t R (enrol m) e = passes-of (passed (enrol m) ++ held t R (enrol m)) tt e
-passes t R (grant g r w n b) e = passes-of (passed (grant g r w n b) ++ held t R (grant g r w n b)) tt e
+passes t R (grant d) e = passes-of (passed (grant d) ++ held t R (grant d)) tt e
 passes t R (revoke y g r) e = passes-of (passed (revoke y g r) ++ held t R (revoke y g r)) tt e
 passes t R (downgrade y g r w) e = passes-of (passed (downgrade y g r w) ++ held t R (downgrade y g r w)) tt e
 passes t R (askReach g r) e = passes-of (passed (askReach g r) ++ held t R (askReach g r)) tt e
@@ -67,7 +67,7 @@ passes t R (askUse r) e = passes-of (passed (askUse r) ++ held t R (askUse r)) t
 pub passed-numbered : (c : Call) → T (numbered (passed c))
 unfolding passed
 passed-numbered (enrol m) = tt
-passed-numbered (grant g r w n b) = tt
+passed-numbered (grant d) = tt
 passed-numbered (revoke y g r) = tt
 passed-numbered (downgrade y g r w) = tt
 passed-numbered (askReach g r) = tt

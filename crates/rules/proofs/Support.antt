@@ -18,6 +18,7 @@ use Rattle.rules.specs.Chain.{Linked, receivers, limitFrom, limit, IsCha
 use Rattle.rules.specs.Reach.{reach}
 use Rattle.rules.specs.Support.{allowed, Carried}
 use Rattle.rules.specs.Remainder.{AtMost, Within}
+use Rattle.rules.proofs.AtMost.{at-giver, at-receiver, at-meets}
 use Rattle.rules.proofs.Limits.{next-mono, next-top}
 use Rattle.rules.proofs.Reach.{reach-bound, reach-attained}
 
@@ -65,8 +66,8 @@ module _ (t : List ℤ) (rule : TableRule t) where
   unfolding limitFrom
   lift-cons G m d e ds es at a h s = record {
     standing = stands;
-    ends = λ i. a .receiver i ∷ s .ends i;
-    linked = λ x u p. (sym (a .giver) ∙ p .0, s .linked (e .receiver) u (subst (λ (y : ℕ). Linked y ds u) (a .receiver) (p .1)));
+    ends = λ i. at-receiver a i ∷ s .ends i;
+    linked = λ x u p. (sym (at-giver a) ∙ p .0, s .linked (e .receiver) u (subst (λ (y : ℕ). Linked y ds u) (at-receiver a) (p .1)));
     met = meet;
     carries = λ k l p q. s .carries (next t k (d .weight)) (next t l (e .weight)) (next-mono t rule k l (d .weight) (e .weight) p q (a .weight)) (next-top t rule l (e .weight) q);
   }
@@ -75,11 +76,8 @@ module _ (t : List ℤ) (rule : TableRule t) where
       stands x (List·Memᴰ·head i) = subst (λ (y : Delegation). y ∈ G .delegations) (sym i) at
       stands x (List·Memᴰ·tail i) = s .standing x i
 
-      here : T (meets m (e .need) (e .bar))
-      here = subst (λ (y : ℕ). T (meets m (e .need) y)) (a .bar) (subst (λ (y : ℕ). T (meets m y (d .bar))) (a .need) h)
-
       meet : (x : Delegation) → x ∈ (e ∷ es) → T (meets m (x .need) (x .bar))
-      meet x (List·Memᴰ·head i) = subst (λ (y : Delegation). T (meets m (y .need) (y .bar))) (sym i) here
+      meet x (List·Memᴰ·head i) = subst (λ (y : Delegation). T (meets m (y .need) (y .bar))) (sym i) (at-meets a m h)
       meet x (List·Memᴰ·tail i) = s .met x i
 
   lift : (F G : Register) (m : ℕ) → Within F G → (ds : List Delegation) → ((d : Delegation) → d ∈ ds → d ∈ F .delegations)
@@ -131,8 +129,8 @@ module _ (t : List ℤ) (rule : TableRule t) where
   pub allowed-mono : (F G : Register) (d e : Delegation) → Within F G → AtMost d e → allowed t F d ≼ allowed t G e
   unfolding allowed
   allowed-mono F G d e within a =
-      subst (λ (x : ℕ). reach t F (d .giver) (d .receiver) ≼ reach t G x (e .receiver)) (a .giver)
-      (subst (λ (x : ℕ). reach t F (d .giver) (d .receiver) ≼ reach t G (d .giver) x) (a .receiver) (reach-mono F G (d .giver) (d .receiver) within))
+      subst (λ (x : ℕ). reach t F (d .giver) (d .receiver) ≼ reach t G x (e .receiver)) (at-giver a)
+      (subst (λ (x : ℕ). reach t F (d .giver) (d .receiver) ≼ reach t G (d .giver) x) (at-receiver a) (reach-mono F G (d .giver) (d .receiver) within))
 
   -- a weight is allowed exactly where some chain carries it
   pub allowed-carried : (R : Register) (d : Delegation) → pos (d .weight) ≼ allowed t R d → Carried t R d

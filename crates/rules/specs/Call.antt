@@ -7,7 +7,7 @@ use Rattle.rules.specs.Cut.{Change, cutting, removal, lowering}
 
 pub data Call : Type 0 where
   enrol : (marks : ℕ) → Call
-  grant : (giver receiver weight need bar : ℕ) → Call
+  grant : (delegation : Delegation) → Call
   revoke : (by giver receiver : ℕ) → Call
   downgrade : (by giver receiver weight : ℕ) → Call
   askReach : (giver receiver : ℕ) → Call
@@ -21,14 +21,10 @@ fresh = record { subjects = 1; marks = 0 ∷ []; delegations = [] }
 abbrev pub enrolled : Register → ℕ → Register
 enrolled R m = record { subjects = suc (R .subjects); marks = R .marks ++ (m ∷ []); delegations = R .delegations }
 
--- the delegation that a grant adds
-abbrev pub granted : ℕ → ℕ → ℕ → ℕ → ℕ → Delegation
-granted g r w n b = record { giver = g; receiver = r; weight = w; need = n; bar = b }
-
 -- the call makes this change, and rounds follow
 abbrev pub Makes : Call → Change → Type 0
 Makes (enrol m) k = ⊥
-Makes (grant g r w n b) k = ⊥
+Makes (grant d) k = ⊥
 Makes (revoke y g r) k = k ≡ cutting (removal g r)
 Makes (downgrade y g r w) k = k ≡ cutting (lowering g r w)
 Makes (askReach g r) k = ⊥

@@ -10,7 +10,7 @@ use Rattle.rules.specs.Reach.{reach}
 use Rattle.rules.specs.Pair.{receives}
 use Rattle.rules.specs.Round.{settle, rounds}
 use Rattle.rules.specs.Cut.{removal, lowering, cutting, changed, dropped, lowered}
-use Rattle.rules.specs.Call.{Call, enrol, grant, revoke, downgrade, askReach, askUse, granted, enrolled}
+use Rattle.rules.specs.Call.{Call, enrol, grant, revoke, downgrade, askReach, askUse, enrolled}
 use Rattle.rules.specs.Refusal.{refusalOf}
 
 -- the refusal number, 0 when accepted; the three answers; the register left
@@ -46,8 +46,8 @@ cut t C =
 -- a call that is not refused
 unfoldable pub accepted : List ℤ → Register → Call → Outcome
 accepted t R (enrol m) = answered (pos (R .subjects)) (pos 0) (pos 0) (enrolled R m)
-accepted t R (grant g r w n b) =
-    let S = withDelegations R (insert (granted g r w n b) (R .delegations)) in
+accepted t R (grant d) =
+    let S = withDelegations R (insert d (R .delegations)) in
     answered (pos (length (S .delegations))) (pos 0) (pos 0) S
 accepted t R (revoke y g r) = cut t (changed R (cutting (removal g r)))
 accepted t R (downgrade y g r w) = cut t (changed R (cutting (lowering g r w)))
