@@ -2,7 +2,7 @@
 use mathlib.Core.Path.{_≡_, refl, sym, ap, subst, _∙_}
 use mathlib.Core.Logic.{_⊎_, inl, inr}
 use mathlib.Core.Bool.{Bool, true, false, not, _||_}
-use mathlib.Core.List.{List}
+use mathlib.Core.List.{List, [], _∷_}
 use Prim.Native.Nat.{ℕ, suc, _≤_, _<_}
 use native.Mathlib.Nat.{zero-add}
 use native.Mathlib.Omega.{arith}
@@ -12,12 +12,11 @@ use lib.ListN.{length, getD}
 use lib.IntN.{ℤ, pos}
 use lib.Signed.{ltZ}
 use Rattle.rules.specs.Limit.{none, code}
-use Rattle.rules.specs.Register.{Delegation}
+use Rattle.rules.specs.Register.{Delegation, Register}
 use Rattle.rules.specs.Reach.{reach}
-use Rattle.rules.specs.Support.{allowed}
 use Rattle.rules.specs.Pair.{isPair, weightAt, stands}
 use Rattle.rules.specs.Call.{grant, granted}
-use Rattle.rules.specs.Refusal.{firstOf, held}
+use Rattle.rules.specs.Refusal.{firstOf, overweight, held}
 use Rattle.rules.proofs.Lists.{either, getD-tabulate, T-true}
 use Rattle.rules.proofs.Refusals.{passes-of}
 use Rattle.rules.proofs.Support.{allowed-reach}
@@ -79,7 +78,7 @@ pub weight-missing : (b : List ℕ) (bytes : IsBytes b) (formed : wellFormed b �
     → weightAt (decode b .delegations) g r ≡ none
 weight-missing b bytes formed g r k place l = weightAt-missing g r (decode b .delegations) (omega (arith, place-held b bytes formed g r k place, count-held b bytes formed))
 
-module _ (t : List ℤ) (b : List ℕ) (bytes : IsBytes b) (formed : wellFormed b ≡ true) (g r : ℕ) where
+module _ (b : List ℕ) (bytes : IsBytes b) (formed : wellFormed b ≡ true) (g r : ℕ) where
   -- the test of 9, as the code makes it
   pub enrolled-test : (leb (decode b .subjects) g || (leb (decode b .subjects) r || false)) ≡ (leb (subjectsIn b) g || leb (subjectsIn b) r)
   enrolled-test = ap (λ (s : ℕ). leb s g || (leb s r || false)) (subjects-held b bytes formed) ∙ ap (λ (y : Bool). leb (subjectsIn b) g || y) (or-false (leb (subjectsIn b) r))
@@ -88,10 +87,9 @@ module _ (t : List ℤ) (b : List ℕ) (bytes : IsBytes b) (formed : wellFormed 
   pub both-of : T (not (leb (decode b .subjects) g || (leb (decode b .subjects) r || false))) → (g < subjectsIn b) × (r < subjectsIn b)
   both-of h = both-in (subjectsIn b) g r (ap not (sym enrolled-test) ∙ T-true _ h)
 
-  module _ (w n m : ℕ) where
-    -- the test of 16, as the code makes it
-    pub heavy-test : (ltb (code (allowed t (decode b) (granted g r w n m))) (suc w) || false) ≡ ltZ (reach t (decode b) g r) (pos w)
-    heavy-test = rw (allowed-reach t (decode b) (granted g r w n m)) (or-false (ltb (code (reach t (decode b) g r)) (suc w)) ∙ sym (below-weight (reach t (decode b) g r) w))
+-- the test of 16, as the code makes it
+pub heavy-test : (t : List ℤ) (R : Register) (g r w n m : ℕ) → overweight t R (granted g r w n m ∷ []) .1 ≡ ltZ (reach t R g r) (pos w)
+heavy-test t R g r w n m = rw (allowed-reach t R (granted g r w n m)) (or-false (ltb (code (reach t R g r)) (suc w)) ∙ sym (below-weight (reach t R g r) w))
 
 -- room is left for a grant that is not refused
 pub grant-room : (t : List ℤ) (b : List ℕ) (bytes : IsBytes b) (formed : wellFormed b ≡ true) (g r w n m : ℕ) → firstOf (held t (decode b) (grant g r w n m)) ≡ 0 → countIn b < 256

@@ -12,7 +12,6 @@ use Rattle.rules.specs.Round.{settle}
 use Rattle.rules.specs.Cut.{Cut, removal, lowering, named, changed}
 use Rattle.rules.specs.WellFormed.{WellFormed}
 use Rattle.rules.specs.Call.{Call, revoke, downgrade}
-use Rattle.rules.specs.Refusal.{firstOf, passed, held}
 use Rattle.rules.specs.CallStep.{Outcome, cut, accepted, callStep}
 use Rattle.rules.specs.History.{CutRight}
 use Rattle.rules.proofs.Calls.{removed-formed, lowered-formed, callStep-formed}
@@ -32,9 +31,10 @@ use Rattle.register.specs.CallOn.{Result, written, callOn}
 use Rattle.register.specs.Made.{refusedBy, answeredBy, result, Made}
 use Rattle.register.specs.Cuts.{onRegister, CutsLeft, CutMade}
 use Rattle.register.specs.declared.Answer.{Answer}
-use Rattle.refusals.proofs.Within.{Within, within}
-use Rattle.refusals.proofs.EarlyTests.{Early}
-use Rattle.register.proofs.Made.{made-done}
+use Rattle.refusals.specs.Checked.{InLimits}
+use Rattle.refusals.specs.Early.{refusalOn}
+use Rattle.refusals.proofs.EarlyTests.{Through}
+use Rattle.register.proofs.Made.{made-done, made-refused}
 use Rattle.register.proofs.Through.{accepted-through, accepted-step, accepted-left}
 
 -- what `settled` promises, as the outcome of a cut
@@ -63,7 +63,7 @@ unfolding accepted
 accepted-cut t R y (removal g r) = refl
 accepted-cut t R y (lowering g r w) = refl
 
-named-formed : (R : Register) (y : ℕ) (k : Cut) → WellFormed R → Within (cutCall y k) → WellFormed (named R k)
+named-formed : (R : Register) (y : ℕ) (k : Cut) → WellFormed R → InLimits (cutCall y k) → WellFormed (named R k)
 named-formed R y (removal g r) f p = removed-formed R g r f
 named-formed R y (lowering g r w) f p = lowered-formed R g r w (p .1) f
 
@@ -87,21 +87,27 @@ pub cut-made : (t : List ℤ) → TableRule t → (c : Call) (b : List ℕ) → 
 cut-made t rule c b bytes o after q = record { outcome = q; cut = subst (λ (r : Result). CutsLeft t b c r) (sym q) (cuts-left t rule b bytes c) }
 
 -- a refused cut leaves nothing to say of its remainder
-pub cut-refused : (t : List ℤ) (c : Call) (b : List ℕ) (n : ℕ) → n ≢ 0 → Made t c b (refusedBy n) b → CutMade t c b (refusedBy n) b
-cut-refused t c b n h q = record { outcome = q; cut = λ k i z. absurd (h z) }
+pub cut-refused : (t : List ℤ) (c : Call) (b : List ℕ) (n : ℕ) → n ≡ refusalOn t b c → n ≢ 0 → CutMade t c b (refusedBy n) b
+cut-refused t c b n e h = record { outcome = made-refused t c b n e h; cut = λ k i z. absurd (h z) }
 
-module _ (t : List ℤ) (b : List ℕ) (bytes : IsBytes b) (y : ℕ) (k : Cut) (h : Early b (cutCall y k)) (d : List ℕ) (e : d ≡ encode (named (decode b) k)) where
+-- ── a cut by y past its tests ──
+pub record CutThrough (t : List ℤ) (b : List ℕ) (y : ℕ) (k : Cut) : Type 0 where
+  pub rule : TableRule t
+  pub bytes : IsBytes b
+  pub through : Through t b (cutCall y k)
+
+-- d is the block after the named change
+module _ {t : List ℤ} {b : List ℕ} {y : ℕ} {k : Cut} (h : CutThrough t b y k) {d : List ℕ} (e : d ≡ encode (named (decode b) k)) where
   formed : WellFormed (named (decode b) k)
-  formed = named-formed (decode b) y k (held-formed b bytes (h .formed)) (within (cutCall y k) (h .passed))
+  formed = named-formed (decode b) y k (held-formed b (h .bytes) (h .through .early .formed)) (h .through .numbers)
 
-  -- the block after the named change
   pub named-block : wellFormed d ≡ true
   named-block = ap wellFormed e ∙ T-true (wellFormed (encode (named (decode b) k))) (encode-formed (named (decode b) k) formed)
 
   -- the rounds are made on it
-  pub cut-done : TableRule t → firstOf (held t (decode b) (cutCall y k)) ≡ 0 → (o : Answer) (after : List ℕ) → result o after ≡ written d (cut t (decode d)) → CutMade t (cutCall y k) b o after
-  cut-done rule u o after q =
+  pub cut-done : (o : Answer) (after : List ℕ) → result o after ≡ written d (cut t (decode d)) → CutMade t (cutCall y k) b o after
+  cut-done o after q =
       let C = named (decode b) k in
-      cut-made t rule (cutCall y k) b bytes o after
-      (made-done t (cutCall y k) b h u o after
+      cut-made t (h .rule) (cutCall y k) b (h .bytes) o after
+      (made-done t (cutCall y k) b (h .through .early) (h .through .held) o after
       (q ∙ ap (λ (x : List ℕ). written x (cut t (decode x))) e ∙ ap (λ (D : Register). written (encode C) (cut t D)) (decode-encode C formed) ∙ written-cut t (encode C) b C ∙ ap (written b) (sym (accepted-cut t (decode b) y k))))

@@ -9,8 +9,6 @@ use mir.Facts.{toZ-ofZ, toZ-pos}
 use lib.ListN.{length, getD}
 use lib.IntN.{pos}
 use lib.Signed.{ltZ}
-use Rattle.rules.specs.Table.{steps}
-use Rattle.rules.proofs.Table.{steps-rule}
 use Rattle.block.specs.Bytes.{IsBytes}
 use Rattle.block.proofs.Bytes.{fits-bytes}
 use Rattle.block.proofs.Held.{rules-of, has-records}
@@ -26,15 +24,15 @@ bytes : (c : tie.After-limits-for) → IsBytes (start c .args .block .now)
 bytes c = fits-bytes (start c .args .block .now) (c .before .before .before .before .shared-slice-known .given)
 
 inside : (c : tie.After-limits-for) → start c .args .giver < 64
-inside c = omega (arith, rules-of (start c .args .block .now) (bytes c) (start c .pre .0) .most, start c .pre .1)
+inside c = omega (arith, rules-of (start c .args .block .now) (bytes c) (start c .pre .0 .formed) .most, start c .pre .0 .giver)
 
 -- the test of 16, on numbers
-heavy : (c : tie.Then1) → let l = c .before .before .before .before in ltZ (getD (l .limits-for .last .1 .1 .0) (start l .args .giver) (pos 0)) (pos (start l .args .weight)) ≡ true
+heavy : (c : tie.Then1) → let l = c .before .before .before .before in ltZ (getD (l .limits-for .last .1 .1 .1 .0) (start l .args .giver) (pos 0)) (pos (start l .args .weight)) ≡ true
 heavy c =
     let s = start (c .before .before .before .before) in
     rw (toZ-ofZ {w = w16} record { sfits = c .before .if12 .given }, toZ-pos w16 {n = s .args .weight} (omega (arith, s .fits .weight))) at (c .if1 .taken)
 
-light : (c : tie.Else1) → let l = c .before .before .before .before in ltZ (getD (l .limits-for .last .1 .1 .0) (start l .args .giver) (pos 0)) (pos (start l .args .weight)) ≡ false
+light : (c : tie.Else1) → let l = c .before .before .before .before in ltZ (getD (l .limits-for .last .1 .1 .1 .0) (start l .args .giver) (pos 0)) (pos (start l .args .weight)) ≡ false
 light c =
     let s = start (c .before .before .before .before) in
     rw (toZ-ofZ {w = w16} record { sfits = c .before .if12 .given }, toZ-pos w16 {n = s .args .weight} (omega (arith, s .fits .weight))) at (c .if1 .left)
@@ -66,12 +64,12 @@ returns c =
     let l = c .before .before .before .before .before in
     let s = start l in
     let a = s .args in
-    rw (c .unwritten .ensures) (carrying-refused steps (a .block .now) (bytes l) (s .pre .0) (a .giver) (a .receiver) (a .weight) (l .limits-for .last .1 .1 .0) (l .limits-for .last .1 .1 .1 .0) (l .limits-for .ensures) (inside l) (heavy (c .before)) (a .buf .now))
+    rw (c .unwritten .ensures) (carrying-refused (a .table .now) (a .block .now) (bytes l) (s .pre .0 .formed) (a .giver) (a .receiver) (a .weight) (l .limits-for .last .1 .1 .1 .0) (l .limits-for .last .1 .1 .1 .1 .0) (l .limits-for .ensures) (inside l) (heavy (c .before)) (a .buf .now))
 
 records-requires : tie.Need-records-requires
 records-requires c κs =
     let l = c .before .before .before .before in
-    has-records (start l .args .block .now) (bytes l) (start l .pre .0)
+    has-records (start l .args .block .now) (bytes l) (start l .pre .0 .formed)
 
 slice-aggregate-write-links : tie.Need-slice-aggregate-write-links
 slice-aggregate-write-links c = search needs
@@ -82,8 +80,8 @@ write-links-requires c κs =
     let l = k .before .before .before .before .before in
     let s = start l in
     let a = s .args in
-    let size : length (l .limits-for .last .1 .1 .1 .0) ≡ 64 = search needs in
-    rw (k .records .ensures) (carrying-traceable steps (a .block .now) (bytes l) (s .pre .0) (a .giver) (a .receiver) (a .weight) (l .limits-for .last .1 .1 .0) (l .limits-for .last .1 .1 .1 .0) (l .limits-for .ensures) (inside l) (light (k .before)) steps-rule size, s .pre .3)
+    let size : length (l .limits-for .last .1 .1 .1 .1 .0) ≡ 64 = search needs in
+    rw (k .records .ensures) (carrying-traceable (a .table .now) (a .block .now) (bytes l) (s .pre .0 .formed) (a .giver) (a .receiver) (a .weight) (l .limits-for .last .1 .1 .1 .0) (l .limits-for .last .1 .1 .1 .1 .0) (l .limits-for .ensures) (inside l) (light (k .before)) (s .pre .1) size, s .pre .2)
 
 same-length : tie.Need-same-length
 same-length c = search needs
@@ -96,7 +94,7 @@ returns-2 c =
     let s = start l in
     let a = s .args in
     let (n, e) = rw (k .records .ensures) at (w .ensures) in
-    carrying-done steps (a .block .now) (bytes l) (s .pre .0) (a .giver) (a .receiver) (a .weight) (l .limits-for .last .1 .1 .0) (l .limits-for .last .1 .1 .1 .0) (l .limits-for .ensures) (inside l) (light (k .before)) (w .result) (a .buf .now) (w .last .1 .1 .1 .1 .0) n e
+    carrying-done (a .table .now) (a .block .now) (bytes l) (s .pre .0 .formed) (a .giver) (a .receiver) (a .weight) (l .limits-for .last .1 .1 .1 .0) (l .limits-for .last .1 .1 .1 .1 .0) (l .limits-for .ensures) (inside l) (light (k .before)) (w .result) (a .buf .now) (w .last .1 .1 .1 .1 .0) n e
 
 pub write-carrying-spec : {M : Type 1} → statement M
 write-carrying-spec =

@@ -26,7 +26,7 @@ module _ (t : List ℤ) (b : List ℕ) (bytes : IsBytes b) (g r : ℕ) where
     -- both are enrolled
     pub reach-both : (g < subjectsIn b) × (r < subjectsIn b)
     unfolding held
-    reach-both = both-of t b bytes (h .early .formed) g r (passes-of (held t (decode b) (askReach g r)) tt (h .held) 9)
+    reach-both = both-of b bytes (h .early .formed) g r (passes-of (held t (decode b) (askReach g r)) tt (h .held) 9)
 
     pub reach-done : (k : ℤ) → k ≡ reach t (decode b) g r → Made t (askReach g r) b (answeredBy k (pos 0) (pos 0)) b
     unfolding accepted
