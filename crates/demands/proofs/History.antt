@@ -15,6 +15,7 @@ use Rattle.rules.specs.Call.{fresh}
 use Rattle.rules.specs.CallStep.{callStep}
 use Rattle.rules.proofs.Table.{steps-rule}
 use Rattle.rules.proofs.Calls.{fresh-formed, callStep-formed}
+use Rattle.block.specs.Layout.{blockSize}
 use Rattle.block.specs.Block.{encode}
 use Rattle.register.specs.CallOn.{Result, turned, callOn, openOn}
 use Rattle.register.specs.Made.{result, MadeOpen}
@@ -26,7 +27,7 @@ use Rattle.register.proofs.CutWays.{cut-left}
 -- what an accepted open writes
 open-written : (b : List ℕ) (o : Answer) (after : List ℕ) → MadeOpen b o after → o .refusal ≡ 0 → after ≡ encode fresh
 unfolding openOn
-open-written b o after q z = go (eqb (length b) 2180) q
+open-written b o after q z = go (eqb (length b) blockSize) q
   where
     go : (x : Bool) → result o after ≡ cond x record { refusal = 0; first = pos 0; second = pos 0; third = pos 0; bytes = encode fresh } (turned 1 b) → after ≡ encode fresh
     go true e = ap (λ (r : Result). r .bytes) e

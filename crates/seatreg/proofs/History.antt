@@ -14,6 +14,7 @@ use Rattle.rules.specs.Cut.{Cut, named}
 use Rattle.rules.specs.Call.{Call, fresh, IsCut}
 use Rattle.rules.proofs.Table.{steps-rule}
 use Rattle.rules.proofs.Calls.{fresh-formed}
+use Rattle.block.specs.Layout.{blockSize}
 use Rattle.block.specs.Bytes.{IsBytes}
 use Rattle.block.specs.Block.{decode, encode}
 use Rattle.block.proofs.Encode.{bytes-encode}
@@ -75,7 +76,7 @@ module _ (t : List ℤ) (rule : TableRule t) where
 -- ── open ──
 opened : (b a b' a' : List ℕ) → EntryOpened b a 0 b' a' → b' ≡ encode fresh
 unfolding entryOpen openOn
-opened b a b' a' made = go (eqb (length a) 12) (eqb (length b) 2180) made
+opened b a b' a' made = go (eqb (length a) 12) (eqb (length b) blockSize) made
   where
     go : (x y : Bool)
         → (let r : Result = cond y record { refusal = 0; first = pos 0; second = pos 0; third = pos 0; bytes = encode fresh } (turned 1 b) in
