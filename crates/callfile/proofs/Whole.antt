@@ -11,6 +11,7 @@ use lib.Dec.{ltb}
 use lib.IntN.{pos}
 use lib.ListN.{length, drop, length-append}
 use Rattle.rules.specs.Call.{fresh}
+use Rattle.block.specs.Layout.{blockSize}
 use Rattle.block.specs.Block.{encode}
 use Rattle.register.specs.CallOn.{Result, openOn}
 use Rattle.register.specs.Made.{MadeOpen}
@@ -76,9 +77,9 @@ pub names-there : (text : List ℕ) (r : Bool) → Begins text callNames r → r
 names-there text r b e = b .yes e ∙ ap (λ (n : ℕ). callNames ++ drop n text) names-length
 
 -- a fresh register
-pub opened : (b : List ℕ) (o : Answer) (b′ : List ℕ) → length b ≡ 2180 → MadeOpen b o b′ → b′ ≡ encode fresh
+pub opened : (b : List ℕ) (o : Answer) (b′ : List ℕ) → length b ≡ blockSize → MadeOpen b o b′ → b′ ≡ encode fresh
 unfolding openOn
-opened b o b′ e m = ap (λ (x : Result). x .bytes) m ∙ rw (eq-eqb (length b) 2180 e)
+opened b o b′ e m = ap (λ (x : Result). x .bytes) m ∙ rw (eq-eqb (length b) blockSize e)
 
 -- what is written lies within the buffer
 pub run-fits : {text before : List ℕ} {r : Printed} {last : List ℕ} → RunMade text before r last → length last ≡ length before → r .length ≤ length last

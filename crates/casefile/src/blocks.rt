@@ -2,6 +2,9 @@
 use crate::out::put_byte;
 use crate::reading;
 
+// A line gives a block of at most this many bytes.
+pub const MOST_BLOCK: usize = 4096;
+
 // A block's length, and where the text goes on.
 pub struct Block {
     pub size: usize,

@@ -1,5 +1,6 @@
 // Writing: to standard output, and into a buffer. A function that writes into a buffer answers where the text goes on; what
 // does not fit is left out.
+use crate::blocks::MOST_BLOCK;
 use crate::reading;
 use libc::STDOUT_FILENO;
 
@@ -30,7 +31,7 @@ pub fn print_signed(v: i32) {
 pub fn print_block(block: &[u8]) {
     print_number(block.len() as u64);
     print(b":");
-    let mut space = [0u8; 8192];
+    let mut space = [0u8; 2 * MOST_BLOCK];
     let at = put_all_hex(&mut space, block, used(block));
     let n = reading::within(at, &space);
     print(&space[..n]);

@@ -4,11 +4,16 @@ mod run;
 
 ghost use mathlib.Core.Path.{_≡_};
 ghost use lib.ListN.{length};
+ghost use Rattle.callfile.specs.CallFile.{outSize};
+use casefile::blocks;
 use casefile::out;
 use casefile::reading;
 
 // A file of cases or of lists has at most this many bytes.
-const MOST_TEXT: usize = 65536;
+const MOST_TEXT: usize = callfile::MOST_TEXT;
+
+// So many bytes of the name of a file are read.
+const MOST_NAME: usize = 64;
 
 // Each argument's file, in order.
 fn main() {
@@ -22,7 +27,7 @@ fn main() {
 
 // One file, and a line `unreadable` where it cannot be read to its end.
 fn run_argument(i: usize) {
-    let mut name = [0u8; 64];
+    let mut name = [0u8; MOST_NAME];
     let n = os::arg(i, &mut name);
     if !run_file(&name[..n]) {
         out::print(b"unreadable\n");
@@ -53,7 +58,7 @@ fn run_text(kind: u8, text: &[u8]) -> bool {
     if kind == b'l' {
         return lists::run_lines(text);
     }
-    let mut block = [0u8; 4096];
+    let mut block = [0u8; blocks::MOST_BLOCK];
     run::run_lines(text, &mut block)
 }
 
@@ -66,10 +71,10 @@ fn print_calls(text: &[u8]) {
 }
 
 // The `ensures` hides the bytes, so that no caller's proof computes them.
-fn zeros() -> [u8; 262144]
-    ensures { λ r. ⌜ 262144 ≡ length r ⌝ }
+fn zeros() -> [u8; callfile::OUT_SIZE]
+    ensures { λ r. ⌜ outSize ≡ length r ⌝ }
 {
-    [0; 262144]
+    [0; callfile::OUT_SIZE]
 }
 
 fn run_calls(text: &[u8], space: &mut [u8]) -> usize {

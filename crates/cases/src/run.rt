@@ -1,6 +1,7 @@
 // Runs the lines of a text, each on the block that it gives or that the line before left.
 ghost use mathlib.Core.Path.{_≡_};
 ghost use lib.ListN.{length};
+ghost use Rattle.casefile.specs.Sizes.{mostBlock};
 use crate::calls;
 use crate::calls::Columns;
 use casefile::blocks;
@@ -66,10 +67,10 @@ fn run_call(columns: Columns, block: &mut [u8]) {
 }
 
 // A copy of the block.
-fn kept(block: &[u8]) -> [u8; 4096]
-    ensures { λ r. ⌜ 4096 ≡ length r ⌝ }
+fn kept(block: &[u8]) -> [u8; blocks::MOST_BLOCK]
+    ensures { λ r. ⌜ mostBlock ≡ length r ⌝ }
 {
-    let mut copy = [0u8; 4096];
+    let mut copy = [0u8; blocks::MOST_BLOCK];
     out::put_bytes(&mut copy, 0, block);
     copy
 }

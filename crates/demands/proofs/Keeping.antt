@@ -19,6 +19,7 @@ use Rattle.rules.proofs.Table.{steps-rule}
 use Rattle.rules.proofs.Calls.{fresh-formed, callStep-formed}
 use Rattle.rules.proofs.Ranges.{callStep-range}
 use Rattle.rules.proofs.Lists.{T-true}
+use Rattle.block.specs.Layout.{blockSize}
 use Rattle.block.specs.Bytes.{IsBytes}
 use Rattle.block.specs.Block.{decode, encode}
 use Rattle.block.specs.WellFormed.{wellFormed}
@@ -69,7 +70,7 @@ kept-steps b c bytes = kept steps b c steps-rule bytes
 -- ── open ──
 open-refused : (b : List ℕ) → openOn b .refusal ≢ 0 → openOn b .bytes ≡ b
 unfolding openOn
-open-refused b = go (eqb (length b) 2180)
+open-refused b = go (eqb (length b) blockSize)
   where
     go : (x : Bool) → cond x record { refusal = 0; first = pos 0; second = pos 0; third = pos 0; bytes = encode fresh } (turned 1 b) .refusal ≢ 0
         → cond x record { refusal = 0; first = pos 0; second = pos 0; third = pos 0; bytes = encode fresh } (turned 1 b) .bytes ≡ b
@@ -78,7 +79,7 @@ open-refused b = go (eqb (length b) 2180)
 
 open-formed : (b : List ℕ) → openOn b .refusal ≡ 0 → wellFormed (openOn b .bytes) ≡ true
 unfolding openOn
-open-formed b = go (eqb (length b) 2180)
+open-formed b = go (eqb (length b) blockSize)
   where
     go : (x : Bool) → cond x record { refusal = 0; first = pos 0; second = pos 0; third = pos 0; bytes = encode fresh } (turned 1 b) .refusal ≡ 0
         → wellFormed (cond x record { refusal = 0; first = pos 0; second = pos 0; third = pos 0; bytes = encode fresh } (turned 1 b) .bytes) ≡ true
@@ -88,7 +89,7 @@ open-formed b = go (eqb (length b) 2180)
 -- open answers 0, refused or not
 open-unused : (b : List ℕ) → Unused (openOn b .first) × Unused (openOn b .second) × Unused (openOn b .third)
 unfolding openOn
-open-unused b = go (eqb (length b) 2180)
+open-unused b = go (eqb (length b) blockSize)
   where
     go : (x : Bool) → let r : Result = cond x record { refusal = 0; first = pos 0; second = pos 0; third = pos 0; bytes = encode fresh } (turned 1 b) in Unused (r .first) × Unused (r .second) × Unused (r .third)
     go true = (refl, refl, refl)

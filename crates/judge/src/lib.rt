@@ -13,7 +13,21 @@ const MOST_LINKS: usize = 63;
 
 const MOST_SUBJECT: u32 = 63;
 
+// The block, as document 01 lays it out.
+const COUNT_AT: usize = 2;
+
+const MARKS_AT: usize = 4;
+
+const MARK_SIZE: usize = 2;
+
 const RECORDS_AT: usize = 132;
+
+const RECORD_SIZE: usize = 8;
+
+// The bytes of a link, and the most bytes of a lent buffer.
+const LINK_SIZE: usize = 2;
+
+const MOST_BUFFER: usize = 4096;
 
 // The unlimited weight, which is also the limit at the owner.
 const UNLIMITED: u16 = 255;
@@ -44,17 +58,17 @@ fn no_record() -> Record {
     }
 }
 
-// The call by each of its two functions, each on a lent buffer of `size` bytes, at most 4,096. Accepted, an answer is 1 where
+// The call by each of its two functions, each on a lent buffer of `size` bytes, at most MOST_BUFFER. Accepted, an answer is 1 where
 // the chain is right; refused, it is 1 where something was written. The first is of the function that counts the links, the
 // others are of the one that hands back its part: the second of the whole buffer, the third of the part.
 pub fn judge_call(block: &[u8], giver: u32, receiver: u32, size: usize) -> Answer {
-    let mut buf = [FILL; 4096];
+    let mut buf = [FILL; MOST_BUFFER];
     let n = reading::within(size, &buf);
     let counted = judge_counted(block, giver, receiver, &mut buf[..n]);
-    let mut one = [FILL; 4096];
+    let mut one = [FILL; MOST_BUFFER];
     let n = reading::within(size, &one);
     let handed = judge_handed(block, giver, receiver, &mut one[..n], FILL);
-    let mut other = [OTHER_FILL; 4096];
+    let mut other = [OTHER_FILL; MOST_BUFFER];
     let n = reading::within(size, &other);
     let again = judge_handed(block, giver, receiver, &mut other[..n], OTHER_FILL);
     Answer {
@@ -110,7 +124,11 @@ fn judge_handed(block: &[u8], giver: u32, receiver: u32, buf: &mut [u8], fill: u
 
 // How many links a part of n bytes has: too many where one is half.
 fn links_of(n: usize) -> usize {
-    if n % 2 == 0 { n / 2 } else { MOST_LINKS + 1 }
+    if n % LINK_SIZE == 0 {
+        n / LINK_SIZE
+    } else {
+        MOST_LINKS + 1
+    }
 }
 
 fn judge(
@@ -150,7 +168,7 @@ fn is_chain(block: &[u8], giver: u8, receiver: u8, buf: &[u8], fill: u8, n: u8) 
     if limit == NO_CHAIN || limit < own.weight as u16 {
         return false;
     }
-    is_kept(buf, 2 * n as usize, fill)
+    is_kept(buf, LINK_SIZE * n as usize, fill)
 }
 
 // Whether the bytes from `from` on are as they were before the call.
@@ -238,21 +256,24 @@ fn end_of(buf: &[u8], n: u8) -> u8 {
 }
 
 fn giver_of(buf: &[u8], i: u8) -> u8 {
-    reading::byte_at(buf, 2 * i as usize)
+    reading::byte_at(buf, LINK_SIZE * i as usize)
 }
 
 fn receiver_of(buf: &[u8], i: u8) -> u8 {
-    reading::byte_at(buf, 2 * i as usize + 1)
+    reading::byte_at(buf, LINK_SIZE * i as usize + 1)
 }
 
 fn marks_of(block: &[u8], subject: u8) -> u16 {
-    let at = 4 + 2 * subject as usize;
+    let at = MARKS_AT + MARK_SIZE * subject as usize;
     both(reading::byte_at(block, at), reading::byte_at(block, at + 1))
 }
 
 // The pair's record among those that the block counts.
 fn standing(block: &[u8], giver: u8, receiver: u8) -> Record {
-    let n = both(reading::byte_at(block, 2), reading::byte_at(block, 3));
+    let n = both(
+        reading::byte_at(block, COUNT_AT),
+        reading::byte_at(block, COUNT_AT + 1),
+    );
     let mut i = 0;
     while i < n {
         let record = record_at(block, i);
@@ -265,7 +286,7 @@ fn standing(block: &[u8], giver: u8, receiver: u8) -> Record {
 }
 
 fn record_at(block: &[u8], i: u16) -> Record {
-    let at = RECORDS_AT + 8 * i as usize;
+    let at = RECORDS_AT + RECORD_SIZE * i as usize;
     Record {
         giver: reading::byte_at(block, at),
         receiver: reading::byte_at(block, at + 1),

@@ -1,13 +1,20 @@
 // Lists of calls, each made by one call of `replay`. A line is the lengths of its three buffers, the numbers of the list and a full stop.
 ghost use mathlib.Core.Path.{_≡_};
 ghost use lib.ListN.{length};
+ghost use Rattle.lists.specs.Sizes.{slotsSize};
+use block::layout;
 use casefile::out;
 use casefile::reading;
 
-const SLOT: usize = 2180;
-
 // A list has at most this many calls.
 const MOST_CALLS: usize = 200;
+
+// The numbers that are read, a call more than a list may have, and what is kept of the calls: a slot more than calls.
+const NUMBERS: usize = replay::CALL_SIZE * (MOST_CALLS + 1);
+
+const SLOTS_SIZE: usize = layout::BLOCK_SIZE * (MOST_CALLS + 1);
+
+const ANSWERS: usize = replay::ANSWER_SIZE * MOST_CALLS;
 
 // What every place of a buffer holds before the call.
 const BYTE: u8 = 170;
@@ -54,7 +61,7 @@ fn run_line(text: &[u8], from: usize) -> usize {
     if !answers.is_read {
         return 0;
     }
-    let mut numbers = [0u32; 1407];
+    let mut numbers = [0u32; NUMBERS];
     let read = read_numbers(text, answers.after, &mut numbers);
     let dot = reading::step_over(text, read.after, b'.');
     let end = reading::step_over(text, dot.after, b'\n');
@@ -93,18 +100,23 @@ fn read_numbers(text: &[u8], from: usize, numbers: &mut [u32]) -> Numbers {
 // Makes the calls and prints what every buffer holds afterwards, a line for each call.
 fn run_list(numbers: &[u32], sizes: Sizes) {
     let mut blocks = unwritten();
-    let mut refusals = [NUMBER; 200];
-    let mut answers = [SIGNED; 600];
+    let mut refusals = [NUMBER; MOST_CALLS];
+    let mut answers = [SIGNED; ANSWERS];
     let refusal = make(numbers, sizes, &mut blocks, &mut refusals, &mut answers);
     print_first(refusal, &blocks);
-    print_rows(sizes.numbers / 7, &blocks, &refusals, &answers);
+    print_rows(
+        sizes.numbers / replay::CALL_SIZE,
+        &blocks,
+        &refusals,
+        &answers,
+    );
 }
 
 // A slot more than calls.
-fn unwritten() -> [u8; 438180]
-    ensures { λ r. ⌜ 438180 ≡ length r ⌝ }
+fn unwritten() -> [u8; SLOTS_SIZE]
+    ensures { λ r. ⌜ slotsSize ≡ length r ⌝ }
 {
-    [BYTE; 438180]
+    [BYTE; SLOTS_SIZE]
 }
 
 // One call of `replay` on the fronts that have these lengths.
@@ -132,10 +144,10 @@ fn make(
 
 // Prints the refusal and slot 0, `=` where it was not written.
 fn print_first(refusal: u32, blocks: &[u8]) {
-    let before = [BYTE; SLOT];
+    let before = [BYTE; layout::BLOCK_SIZE];
     out::print_number(refusal as u64);
     out::print(b" ");
-    let n = reading::within(SLOT, blocks);
+    let n = reading::within(layout::BLOCK_SIZE, blocks);
     out::print_left(&before, &blocks[..n]);
     out::print(b"\n");
 }
@@ -153,17 +165,17 @@ fn print_row(i: usize, blocks: &[u8], refusals: &[u32], answers: &[i32]) {
     if i >= MOST_CALLS {
         return;
     }
-    let from = SLOT * i;
-    let to = from + SLOT;
-    let end = to + SLOT;
+    let from = layout::BLOCK_SIZE * i;
+    let to = from + layout::BLOCK_SIZE;
+    let end = to + layout::BLOCK_SIZE;
     if end > blocks.len() {
         return;
     }
     out::print_outcome(
         number_at(refusals, i),
-        signed_at(answers, 3 * i),
-        signed_at(answers, 3 * i + 1),
-        signed_at(answers, 3 * i + 2),
+        signed_at(answers, replay::ANSWER_SIZE * i),
+        signed_at(answers, replay::ANSWER_SIZE * i + 1),
+        signed_at(answers, replay::ANSWER_SIZE * i + 2),
         &blocks[from..to],
         &blocks[to..end],
     );

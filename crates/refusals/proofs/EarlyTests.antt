@@ -13,6 +13,7 @@ use Rattle.rules.specs.Call.{Call, enrol, grant, revoke, downgrade, askReach, a
 use Rattle.rules.specs.Refusal.{firstOf, passed, held}
 use Rattle.rules.proofs.Refusals.{numbered, passed-numbered, firstOf-append, firstOf-none, firstOf-some}
 use Rattle.rules.proofs.Lists.{eqOr}
+use Rattle.block.specs.Layout.{blockSize}
 use Rattle.block.specs.Block.{decode}
 use Rattle.block.specs.WellFormed.{wellFormed}
 use Rattle.refusals.specs.Early.{wrongLength, notWellFormed, early, refusalOn}
@@ -21,7 +22,7 @@ use Rattle.refusals.proofs.InLimits.{in-limits}
 
 -- none of them applies
 pub record Early (b : List ℕ) (c : Call) : Type 0 where
-  pub size : length b ≡ 2180
+  pub size : length b ≡ blockSize
   pub passed : firstOf (passed c) ≡ 0
   pub formed : wellFormed b ≡ true
 
@@ -36,24 +37,24 @@ module _ (b : List ℕ) (c : Call) where
   -- the refusals by what was passed, as one number
   pub early-one : firstOf (early b c) ≡ firstOf (earlyOf b (firstOf (passed c)))
   early-one =
-      ap (λ (n : ℕ). cond (not (eqb (length b) 2180)) 1 n) (firstOf-append (passed c) (notWellFormed b ∷ []) (passed-numbered c) ∙ turn (eqb (firstOf (passed c)) 0) (cond (not (wellFormed b)) 8 0) (firstOf (passed c)))
+      ap (λ (n : ℕ). cond (not (eqb (length b) blockSize)) 1 n) (firstOf-append (passed c) (notWellFormed b ∷ []) (passed-numbered c) ∙ turn (eqb (firstOf (passed c)) 0) (cond (not (wellFormed b)) 8 0) (firstOf (passed c)))
     where
       turn : (x : Bool) (m n : ℕ) → cond x m n ≡ cond (not x) n m
       turn true m n = refl
       turn false m n = refl
 
   pub early-none : firstOf (early b c) ≡ 0 → Early b c
-  early-none e = go (eqb (length b) 2180) (eqb (firstOf (passed c)) 0) (wellFormed b) refl refl refl (sym early-one ∙ e)
+  early-none e = go (eqb (length b) blockSize) (eqb (firstOf (passed c)) 0) (wellFormed b) refl refl refl (sym early-one ∙ e)
     where
-      go : (x y z : Bool) → eqb (length b) 2180 ≡ x → eqb (firstOf (passed c)) 0 ≡ y → wellFormed b ≡ z → cond (not x) 1 (cond (not y) (firstOf (passed c)) (cond (not z) 8 0)) ≡ 0 → Early b c
-      go true true true p q f h = record { size = eqb→eq (length b) 2180 (subst T (sym p) tt); passed = eqb→eq (firstOf (passed c)) 0 (subst T (sym q) tt); formed = f }
+      go : (x y z : Bool) → eqb (length b) blockSize ≡ x → eqb (firstOf (passed c)) 0 ≡ y → wellFormed b ≡ z → cond (not x) 1 (cond (not y) (firstOf (passed c)) (cond (not z) 8 0)) ≡ 0 → Early b c
+      go true true true p q f h = record { size = eqb→eq (length b) blockSize (subst T (sym p) tt); passed = eqb→eq (firstOf (passed c)) 0 (subst T (sym q) tt); formed = f }
       go true true false p q f h = absurd (omega arith)
       go true false z p q f h = absurd (subst T (sym (eq-eqb (firstOf (passed c)) 0 h) ∙ q) tt)
       go false y z p q f h = absurd (omega arith)
 
   pub none-early : Early b c → firstOf (early b c) ≡ 0
   none-early h =
-      let s = eq-eqb (length b) 2180 (h .size) in
+      let s = eq-eqb (length b) blockSize (h .size) in
       let p = eq-eqb (firstOf (passed c)) 0 (h .passed) in
       early-one ∙ (λ j. cond (not (s j)) 1 (cond (not (p j)) (firstOf (passed c)) (cond (not (h .formed j)) 8 0)))
 

@@ -13,6 +13,7 @@ use Rattle.rules.specs.Refusal.{firstOf, passed, held, refusalOf}
 use Rattle.rules.specs.CallStep.{Outcome, accepted, refused, callStep}
 use Rattle.rules.proofs.Lists.{eqOr}
 use Rattle.rules.proofs.Refusals.{passed-numbered, firstOf-none}
+use Rattle.block.specs.Layout.{blockSize}
 use Rattle.block.specs.Block.{decode, encode}
 use Rattle.refusals.specs.Early.{early, refusalOn}
 use Rattle.refusals.proofs.EarlyTests.{Early, early-none, none-early, refused-early, refused-held}
@@ -74,10 +75,10 @@ module _ (t : List ℤ) (c : Call) (b : List ℕ) where
 
 -- ── open ──
 module _ (b : List ℕ) where
-  pub open-refused : length b ≢ 2180 → MadeOpen b (refusedBy 1) b
+  pub open-refused : length b ≢ blockSize → MadeOpen b (refusedBy 1) b
   unfolding openOn
-  open-refused h = rw (ne-eqb (length b) 2180 h)
+  open-refused h = rw (ne-eqb (length b) blockSize h)
 
-  pub open-done : length b ≡ 2180 → (after : List ℕ) → after ≡ encode fresh → MadeOpen b (answeredBy (pos 0) (pos 0) (pos 0)) after
+  pub open-done : length b ≡ blockSize → (after : List ℕ) → after ≡ encode fresh → MadeOpen b (answeredBy (pos 0) (pos 0) (pos 0)) after
   unfolding openOn
-  open-done h after e = rw (eq-eqb (length b) 2180 h) (λ j. record { refusal = 0; first = pos 0; second = pos 0; third = pos 0; bytes = e j })
+  open-done h after e = rw (eq-eqb (length b) blockSize h) (λ j. record { refusal = 0; first = pos 0; second = pos 0; third = pos 0; bytes = e j })

@@ -15,6 +15,7 @@ use Rattle.rules.specs.CallStep.{Outcome, accepted, refused, callStep}
 use Rattle.rules.proofs.Lists.{T-true}
 use Rattle.rules.proofs.Refusals.{Passes, passed-numbered, firstOf-some}
 use Rattle.rules.proofs.Calls.{accepted-refusal, callStep-cases, callStep-refused}
+use Rattle.block.specs.Layout.{blockSize}
 use Rattle.block.specs.Block.{decode, encode}
 use Rattle.block.specs.WellFormed.{wellFormed}
 use Rattle.block.proofs.Encode.{length-encode, decode-encode}
@@ -42,7 +43,7 @@ written-onBytes t R c = callStep-cases t R c (λ (o : Outcome). written (encode 
 
 module _ (t : List ℤ) (R : Register) (f : WellFormed R) (c : Call) where
   early-encode : firstOf (early (encode R) c) ≡ firstOf (passed c)
-  early-encode = early-one (encode R) c ∙ rw (eq-eqb (length (encode R)) 2180 (length-encode R f), T-true (wellFormed (encode R)) (encode-formed R f)) (go (eqb (firstOf (passed c)) 0) refl)
+  early-encode = early-one (encode R) c ∙ rw (eq-eqb (length (encode R)) blockSize (length-encode R f), T-true (wellFormed (encode R)) (encode-formed R f)) (go (eqb (firstOf (passed c)) 0) refl)
     where
       go : (x : Bool) → eqb (firstOf (passed c)) 0 ≡ x → cond (not x) (firstOf (passed c)) 0 ≡ firstOf (passed c)
       go true q = sym (eqb→eq (firstOf (passed c)) 0 (subst T (sym q) tt))

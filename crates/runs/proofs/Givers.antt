@@ -1,5 +1,5 @@
 -- One giver's records: they stand together, and are handed over as a part. Assumes nothing.
-use mathlib.Core.Path.{_≡_, sym, ap, subst}
+use mathlib.Core.Path.{_≡_, sym, subst}
 use mathlib.Core.Logic.{_≢_, _⊎_, inl, inr}
 use mathlib.Core.Bool.{not}
 use mathlib.Core.List.{List}

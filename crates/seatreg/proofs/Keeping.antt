@@ -15,6 +15,7 @@ use Rattle.rules.specs.Call.{Call, enrol, grant, revoke, downgrade, askReach, a
 use Rattle.rules.specs.Ranges.{FromTo, Unused, CutInRange, InRange}
 use Rattle.rules.proofs.Table.{steps-rule}
 use Rattle.rules.proofs.Calls.{fresh-formed}
+use Rattle.block.specs.Layout.{blockSize}
 use Rattle.block.specs.Bytes.{IsBytes}
 use Rattle.block.specs.Block.{encode}
 use Rattle.block.specs.WellFormed.{wellFormed}
@@ -133,7 +134,7 @@ entry-kept t rule c b a found lent =
 
 open-bytes : (b : List ℕ) → IsBytes b → IsBytes (openOn b .bytes)
 unfolding openOn
-open-bytes b found = go (eqb (length b) 2180)
+open-bytes b found = go (eqb (length b) blockSize)
   where
     go : (x : Bool) → IsBytes (cond x record { refusal = 0; first = pos 0; second = pos 0; third = pos 0; bytes = encode fresh } (turned 1 b) .bytes)
     go true = bytes-encode fresh fresh-formed

@@ -13,6 +13,9 @@ abbrev μ-loop : tie.MeasureT-loop
 byte-at-requires : tie.Need-byte-at-requires Inv-loop μ-loop
 byte-at-requires c κs = search needs
 
+add-byte-at : tie.Need-add-byte-at Inv-loop μ-loop
+add-byte-at c = search needs
+
 byte-at-requires-2 : tie.Need-byte-at-requires-2 Inv-loop μ-loop
 byte-at-requires-2 c κs = search needs
 
@@ -50,6 +53,7 @@ standing-spec =
     Inv-loop
     μ-loop
     byte-at-requires
+    add-byte-at
     byte-at-requires-2
     both-requires
     loop-holds

@@ -1,0 +1,6 @@
+-- The sizes of a file of cases. Assumes nothing.
+use Prim.Native.Nat.{ℕ}
+
+-- the most bytes of a block that a line gives
+abbrev pub mostBlock : ℕ
+mostBlock = 4096
