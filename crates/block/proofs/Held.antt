@@ -12,7 +12,7 @@ use lib.ListN.{length, getD, drop}
 use Rattle.rules.specs.Limit.{code}
 use Rattle.rules.specs.Pair.{isPair, stands}
 use Rattle.rules.specs.WellFormed.{WellFormed}
-use Rattle.rules.specs.Call.{granted}
+use Rattle.rules.specs.Register.{granted}
 use Rattle.rules.proofs.Lists.{clash, either}
 use Rattle.block.specs.Layout.{blockSize, mostRecords}
 use Rattle.block.specs.Bytes.{IsBytes, readAll, leading}

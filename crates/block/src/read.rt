@@ -4,7 +4,7 @@ ghost use mathlib.Core.Bool.{not};
 ghost use Prim.Native.Nat.{_+_, _-_, _≤_};
 ghost use lib.ListN.{length, getD, drop};
 ghost use Rattle.rules.specs.Pair.{isPair, receives};
-ghost use Rattle.rules.specs.Call.{granted};
+ghost use Rattle.rules.specs.Register.{granted};
 ghost use Rattle.rules.specs.CallStep.{before};
 ghost use Rattle.block.specs.Layout.{recordSize};
 ghost use Rattle.block.specs.Bytes.{two, allFrom, zeros, leading};

@@ -8,6 +8,7 @@ use lib.IntN.{ℤ, pos}
 use lib.ListN.{length, drop}
 use Rattle.rules.specs.List.{concatMap}
 use Rattle.rules.specs.Table.{steps}
+use Rattle.rules.specs.Register.{granted}
 use Rattle.rules.specs.Call.{Call, enrol, grant, revoke, downgrade, askReach, askUse, fresh}
 use Rattle.rules.specs.Trace.{traceFrom}
 use Rattle.block.specs.Block.{encode}
@@ -42,7 +43,7 @@ pub data FileCall : Type 0 where
 -- the call that is meant
 abbrev pub meant : FileCall → Call
 meant (enrols marks) = enrol marks
-meant (grants giver receiver weight need bar) = grant giver receiver weight need bar
+meant (grants giver receiver weight need bar) = grant (granted giver receiver weight need bar)
 meant (revokes by giver receiver) = revoke by giver receiver
 meant (downgrades by giver receiver weight) = downgrade by giver receiver weight
 meant (asksReach giver receiver) = askReach giver receiver

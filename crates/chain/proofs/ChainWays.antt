@@ -15,13 +15,13 @@ use lib.Signed.{ltZ}
 use Rattle.rules.specs.List.{_∈_, keep, filter, any}
 use Rattle.rules.specs.Limit.{none, code}
 use Rattle.rules.specs.Table.{TableRule}
-use Rattle.rules.specs.Register.{Delegation, Register, marksOf}
+use Rattle.rules.specs.Register.{Delegation, Register, marksOf, granted}
 use Rattle.rules.specs.Chain.{limit, IsChain}
 use Rattle.rules.specs.Reach.{reach}
 use Rattle.rules.specs.Support.{ChainFor, allowed}
 use Rattle.rules.specs.Pair.{isPair, weightAt, stands}
 use Rattle.rules.specs.WellFormed.{Rising}
-use Rattle.rules.specs.Call.{askReach, granted}
+use Rattle.rules.specs.Call.{askReach}
 use Rattle.rules.specs.Refusal.{firstOf, passed, chainPassed, chainHeld}
 use Rattle.rules.proofs.Lists.{eqOr}
 use Rattle.rules.proofs.Refusals.{numbered, firstOf-none, firstOf-some}

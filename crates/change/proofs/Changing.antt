@@ -6,10 +6,10 @@ use Prim.Native.Nat.{ℕ, suc, _+_, _*_, _-_, _≤_, _<_}
 use native.Mathlib.Omega.{arith}
 use lib.ListN.{length, getD, take, drop, set}
 use lib.Seq.{sets}
-use Rattle.rules.specs.Register.{Delegation, reweigh, withDelegations}
+use Rattle.rules.specs.Register.{Delegation, reweigh, withDelegations, granted}
 use Rattle.rules.specs.Pair.{isPair, stands}
 use Rattle.rules.specs.Cut.{removal, lowering, named}
-use Rattle.rules.specs.Call.{granted, enrolled}
+use Rattle.rules.specs.Call.{enrolled}
 use Rattle.rules.specs.CallStep.{before, insert}
 use Rattle.block.specs.Bytes.{IsBytes, twoBytes, leading}
 use Rattle.block.specs.Block.{recordBytes, subjectsIn, countIn, decode, encode}

@@ -7,9 +7,9 @@ use native.Mathlib.Omega.{arith}
 use lib.ListN.{length, getD, take, drop, set, replicate, length-append, length-drop, length-replicate, take-append-drop, replicate-append-replicate}
 use lib.Seq.{sets, sets-eq, length-take-le, drop-cons, drop-append-add, drop-append-le, set-at, take-at}
 use Rattle.rules.specs.List.{concatMap}
-use Rattle.rules.specs.Register.{Delegation, Register, reweigh, withDelegations}
+use Rattle.rules.specs.Register.{Delegation, Register, reweigh, withDelegations, granted}
 use Rattle.rules.specs.WellFormed.{WellFormed}
-use Rattle.rules.specs.Call.{fresh, granted, enrolled}
+use Rattle.rules.specs.Call.{fresh, enrolled}
 use Rattle.block.specs.Bytes.{twoBytes, padded}
 use Rattle.block.specs.Block.{recordBytes, encode}
 use Rattle.change.specs.Shift.{movedUp, movedDown}

@@ -3,7 +3,7 @@ ghost use mathlib.Core.Path.{_≡_};
 ghost use Prim.Native.Nat.{_+_, _-_, _≤_, _<_};
 ghost use lib.ListN.{length, replicate};
 ghost use lib.Seq.{sets};
-ghost use Rattle.rules.specs.Call.{granted};
+ghost use Rattle.rules.specs.Register.{granted};
 ghost use Rattle.block.specs.Bytes.{twoBytes};
 ghost use Rattle.block.specs.Block.{recordBytes};
 ghost use Rattle.change.specs.Shift.{movedUp, movedDown};

@@ -62,7 +62,7 @@ module _ (b : List ℕ) (c : Call) where
 early-numbered : (b : List ℕ) (c : Call) → T (numbered (early b c))
 unfolding passed
 early-numbered b (enrol m) = tt
-early-numbered b (grant g r w n m) = tt
+early-numbered b (grant d) = tt
 early-numbered b (revoke y g r) = tt
 early-numbered b (downgrade y g r w) = tt
 early-numbered b (askReach g r) = tt

@@ -12,10 +12,10 @@ use lib.ListN.{length, getD}
 use lib.IntN.{ℤ, pos}
 use lib.Signed.{ltZ}
 use Rattle.rules.specs.Limit.{none, code}
-use Rattle.rules.specs.Register.{Delegation, Register}
+use Rattle.rules.specs.Register.{Delegation, Register, noDelegation}
 use Rattle.rules.specs.Reach.{reach}
 use Rattle.rules.specs.Pair.{isPair, weightAt, stands}
-use Rattle.rules.specs.Call.{grant, granted}
+use Rattle.rules.specs.Call.{grant}
 use Rattle.rules.specs.Refusal.{firstOf, overweight, held}
 use Rattle.rules.proofs.Lists.{either, getD-tabulate, T-true}
 use Rattle.rules.proofs.Refusals.{passes-of}
@@ -61,18 +61,18 @@ stands-test b bytes formed g r k place = go (either (ltb k (countIn b)))
 module _ (b : List ℕ) (bytes : IsBytes b) (formed : wellFormed b ≡ true) (g r k : ℕ) (place : k ≡ leading (λ d. not (isPair g r d)) (delegationsTo b (countIn b)))
     (found : k < countIn b) where
   -- the record at the pair's place is its delegation
-  pub at-place : getD (decode b .delegations) (pairPlace g r (decode b .delegations)) (granted 0 0 0 0 0) ≡ delegationAt b k
+  pub at-place : getD (decode b .delegations) (pairPlace g r (decode b .delegations)) noDelegation ≡ delegationAt b k
   at-place =
-      ap (λ (i : ℕ). getD (decode b .delegations) i (granted 0 0 0 0 0)) (sym (place-held b bytes formed g r k place))
-      ∙ ap (λ (ds : List Delegation). getD ds k (granted 0 0 0 0 0)) (delegations-held b bytes formed)
-      ∙ getD-tabulate (λ i. delegationAt b i) (granted 0 0 0 0 0) 0 (countIn b) k found
+      ap (λ (i : ℕ). getD (decode b .delegations) i noDelegation) (sym (place-held b bytes formed g r k place))
+      ∙ ap (λ (ds : List Delegation). getD ds k noDelegation) (delegations-held b bytes formed)
+      ∙ getD-tabulate (λ i. delegationAt b i) noDelegation 0 (countIn b) k found
       ∙ ap (λ (i : ℕ). delegationAt b i) (zero-add k)
 
   pub place-inside : pairPlace g r (decode b .delegations) < length (decode b .delegations)
   place-inside = omega (arith, place-held b bytes formed g r k place, count-held b bytes formed, found)
 
   pub weight-stands : weightAt (decode b .delegations) g r ≡ pos (delegationAt b k .weight)
-  weight-stands = weightAt-found g r (decode b .delegations) (granted 0 0 0 0 0) place-inside ∙ ap (λ (x : Delegation). pos (x .weight)) at-place
+  weight-stands = weightAt-found g r (decode b .delegations) noDelegation place-inside ∙ ap (λ (x : Delegation). pos (x .weight)) at-place
 
 pub weight-missing : (b : List ℕ) (bytes : IsBytes b) (formed : wellFormed b ≡ true) (g r k : ℕ) → k ≡ leading (λ d. not (isPair g r d)) (delegationsTo b (countIn b)) → countIn b ≤ k
     → weightAt (decode b .delegations) g r ≡ none
@@ -88,12 +88,14 @@ module _ (b : List ℕ) (bytes : IsBytes b) (formed : wellFormed b ≡ true) (g 
   both-of h = both-in (subjectsIn b) g r (ap not (sym enrolled-test) ∙ T-true _ h)
 
 -- the test of 16, as the code makes it
-pub heavy-test : (t : List ℤ) (R : Register) (g r w n m : ℕ) → overweight t R (granted g r w n m ∷ []) .1 ≡ ltZ (reach t R g r) (pos w)
-heavy-test t R g r w n m = rw (allowed-reach t R (granted g r w n m)) (or-false (ltb (code (reach t R g r)) (suc w)) ∙ sym (below-weight (reach t R g r) w))
+pub heavy-test : (t : List ℤ) (R : Register) (d : Delegation) → overweight t R (d ∷ []) .1 ≡ ltZ (reach t R (d .giver) (d .receiver)) (pos (d .weight))
+heavy-test t R d =
+    let l = reach t R (d .giver) (d .receiver) in
+    rw (allowed-reach t R d) (or-false (ltb (code l) (suc (d .weight))) ∙ sym (below-weight l (d .weight)))
 
 -- room is left for a grant that is not refused
-pub grant-room : (t : List ℤ) (b : List ℕ) (bytes : IsBytes b) (formed : wellFormed b ≡ true) (g r w n m : ℕ) → firstOf (held t (decode b) (grant g r w n m)) ≡ 0 → countIn b < 256
+pub grant-room : (t : List ℤ) (b : List ℕ) (bytes : IsBytes b) (formed : wellFormed b ≡ true) (d : Delegation) → firstOf (held t (decode b) (grant d)) ≡ 0 → countIn b < 256
 unfolding held
-grant-room t b bytes formed g r w n m e =
-    let p = passes-of (held t (decode b) (grant g r w n m)) tt e in
+grant-room t b bytes formed d e =
+    let p = passes-of (held t (decode b) (grant d)) tt e in
     subst (λ (k : ℕ). k < 256) (count-held b bytes formed) (nleb→lt 256 (length (decode b .delegations)) (p 12))

@@ -19,9 +19,11 @@ subjects (x ∷ xs) h = (nltb→le 63 x (not-or-left (ltb 63 x) (any (λ y. ltb 
 passes-in-limits : (c : Call) → Passes (passed c) → InLimits c
 unfolding passed
 passes-in-limits (enrol m) p = nltb→le 65535 m (p 4)
-passes-in-limits (grant g r w n m) p =
+passes-in-limits (grant d) p =
+    let n = d .need in
+    let m = d .bar in
     let masks = not-or-left (ltb 65535 n || ltb 65535 m) (not (eqb (bitAnd n m) 0)) (p 4) in
-    (subjects (g ∷ r ∷ []) (p 2), nltb→le 255 w (p 3), nltb→le 65535 n (not-or-left (ltb 65535 n) (ltb 65535 m) masks), nltb→le 65535 m (not-or-right (ltb 65535 n) (ltb 65535 m) masks))
+    (subjects (d .giver ∷ d .receiver ∷ []) (p 2), nltb→le 255 (d .weight) (p 3), nltb→le 65535 n (not-or-left (ltb 65535 n) (ltb 65535 m) masks), nltb→le 65535 m (not-or-right (ltb 65535 n) (ltb 65535 m) masks))
 passes-in-limits (revoke y g r) p = subjects (y ∷ g ∷ r ∷ []) (p 2)
 passes-in-limits (downgrade y g r w) p = (subjects (y ∷ g ∷ r ∷ []) (p 2), nltb→le 255 w (p 3))
 passes-in-limits (askReach g r) p = subjects (g ∷ r ∷ []) (p 2)

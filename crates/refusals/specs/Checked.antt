@@ -13,7 +13,7 @@ Subjects (x ∷ xs) = (x ≤ 63) × Subjects xs
 -- the numbers of a call are within their ranges
 abbrev pub InLimits : Call → Type 0
 InLimits (enrol m) = m ≤ 65535
-InLimits (grant g r w n m) = Subjects (g ∷ r ∷ []) × (w ≤ 255) × (n ≤ 65535) × (m ≤ 65535)
+InLimits (grant d) = Subjects (d .giver ∷ d .receiver ∷ []) × (d .weight ≤ 255) × (d .need ≤ 65535) × (d .bar ≤ 65535)
 InLimits (revoke y g r) = Subjects (y ∷ g ∷ r ∷ [])
 InLimits (downgrade y g r w) = Subjects (y ∷ g ∷ r ∷ []) × (w ≤ 255)
 InLimits (askReach g r) = Subjects (g ∷ r ∷ [])

@@ -7,7 +7,8 @@ ghost use lib.Dec.{leb};
 ghost use lib.IntN.{ℤ};
 ghost use Rattle.rules.specs.Table.{TableRule};
 ghost use Rattle.rules.specs.Pair.{stands};
-ghost use Rattle.rules.specs.Call.{grant, revoke, downgrade, askReach, granted};
+ghost use Rattle.rules.specs.Register.{granted};
+ghost use Rattle.rules.specs.Call.{grant, revoke, downgrade, askReach};
 ghost use Rattle.rules.specs.Refusal.{firstOf, notEnrolled, allEnrolled, allStand, mayNot, notBelow, overweight, held};
 ghost use Rattle.block.specs.Block.{subjectsIn, decode};
 ghost use Rattle.block.specs.WellFormed.{wellFormed};
@@ -112,7 +113,7 @@ fn overweight(
     need: u32,
     bar: u32,
 ) -> u32
-    requires { ⌜ Checked (now block) (grant giver receiver weight need bar) × TableRule (now table) × (n ≡ 0 → (giver < subjectsIn (now block)) × (receiver < subjectsIn (now block))) ⌝ }
+    requires { ⌜ Checked (now block) (grant (granted giver receiver weight need bar)) × TableRule (now table) × (n ≡ 0 → (giver < subjectsIn (now block)) × (receiver < subjectsIn (now block))) ⌝ }
     ensures { λ r. ⌜ r ≡ orElse n (overweight (now (table .entry)) (decode (now (block .entry))) (granted giver receiver weight need bar ∷ [])) ⌝ }
 {
     if n != 0 {
@@ -141,8 +142,8 @@ pub fn grant_held(
     need: u32,
     bar: u32,
 ) -> u32
-    requires { ⌜ Checked (now block) (grant giver receiver weight need bar) × TableRule (now table) ⌝ }
-    ensures { λ r. ⌜ r ≡ firstOf (held (now (table .entry)) (decode (now (block .entry))) (grant giver receiver weight need bar)) ⌝ }
+    requires { ⌜ Checked (now block) (grant (granted giver receiver weight need bar)) × TableRule (now table) ⌝ }
+    ensures { λ r. ⌜ r ≡ firstOf (held (now (table .entry)) (decode (now (block .entry))) (grant (granted giver receiver weight need bar))) ⌝ }
 {
     let n = not_enrolled(0, block, giver);
     let n = not_enrolled(n, block, receiver);

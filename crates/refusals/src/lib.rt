@@ -8,6 +8,7 @@ ghost use mathlib.Core.List.{List, [], _∷_};
 ghost use lib.Dec.{eqb};
 ghost use lib.IntN.{ℤ};
 ghost use Rattle.rules.specs.Table.{TableRule};
+ghost use Rattle.rules.specs.Register.{granted};
 ghost use Rattle.rules.specs.Call.{enrol, grant, revoke, downgrade, askReach, askUse};
 ghost use Rattle.rules.specs.Refusal.{firstOf};
 ghost use Rattle.refusals.specs.Early.{wrongLength, notWellFormed, refusalOn};
@@ -90,7 +91,7 @@ pub fn grant_refusal(
     bar: u32,
 ) -> u32
     requires { ⌜ TableRule (now table) ⌝ }
-    ensures { λ r. ⌜ r ≡ refusalOn (now (table .entry)) (now (block .entry)) (grant giver receiver weight need bar) ⌝ }
+    ensures { λ r. ⌜ r ≡ refusalOn (now (table .entry)) (now (block .entry)) (grant (granted giver receiver weight need bar)) ⌝ }
 {
     let n = early(
         block,

@@ -1,5 +1,6 @@
 // Reach and grant by a lent step table.
 ghost use Rattle.rules.specs.Table.{TableRule};
+ghost use Rattle.rules.specs.Register.{granted};
 ghost use Rattle.rules.specs.Call.{grant, askReach};
 ghost use Rattle.register.specs.Made.{Made};
 use crate::Answer;
@@ -28,7 +29,7 @@ pub fn grant_by(
     bar: u32,
 ) -> Answer
     requires { ⌜ TableRule (now table) ⌝ }
-    ensures { λ r. ⌜ Made (now (table .entry)) (grant giver receiver weight need bar) (now (block .entry)) r (now (block .exit)) ⌝ }
+    ensures { λ r. ⌜ Made (now (table .entry)) (grant (granted giver receiver weight need bar)) (now (block .entry)) r (now (block .exit)) ⌝ }
 {
     let n = refusals::grant_refusal(block, table, giver, receiver, weight, need, bar);
     if n != 0 {

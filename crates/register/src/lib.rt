@@ -4,6 +4,7 @@ mod granting;
 
 ghost use mathlib.Core.Path.{_≡_};
 ghost use Rattle.rules.specs.Table.{steps};
+ghost use Rattle.rules.specs.Register.{granted};
 ghost use Rattle.rules.specs.Call.{enrol, grant, revoke, downgrade, askReach, askUse};
 ghost use Rattle.register.specs.Made.{refusedBy, answeredBy, Made, MadeOpen};
 ghost use Rattle.register.specs.Cuts.{CutMade};
@@ -98,7 +99,7 @@ pub fn grant(
     need: u32,
     bar: u32,
 ) -> Answer
-    ensures { λ r. ⌜ Made steps (grant giver receiver weight need bar) (now (block .entry)) r (now (block .exit)) ⌝ }
+    ensures { λ r. ⌜ Made steps (grant (granted giver receiver weight need bar)) (now (block .entry)) r (now (block .exit)) ⌝ }
 {
     let table = rules::steps();
     granting::grant_by(block, &table, giver, receiver, weight, need, bar)

@@ -9,6 +9,7 @@ use lib.ListN.{length, getD, take, drop}
 use lib.IntN.{ℤ, pos}
 use Rattle.rules.specs.List.{At, tabulate}
 use Rattle.rules.specs.Table.{steps}
+use Rattle.rules.specs.Register.{granted}
 use Rattle.rules.specs.Call.{Call, enrol, grant, revoke, downgrade, askReach, askUse, fresh}
 use Rattle.rules.specs.Refusal.{firstOf}
 use Rattle.rules.specs.Trace.{Entry, PlaceRight}
@@ -31,7 +32,7 @@ isCall n = leb n 5
 unfoldable pub callOf : (number by giver receiver weight need bar : ℕ) → Call
 callOf number by giver receiver weight need bar =
     cond (eqb number 0) (enrol need)
-    (cond (eqb number 1) (grant giver receiver weight need bar)
+    (cond (eqb number 1) (grant (granted giver receiver weight need bar))
     (cond (eqb number 2) (revoke by giver receiver)
     (cond (eqb number 3) (downgrade by giver receiver weight)
     (cond (eqb number 4) (askReach giver receiver) (askUse receiver)))))

@@ -2,6 +2,7 @@
 mod answers;
 
 ghost use Rattle.rules.specs.Table.{steps};
+ghost use Rattle.rules.specs.Register.{granted};
 ghost use Rattle.rules.specs.Call.{enrol, grant, revoke, downgrade, askReach, askUse};
 ghost use Rattle.seatreg.specs.Entry.{EntryMade, EntryOpened, EntryCutMade};
 use rules::refusal;
@@ -41,7 +42,7 @@ pub extern "C" fn seatreg_grant(
     bar: u32,
     answers: &mut [u8],
 ) -> u32
-    ensures { λ r. ⌜ EntryMade steps (grant giver receiver weight need bar) (now (block .entry)) (now (answers .entry)) r (now (block .exit)) (now (answers .exit)) ⌝ }
+    ensures { λ r. ⌜ EntryMade steps (grant (granted giver receiver weight need bar)) (now (block .entry)) (now (answers .entry)) r (now (block .exit)) (now (answers .exit)) ⌝ }
 {
     if answers.len() != answers::ANSWERS_SIZE {
         return refusal::WRONG_LENGTH;

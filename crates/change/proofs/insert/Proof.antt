@@ -3,7 +3,7 @@ use mathlib.Core.Bool.{not}
 use Prim.Native.Nat.{_≤_}
 use native.Mathlib.Omega.{arith}
 use lib.ListN.{drop}
-use Rattle.rules.specs.Call.{granted}
+use Rattle.rules.specs.Register.{granted}
 use Rattle.rules.specs.CallStep.{before}
 use Rattle.block.specs.Block.{delegationIn}
 use Rattle.block.proofs.Bytes.{fits-bytes}

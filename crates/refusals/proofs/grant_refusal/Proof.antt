@@ -1,12 +1,13 @@
 -- `refusals::grant_refusal` is the whole refusal of the call. Assumes nothing.
 use borrow.Author.Needs.{needs}
+use Rattle.rules.specs.Register.{granted}
 use Rattle.rules.specs.Call.{Call, grant}
 use Rattle.refusals.proofs.EarlyTests.{EarlyFound, early-found}
 use Rattle.refusals.proofs.grant_refusal.Statement.{statement}
 use Rattle.refusals.proofs.grant_refusal.Tie as tie
 
 abbrev call : tie.Start → Call
-call s = grant (s .args .giver) (s .args .receiver) (s .args .weight) (s .args .need) (s .args .bar)
+call s = grant (granted (s .args .giver) (s .args .receiver) (s .args .weight) (s .args .need) (s .args .bar))
 
 found : (c : tie.After-early) → let s = c .before .before .before in EarlyFound (s .args .block .now) (call s) (c .early .result)
 found c = early-found (c .before .grant-passed .ensures) (c .early .ensures)

@@ -2,7 +2,7 @@
 use mathlib.Core.Bool.{not}
 use Prim.Native.Nat.{_-_}
 use native.Mathlib.Omega.{arith}
-use Rattle.rules.specs.Call.{granted}
+use Rattle.rules.specs.Register.{granted}
 use Rattle.rules.specs.CallStep.{before}
 use Rattle.block.proofs.Loops.{Counted, front-all, front-end, first-here, first-on}
 use Rattle.block.proofs.read.place.Statement.{statement}

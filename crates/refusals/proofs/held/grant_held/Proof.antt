@@ -4,7 +4,7 @@ use mathlib.Core.Path.{_≡_, sym, ap, _∙_}
 use mathlib.Core.List.{[], _∷_}
 use Prim.Native.Nat.{ℕ}
 use lib.Dec.{leb}
-use Rattle.rules.specs.Call.{granted}
+use Rattle.rules.specs.Register.{granted}
 use Rattle.rules.specs.Refusal.{firstOf, notEnrolled, pairStands, allStand, overweight, held}
 use Rattle.rules.proofs.Refusals.{firstOf-append, passes-of}
 use Rattle.block.specs.Block.{decode}

@@ -5,6 +5,7 @@ use mathlib.Core.Path.{sym, _∙_}
 use mir.Facts.{toZ-pos}
 use mir.Syntax.{w32}
 use native.Mathlib.Omega.{arith}
+use Rattle.rules.specs.Register.{granted}
 use Rattle.rules.specs.Call.{Call, grant}
 use Rattle.block.specs.Block.{countIn}
 use Rattle.block.specs.Bytes.{IsBytes}
@@ -17,7 +18,7 @@ use Rattle.register.proofs.granting.grant_by.Statement.{statement}
 use Rattle.register.proofs.granting.grant_by.Tie as tie
 
 abbrev call : tie.Start → Call
-call s = grant (s .args .giver) (s .args .receiver) (s .args .weight) (s .args .need) (s .args .bar)
+call s = grant (granted (s .args .giver) (s .args .receiver) (s .args .weight) (s .args .need) (s .args .bar))
 
 -- ── past the tests ──
 abbrev start : tie.Else1 → tie.Start
@@ -30,7 +31,7 @@ past : (c : tie.Else1) → Through (start c .args .table .now) (start c .args .b
 past c = through (start c .args .table .now) (start c .args .block .now) (call (start c)) (sym (c .before .grant-refusal .ensures) ∙ c .if1 .left)
 
 room : (c : tie.Else1) → countIn (start c .args .block .now) < 256
-room c = let a = start c .args in grant-room (a .table .now) (a .block .now) (bytes c) (past c .early .formed) (a .giver) (a .receiver) (a .weight) (a .need) (a .bar) (past c .held)
+room c = let a = start c .args in grant-room (a .table .now) (a .block .now) (bytes c) (past c .early .formed) (granted (a .giver) (a .receiver) (a .weight) (a .need) (a .bar)) (past c .held)
 
 -- ── the needs ──
 grant-refusal-requires : tie.Need-grant-refusal-requires
@@ -87,7 +88,7 @@ returns-2 c =
     let e = k .before .before in
     let a = start e .args in
     rw (c .answered .ensures, toZ-pos w32 {n = k .count .result + 1} (omega (arith, room e, k .count .ensures)), k .count .ensures)
-    (grant-done (a .table .now) (a .block .now) (bytes e) (a .giver) (a .receiver) (a .weight) (a .need) (a .bar) (past e) (i .last .0) (i .ensures))
+    (grant-done (a .table .now) (a .block .now) (bytes e) (granted (a .giver) (a .receiver) (a .weight) (a .need) (a .bar)) (past e) (i .last .0) (i .ensures))
 
 pub grant-by-spec : {M : Type 1} → statement M
 grant-by-spec =
