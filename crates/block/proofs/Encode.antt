@@ -19,7 +19,7 @@ use Rattle.block.specs.Records.{delegationsTo}
 abbrev pub headOf : ℕ → ℕ → List ℕ
 headOf n c = n ∷ 0 ∷ twoBytes c
 
--- the bytes of the marks, what stands between the head and the records, the bytes of the records
+-- the bytes of the marks; what stands between the head and the records; the bytes of the records; what stands after the marks
 abbrev pub marksPart : Register → List ℕ
 marksPart R = padded marksSize (concatMap twoBytes (R .marks))
 
@@ -31,6 +31,9 @@ middleSize = recordsAt - marksAt
 
 abbrev pub recordsPart : Register → List ℕ
 recordsPart R = padded recordsSize (concatMap recordBytes (R .delegations))
+
+abbrev pub afterMarks : Register → List ℕ
+afterMarks R = recordsPart R
 
 length-padded : (n : ℕ) (s : List ℕ) → length s ≤ n → length (padded n s) ≡ n
 length-padded n s h = length-append s (replicate (n - length s) 0) ∙ omega (arith, length-replicate {A = ℕ} (n - length s) 0)

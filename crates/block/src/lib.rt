@@ -13,6 +13,7 @@ pub use read::place;
 pub use read::read_two;
 pub use read::receiver;
 pub use read::receives;
+pub use read::record_place;
 pub use read::records;
 pub use read::subjects;
 pub use read::weight;

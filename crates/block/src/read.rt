@@ -6,10 +6,10 @@ ghost use lib.ListN.{length, getD, drop};
 ghost use Rattle.rules.specs.Pair.{isPair, receives};
 ghost use Rattle.rules.specs.Register.{granted};
 ghost use Rattle.rules.specs.CallStep.{before};
-ghost use Rattle.block.specs.Layout.{recordSize};
+ghost use Rattle.block.specs.Layout.{mostRecords, recordSize};
 ghost use Rattle.block.specs.Bytes.{two, allFrom, zeros, leading};
 ghost use Rattle.block.specs.Block.{subjectsIn, countIn, recordsIn};
-ghost use Rattle.block.specs.Records.{HasHead, HasMarks, HasRecord, HasRecords, marksFor, recordFrom, delegationAt, delegationsTo};
+ghost use Rattle.block.specs.Records.{HasHead, HasMarks, HasRecord, HasRecords, marksFor, recordPlace, recordFrom, delegationAt, delegationsTo};
 ghost use Rattle.block.specs.WellFormed.{headFormed, recordFormed, rises, wellFormed};
 use crate::layout::BAR;
 use crate::layout::BLOCK_SIZE;
@@ -73,6 +73,14 @@ pub fn marks(b: &[u8], subject: usize) -> u16
     ensures { λ r. ⌜ r ≡ marksFor (now (b .entry)) subject ⌝ }
 {
     read_two(b, MARKS_AT + MARK_SIZE * subject)
+}
+
+// Where record `k` begins.
+pub fn record_place(k: usize) -> usize
+    requires { ⌜ k ≤ mostRecords ⌝ }
+    ensures { λ r. ⌜ r ≡ recordPlace k ⌝ }
+{
+    RECORDS_AT + RECORD_SIZE * k
 }
 
 // The bytes of the records that stand.

@@ -17,7 +17,7 @@ reach-of-requires : tie.Need-reach-of-requires
 reach-of-requires c κs =
     let s = c .before .before in
     let (p, q) = s .pre .2 (c .if1 .left) in
-    (s .pre .0 .formed, s .pre .1, p, q)
+    (record { formed = s .pre .0 .formed; rule = s .pre .1 }, p, q)
 
 cast-tested : tie.Need-cast-tested
 cast-tested c = search needs
