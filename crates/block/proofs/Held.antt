@@ -27,6 +27,12 @@ use Rattle.block.specs.Records.{HasHead, HasMarks, HasRecords, delegatio
 pub leading-read : {A : Type 0} (f : A → Bool) (g : List ℕ → A) (w : ℕ) (s : List ℕ) (n : ℕ) → leading f (readAll g w s n) ≤ n
 leading-read f g w s n = subst (λ (k : ℕ). leading f (readAll g w s n) ≤ k) (length-tabulate (λ k. g (drop (w * k) s)) 0 n) (leading-most f (readAll g w s n))
 
+-- n records stand in b, and its bytes reach as far
+pub record Holds (b : List ℕ) (n : ℕ) : Type 0 where
+  pub counted : n ≡ countIn b
+  pub few : n ≤ mostRecords
+  pub room : HasRecords b n
+
 module _ (b : List ℕ) (bytes : IsBytes b) (formed : wellFormed b ≡ true) where
   pub rules-of : Parts b
   rules-of = parts b (subst T (sym formed) tt)
@@ -46,6 +52,9 @@ module _ (b : List ℕ) (bytes : IsBytes b) (formed : wellFormed b ≡ true) whe
 
   pub has-records : HasRecords b (countIn b)
   has-records = omega (arith, size-held, count-most)
+
+  pub holds : (n : ℕ) → n ≡ countIn b → Holds b n
+  holds n e = record { counted = e; few = omega (arith, count-most); room = omega (arith, has-records) }
 
   pub held-formed : WellFormed (decode b)
   held-formed = decode-formed b bytes rules-of

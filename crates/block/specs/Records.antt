@@ -1,8 +1,10 @@
 -- The marks and the records of a block by their place. Assumes nothing.
-use mathlib.Core.List.{List}
-use Prim.Native.Nat.{ℕ, _+_, _*_, _≤_}
-use lib.ListN.{length, drop}
+use mathlib.Core.List.{List, [], _++_}
+use Prim.Native.Nat.{ℕ, zero, suc, _+_, _*_, _≤_}
+use lib.IntN.{ℤ, pos}
+use lib.ListN.{length, getD, drop}
 use Rattle.rules.specs.Register.{Delegation}
+use Rattle.rules.specs.Round.{placed}
 use Rattle.block.specs.Layout.{marksAt, recordsAt, markSize, recordSize}
 use Rattle.block.specs.Bytes.{readAll}
 use Rattle.block.specs.Block.{marksIn, delegationIn}
@@ -41,3 +43,8 @@ delegationAt b k = delegationIn (recordFrom b k)
 
 abbrev pub delegationsTo : List ℕ → ℕ → List Delegation
 delegationsTo b n = readAll delegationIn recordSize (drop recordsAt b) n
+
+-- what is left of the first k delegations, each at its new weight; -1 removes it
+abbrev pub leftTo : (ℕ → Delegation) → List ℤ → ℕ → List Delegation
+leftTo f weights zero = []
+leftTo f weights (suc k) = leftTo f weights k ++ placed (f k) (getD weights k (pos 0))

@@ -2,3 +2,5 @@ pub mod Shift
 pub mod Splice
 pub mod Rewrite
 pub mod Changing
+pub mod Filling
+pub mod Writing

@@ -33,7 +33,7 @@ size : (ds : List Delegation) → length (concatMap recordBytes ds) ≡ recordSi
 size ds = length-written recordBytes recordSize record-wide ds
 
 -- the zeros after n records
-abbrev zerosAfter : ℕ → List ℕ
+abbrev pub zerosAfter : ℕ → List ℕ
 zerosAfter n = replicate (recordsSize - recordSize * n) 0
 
 module _ (R : Register) (f : WellFormed R) where

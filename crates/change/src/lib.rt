@@ -1,4 +1,5 @@
 // Changes of a block, each as the change of the register that it holds.
+mod left;
 mod write;
 
 ghost use mathlib.Core.Path.{_≡_};
@@ -22,11 +23,13 @@ use block::layout::WEIGHT;
 use block::place;
 use block::record_place;
 use block::subjects;
-pub use write::put_record;
-pub use write::put_two;
+pub use left::write_left;
+pub use write::copy;
+use write::put_record;
+use write::put_two;
 use write::shift_down;
 use write::shift_up;
-pub use write::zero_all;
+use write::zero_all;
 
 // The fresh register, over any bytes.
 pub fn write_fresh(b: &mut [u8])

@@ -27,6 +27,18 @@ pub fn zero_all(b: &mut [u8])
     }
 }
 
+// The bytes of one slice into another.
+pub fn copy(from: &[u8], to: &mut [u8])
+    requires { ⌜ length (now from) ≡ length (now to) ⌝ }
+    ensures { λ _. ⌜ now (to .exit) ≡ now (from .entry) ⌝ }
+{
+    let mut i: usize = 0;
+    while i < from.len() {
+        to[i] = from[i];
+        i += 1;
+    }
+}
+
 // The two bytes of a number, low byte first.
 pub fn put_two(b: &mut [u8], at: usize, n: u16)
     requires { ⌜ at + 2 ≤ length (now b) ⌝ }

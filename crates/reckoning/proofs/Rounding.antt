@@ -24,8 +24,8 @@ use Rattle.block.specs.Block.{countIn, decode}
 use Rattle.block.specs.WellFormed.{wellFormed}
 use Rattle.block.proofs.Bytes.{tabulate-mem, mem-tabulate}
 use Rattle.block.proofs.Held.{count-most, held-formed, delegations-held}
-use Rattle.block.specs.Records.{delegationAt}
-use Rattle.reckoning.specs.Reckoned.{reachCount, reachAt, Tabled, noneDecoded, Decoded, lesser, lowerOne, WeightsRead, leftTo, Reckoned}
+use Rattle.block.specs.Records.{delegationAt, leftTo}
+use Rattle.reckoning.specs.Reckoned.{reachCount, reachAt, Tabled, noneDecoded, Decoded, lesser, lowerOne, WeightsRead, Reckoned}
 use Rattle.reckoning.specs.declared.Delegation.{Delegation as DecodedDelegation}
 use Rattle.reckoning.proofs.Lowering.{each-at}
 

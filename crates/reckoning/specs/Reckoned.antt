@@ -2,8 +2,8 @@
 use mathlib.Core.Path.{_≡_}
 use mathlib.Core.Logic.{_≢_, _⊎_}
 use mathlib.Core.Bool.{Bool, true, false, cond}
-use mathlib.Core.List.{List, [], _++_}
-use Prim.Native.Nat.{ℕ, zero, suc, _+_, _*_, _≤_, _<_}
+use mathlib.Core.List.{List}
+use Prim.Native.Nat.{ℕ, _+_, _*_, _≤_, _<_}
 use lib.ListN.{length, getD}
 use lib.IntN.{ℤ, pos}
 use lib.Signed.{ltZ}
@@ -13,9 +13,9 @@ use Rattle.rules.specs.Register.{Delegation, Register, withDelegations, noDeleg
 use Rattle.rules.specs.Reach.{reach}
 use Rattle.rules.specs.Pair.{receives}
 use Rattle.rules.specs.Support.{allowed}
-use Rattle.rules.specs.Round.{placed, round}
+use Rattle.rules.specs.Round.{round}
 use Rattle.block.specs.Layout.{mostSubjects}
-use Rattle.block.specs.Records.{delegationAt}
+use Rattle.block.specs.Records.{delegationAt, leftTo}
 use Rattle.block.specs.Block.{countIn, decode}
 use Rattle.reckoning.specs.declared.Delegation.{Delegation as DecodedDelegation}
 
@@ -83,11 +83,6 @@ pub record WeightsRead (f : ℕ → Delegation) (ds : List DecodedDelegation) (n
   pub each : (k : ℕ) → k < n → getD weights k (pos 0) ≡ getD ds k noneDecoded .weight
   pub same : changed ≡ false → (k : ℕ) → k < n → ltZ (getD ds k noneDecoded .weight) (pos (f k .weight)) ≡ false
   pub less : changed ≡ true → (k : ℕ) × (k < n) × (ltZ (getD ds k noneDecoded .weight) (pos (f k .weight)) ≡ true)
-
--- what is left of the first k delegations, each at its new weight; -1 removes it
-abbrev pub leftTo : (ℕ → Delegation) → List ℤ → ℕ → List Delegation
-leftTo f weights zero = []
-leftTo f weights (suc k) = leftTo f weights k ++ placed (f k) (getD weights k (pos 0))
 
 -- the weights that a round on the block b leaves; the answer says whether one changed
 pub record Reckoned (t : List ℤ) (b : List ℕ) (changed : Bool) (weights : List ℤ) : Type 0 where

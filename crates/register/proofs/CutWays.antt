@@ -26,7 +26,7 @@ use Rattle.block.proofs.Encode.{decode-encode}
 use Rattle.block.proofs.Form.{encode-formed}
 use Rattle.block.proofs.Held.{held-formed}
 use Rattle.rounds.specs.Settled.{SettledMade}
-use Rattle.rounds.specs.declared.Answers.{Answers}
+use Rattle.rounds.specs.declared.Tally.{Tally}
 use Rattle.register.specs.CallOn.{Result, written, callOn}
 use Rattle.register.specs.Made.{refusedBy, answeredBy, result, Made}
 use Rattle.register.specs.Cuts.{onRegister, CutsLeft, CutMade}
@@ -38,12 +38,12 @@ use Rattle.register.proofs.Made.{made-done, made-refused}
 use Rattle.register.proofs.Through.{accepted-through, accepted-step, accepted-left}
 
 -- what `settled` promises, as the outcome of a cut
-pub settled-cut : (t : List ℤ) (b : List ℕ) (C : Register) (o : Answers) (after : List ℕ) → SettledMade t C o after → result (answeredBy (pos (o .dropped)) (pos (o .lowered)) (pos (o .rounds))) after ≡ written b (cut t C)
+pub settled-cut : (t : List ℤ) (b : List ℕ) (C : Register) (o : Tally) (after : List ℕ) → SettledMade t C o after → result (answeredBy (pos (o .dropped)) (pos (o .lowered)) (pos (o .rounds))) after ≡ written b (cut t C)
 unfolding cut
 settled-cut t b C o after s = λ i. record { refusal = 0; first = pos (s .dropped i); second = pos (s .lowered i); third = pos (s .rounds i); bytes = s .left i }
 
 -- its counts fit
-pub settled-few : (t : List ℤ) → TableRule t → (C : Register) → WellFormed C → (o : Answers) (after : List ℕ) → SettledMade t C o after → (o .dropped ≤ 256) × (o .lowered ≤ 256) × (o .rounds ≤ 512)
+pub settled-few : (t : List ℤ) → TableRule t → (C : Register) → WellFormed C → (o : Tally) (after : List ℕ) → SettledMade t C o after → (o .dropped ≤ 256) × (o .lowered ≤ 256) × (o .rounds ≤ 512)
 settled-few t rule C f o after s =
     let k = both-few C (settle t C .left) in
     (omega (arith, s .dropped, k, f .few), omega (arith, s .lowered, k, f .few), omega (arith, s .rounds, rounds-most t rule C f .1))

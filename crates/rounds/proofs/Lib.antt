@@ -1,4 +1,3 @@
 pub mod Counting
 pub mod Merging
 pub mod Settling
-pub mod Writing

@@ -22,8 +22,8 @@ use Rattle.block.specs.WellFormed.{wellFormed}
 use Rattle.block.proofs.Encode.{decode-encode}
 use Rattle.block.proofs.Form.{encode-formed}
 use Rattle.block.proofs.Held.{held-formed, held-written}
-use Rattle.block.specs.Records.{delegationAt}
-use Rattle.reckoning.specs.Reckoned.{leftTo, Reckoned}
+use Rattle.block.specs.Records.{delegationAt, leftTo}
+use Rattle.reckoning.specs.Reckoned.{Reckoned}
 use Rattle.rounds.specs.Rounded.{RoundMade}
 
 -- n rounds from C on changed something and left R: however it goes on from R, it goes on from C

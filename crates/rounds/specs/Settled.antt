@@ -7,9 +7,9 @@ use Rattle.rules.specs.Register.{Register}
 use Rattle.rules.specs.Round.{settle, rounds}
 use Rattle.rules.specs.Cut.{dropped, lowered}
 use Rattle.block.specs.Block.{encode}
-use Rattle.rounds.specs.declared.Answers.{Answers}
+use Rattle.rounds.specs.declared.Tally.{Tally}
 
-pub record SettledMade (t : List ℤ) (C : Register) (o : Answers) (after : List ℕ) : Type 0 where
+pub record SettledMade (t : List ℤ) (C : Register) (o : Tally) (after : List ℕ) : Type 0 where
   pub left : after ≡ encode (settle t C .left)
   pub dropped : o .dropped ≡ dropped C (settle t C .left)
   pub lowered : o .lowered ≡ lowered C (settle t C .left)

@@ -1,10 +1,8 @@
 // Rounds on a well-formed block: what is not supported is lowered or removed, until a round changes nothing.
 mod counted;
-mod write;
 
 ghost use mathlib.Core.Path.{_≡_};
 ghost use mathlib.Core.Bool.{true};
-ghost use lib.ListN.{length};
 ghost use Rattle.rules.specs.Table.{TableRule};
 ghost use Rattle.block.specs.Block.{decode};
 ghost use Rattle.block.specs.WellFormed.{wellFormed};
@@ -18,8 +16,8 @@ pub struct Changes {
     pub lowered: u32,
 }
 
-// The answers of a cut: dropped, lowered but kept, and the rounds.
-pub struct Answers {
+// What the rounds of a cut come to: dropped, lowered but kept, and how many rounds.
+pub struct Tally {
     pub dropped: u32,
     pub lowered: u32,
     pub rounds: u32,
@@ -30,39 +28,27 @@ fn round(block: &mut [u8], table: &[i16]) -> bool
     requires { ⌜ (wellFormed (now block) ≡ true) × TableRule (now table) ⌝ }
     ensures { λ r. ⌜ RoundMade (now (table .entry)) (decode (now (block .entry))) r (now (block .exit)) ⌝ }
 {
-    let mut weights = [0i16; 256];
+    let mut weights = [0i16; layout::MOST_RECORDS];
     if !reckoning::reckon(block, table, &mut weights) {
         return false;
     }
-    write::write_left(block, &weights);
+    change::write_left(block, &weights);
     true
 }
 
-// The bytes of one slice into another.
-fn copy(from: &[u8], to: &mut [u8])
-    requires { ⌜ length (now from) ≡ length (now to) ⌝ }
-    ensures { λ _. ⌜ now (to .exit) ≡ now (from .entry) ⌝ }
-{
-    let mut i: usize = 0;
-    while i < from.len() {
-        to[i] = from[i];
-        i += 1;
-    }
-}
-
 // Rounds until one changes nothing, which counts.
-pub fn settled(block: &mut [u8], table: &[i16]) -> Answers
+pub fn settled(block: &mut [u8], table: &[i16]) -> Tally
     requires { ⌜ (wellFormed (now block) ≡ true) × TableRule (now table) ⌝ }
     ensures { λ r. ⌜ SettledMade (now (table .entry)) (decode (now (block .entry))) r (now (block .exit)) ⌝ }
 {
     let mut before = [0u8; layout::BLOCK_SIZE];
-    copy(block, &mut before);
+    change::copy(block, &mut before);
     let mut changed: u32 = 0;
     while round(block, table) {
         changed += 1;
     }
     let counts = counted::counts(&before, block);
-    Answers {
+    Tally {
         dropped: counts.dropped,
         lowered: counts.lowered,
         rounds: changed + 1,

@@ -1,21 +1,21 @@
 -- `change::zero_all` leaves zeros. Assumes nothing.
-use mathlib.Core.Path.{_≡_, refl, ap, _∙_}
-use mathlib.Core.List.{List, _++_, append-nil}
-use Prim.Native.Nat.{ℕ, _-_, _+_, _≤_}
+use mathlib.Core.Path.{_≡_, refl, sym}
+use mathlib.Core.List.{_++_}
+use Prim.Native.Nat.{_-_, _≤_}
 use native.Mathlib.Omega.{arith}
-use borrow.Author.Fill.{fill-more}
-use lib.ListN.{length, replicate, drop, set, length-set, drop-of-length-le}
+use lib.ListN.{length, replicate, take, drop, length-set, length-replicate, getD-replicate}
+use Rattle.change.proofs.Filling.{over-on, over-all}
 use Rattle.change.proofs.write.zero_all.Statement.{statement}
 use Rattle.change.proofs.write.zero_all.Tie as tie
 
 abbrev Inv-loop : tie.InvT-loop
-Inv-loop b₀ i₀ b i = (i ≤ length b₀) × (length b ≡ length b₀) × (b ≡ replicate i 0 ++ drop i b₀)
+Inv-loop b₀ i₀ b i = (length b ≡ length b₀) × (i ≤ length b₀) × (b ≡ take i (replicate (length b₀) 0) ++ drop i b₀)
 
 abbrev μ-loop : tie.MeasureT-loop
 μ-loop b₀ i₀ b i = length b₀ - i
 
 loop-holds : tie.Need-loop-holds Inv-loop μ-loop
-loop-holds c = (omega arith, refl, refl)
+loop-holds c = (refl, omega arith, refl)
 
 slice-write-b : tie.Need-slice-write-b Inv-loop μ-loop
 slice-write-b c = omega arith
@@ -27,19 +27,20 @@ loop-less : tie.Need-loop-less Inv-loop μ-loop
 loop-less c = omega arith
 
 loop-again : tie.Need-loop-again Inv-loop μ-loop
-loop-again c = (
-  omega arith,
-  simp length-set (c .before .loop .inv .1),
-  ap (λ (l : List ℕ). set l (c .before .loop .i) 0) (c .before .loop .inv .2) ∙ fill-more (c .before .loop .i) 0 (c .before .before .args .b .now) (omega arith),
-)
+loop-again c =
+    let b = c .before .before .args .b .now in
+    let l = c .before .loop in
+    let n = length b in
+    (simp length-set (l .inv .0), omega arith, over-on (replicate n 0) b (length-replicate n 0) (l .i) (l .b) (l .inv .2) (omega arith) 0 (sym (getD-replicate n (l .i) 0 0 (omega arith))))
 
 same-length : tie.Need-same-length Inv-loop μ-loop
-same-length c = c .before .loop .inv .1
+same-length c = c .before .loop .inv .0
 
 returns : tie.Need-returns Inv-loop μ-loop
 returns c =
-    let e : c .before .loop .i ≡ length (c .before .before .args .b .now) = omega arith in
-    c .before .loop .inv .2 ∙ rw (drop-of-length-le (c .before .before .args .b .now) {i = c .before .loop .i} (omega arith), e) (append-nil _)
+    let b = c .before .before .args .b .now in
+    let l = c .before .loop in
+    over-all (replicate (length b) 0) b (length-replicate (length b) 0) (l .i) (l .b) (l .inv .2) (omega arith)
 
 pub zero-all-spec : {M : Type 1} → statement M
 zero-all-spec =

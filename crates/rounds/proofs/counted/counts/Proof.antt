@@ -1,19 +1,18 @@
 -- `rounds::counts` compares two registers as `dropped` and `lowered` do. Assumes nothing.
 use mathlib.Core.Logic.{⊎-elim}
-use mathlib.Core.Path.{_≡_, sym, _∙_}
-use Prim.Native.Nat.{_-_, _≤_, _<_}
+use mathlib.Core.Path.{sym, _∙_}
+use Prim.Native.Nat.{_-_, _<_}
 use native.Mathlib.Omega.{arith}
-use lib.ListN.{length}
 use Rattle.block.specs.Block.{countIn}
 use Rattle.block.proofs.Bytes.{fits-bytes}
-use Rattle.block.proofs.Held.{size-held, count-most}
+use Rattle.block.proofs.Held.{Holds, has-head, holds}
 use Rattle.rounds.proofs.Counting.{Compared, compared-none, compared-most, compared-past, compared-other, compared-lowered, compared-kept, compared-all}
 use Rattle.rounds.proofs.counted.counts.Statement.{statement}
 use Rattle.rounds.proofs.counted.counts.Tie as tie
 
 abbrev Inv-loop : tie.InvT-loop
 Inv-loop before after n m dropped₀ lowered₀ j₀ k₀ dropped lowered j k =
-    (n ≡ countIn before) × (m ≡ countIn after) × (length before ≡ 2180) × (length after ≡ 2180) × (n ≤ 256) × (m ≤ 256) × Compared before after j k dropped lowered
+    Holds before n × Holds after m × Compared before after j k dropped lowered
 
 abbrev μ-loop : tie.MeasureT-loop
 μ-loop before after n m dropped₀ lowered₀ j₀ k₀ dropped lowered j k = n - k
@@ -22,13 +21,13 @@ count-requires : tie.Need-count-requires Inv-loop μ-loop
 count-requires c κs =
     let s = c .before .before in
     let b = fits-bytes (s .args .before .now) (c .before .shared-slice-known .given) in
-    omega (arith, size-held (s .args .before .now) b (s .pre .0))
+    has-head (s .args .before .now) b (s .pre .0)
 
 count-requires-2 : tie.Need-count-requires-2 Inv-loop μ-loop
 count-requires-2 c κs =
     let s = c .before .before .before in
     let b = fits-bytes (s .args .after .now) (c .before .shared-slice-known2 .given) in
-    omega (arith, size-held (s .args .after .now) b (s .pre .1))
+    has-head (s .args .after .now) b (s .pre .1)
 
 loop-holds : tie.Need-loop-holds Inv-loop μ-loop
 loop-holds c =
@@ -38,7 +37,7 @@ loop-holds c =
     let p = fits-bytes b (c .before .before .before .shared-slice-known .given) in
     let q = fits-bytes a (c .before .before .shared-slice-known2 .given) in
     let (f, g, w) = s .pre in
-    (c .before .count .ensures, c .count2 .ensures, size-held b p f, size-held a q g, omega (arith, c .before .count .ensures, count-most b p f), omega (arith, c .count2 .ensures, count-most a q g), compared-none b a p q f g w)
+    (holds b p f (c .before .count .result) (c .before .count .ensures), holds a q g (c .count2 .result) (c .count2 .ensures), compared-none b a p q f g w)
 
 giver-requires : tie.Need-giver-requires Inv-loop μ-loop
 giver-requires c κs = omega arith
@@ -59,7 +58,7 @@ add-lowered : tie.Need-add-lowered Inv-loop μ-loop
 add-lowered c =
     let s = c .before .before .before .before .before .before .before .before .before .before .before .before .before .before in
     let v = c .before .before .before .before .before .before .before .before .before .loop in
-    omega (arith, compared-most (s .args .before .now) (s .args .after .now) (v .j) (v .k) (v .dropped) (v .lowered) (v .inv .6) .1)
+    omega (arith, compared-most (s .args .before .now) (s .args .after .now) (v .j) (v .k) (v .dropped) (v .lowered) (v .inv .2) .1)
 
 add-j : tie.Need-add-j Inv-loop μ-loop
 add-j c = omega arith
@@ -68,7 +67,7 @@ add-dropped : tie.Need-add-dropped Inv-loop μ-loop
 add-dropped c =
     let s = c .before .before .before .before .before .before .before .before .before in
     let v = c .before .before .before .before .loop in
-    omega (arith, compared-most (s .args .before .now) (s .args .after .now) (v .j) (v .k) (v .dropped) (v .lowered) (v .inv .6) .0)
+    omega (arith, compared-most (s .args .before .now) (s .args .after .now) (v .j) (v .k) (v .dropped) (v .lowered) (v .inv .2) .0)
 
 add-k : tie.Need-add-k Inv-loop μ-loop
 add-k c = omega arith
@@ -82,27 +81,23 @@ loop-again c =
     let v = c .before .before .before .before .loop in
     let b = s .args .before .now in
     let a = s .args .after .now in
-    let (n, m, p, q, o, r, h) = v .inv in
-    let l : v .k < countIn b = omega (arith, n) in
+    let (n, m, h) = v .inv in
+    let l : v .k < countIn b = omega (arith, n .counted) in
     let g = c .before .before .giver .ensures in
     let e = c .before .receiver .ensures in (
       n,
       m,
-      p,
-      q,
-      o,
-      r,
       ⊎-elim
           (λ w.
-          let d : v .j < countIn a = omega (arith, m, w .0 .taken) in
+          let d : v .j < countIn a = omega (arith, m .counted, w .0 .taken) in
           let t = rw (g, e) at (sym (w .1 .ensures) ∙ w .2 .taken) in
           rw (w .6, w .7, w .8) (⊎-elim
           (λ u. rw (u .1) (compared-lowered b a (v .j) (v .k) (v .dropped) (v .lowered) h l d t (rw (← w .3 .ensures, ← w .4 .ensures) (u .0 .taken))))
           (λ u. rw (u .1) (compared-kept b a (v .j) (v .k) (v .dropped) (v .lowered) h l d t (rw (← w .3 .ensures, ← w .4 .ensures) (u .0 .left))))
           (w .5 .came)))
           (λ w. rw (w .1, w .2, w .3) (⊎-elim
-          (λ u. compared-other b a (v .j) (v .k) (v .dropped) (v .lowered) h l (omega (arith, m, u .0 .taken)) (rw (g, e) at (sym (u .1 .ensures) ∙ u .2 .left)))
-          (λ u. compared-past b a (v .j) (v .k) (v .dropped) (v .lowered) h l (omega (arith, m, u .left)))
+          (λ u. compared-other b a (v .j) (v .k) (v .dropped) (v .lowered) h l (omega (arith, m .counted, u .0 .taken)) (rw (g, e) at (sym (u .1 .ensures) ∙ u .2 .left)))
+          (λ u. compared-past b a (v .j) (v .k) (v .dropped) (v .lowered) h l (omega (arith, m .counted, u .left)))
           (w .0 .came)))
           (c .if1 .came),
     )
@@ -112,7 +107,7 @@ returns c =
     let s = c .before .before .before .before .before .before in
     let v = c .before .loop in
     let b = s .args .before .now in
-    compared-all b (s .args .after .now) (fits-bytes b (c .before .before .before .before .before .shared-slice-known .given)) (s .pre .0) (v .j) (v .k) (v .dropped) (v .lowered) (v .inv .6) (omega (arith, v .inv .0))
+    compared-all b (s .args .after .now) (fits-bytes b (c .before .before .before .before .before .shared-slice-known .given)) (s .pre .0) (v .j) (v .k) (v .dropped) (v .lowered) (v .inv .2) (omega (arith, v .inv .0 .counted))
 
 pub counts-spec : {M : Type 1} → statement M
 counts-spec =

@@ -1,21 +1,21 @@
--- `rounds::copy` copies a slice. Assumes nothing.
-use mathlib.Core.Path.{_≡_, refl, sym, _∙_}
-use Prim.Native.Nat.{ℕ, _-_, _≤_, _<_}
+-- `change::copy` copies a slice. Assumes nothing.
+use mathlib.Core.Path.{_≡_, refl}
+use mathlib.Core.List.{_++_}
+use Prim.Native.Nat.{_-_, _≤_}
 use native.Mathlib.Omega.{arith}
-use lib.ListN.{length, getD, length-set}
-use lib.Seq.{ext-getD}
-use Rattle.reckoning.proofs.Lowering.{filled}
-use Rattle.rounds.proofs.copy.Statement.{statement}
-use Rattle.rounds.proofs.copy.Tie as tie
+use lib.ListN.{length, take, drop, length-set}
+use Rattle.change.proofs.Filling.{over-on, over-all}
+use Rattle.change.proofs.write.copy.Statement.{statement}
+use Rattle.change.proofs.write.copy.Tie as tie
 
 abbrev Inv-loop : tie.InvT-loop
-Inv-loop from to₀ i₀ to i = (length to ≡ length from) × (i ≤ length from) × ((j : ℕ) → j < i → getD to j 0 ≡ getD from j 0)
+Inv-loop from to₀ i₀ to i = (length to ≡ length to₀) × (i ≤ length from) × (to ≡ take i from ++ drop i to₀)
 
 abbrev μ-loop : tie.MeasureT-loop
 μ-loop from to₀ i₀ to i = length from - i
 
 loop-holds : tie.Need-loop-holds Inv-loop μ-loop
-loop-holds c = (sym (c .pre), omega arith, λ j h. absurd (omega arith))
+loop-holds c = (refl, omega arith, refl)
 
 shared-slice-read-to : tie.Need-shared-slice-read-to Inv-loop μ-loop
 shared-slice-read-to c = omega arith
@@ -31,17 +31,18 @@ loop-less c = omega arith
 
 loop-again : tie.Need-loop-again Inv-loop μ-loop
 loop-again c =
-    let a = c .before .before .before .args in
+    let s = c .before .before .before in
     let l = c .before .before .loop in
-    (simp length-set (l .inv .0), omega arith, filled (l .to) (l .i) 0 (getD (a .from .now) (l .i) 0) (λ j. getD (a .from .now) j 0) (omega arith) (l .inv .2) refl)
+    (simp length-set (l .inv .0), omega arith, over-on (s .args .from .now) (s .args .to .now) (s .pre) (l .i) (l .to) (l .inv .2) (omega arith) _ refl)
 
 same-length : tie.Need-same-length Inv-loop μ-loop
-same-length c = c .before .loop .inv .0 ∙ c .before .before .pre
+same-length c = c .before .loop .inv .0
 
 returns : tie.Need-returns Inv-loop μ-loop
 returns c =
+    let s = c .before .before in
     let l = c .before .loop in
-    ext-getD 0 (l .to) (c .before .before .args .from .now) (l .inv .0) (λ j h. l .inv .2 j (omega arith))
+    over-all (s .args .from .now) (s .args .to .now) (s .pre) (l .i) (l .to) (l .inv .2) (omega arith)
 
 pub copy-spec : {M : Type 1} → statement M
 copy-spec =

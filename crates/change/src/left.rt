@@ -1,26 +1,28 @@
-// The block written anew after a round.
+// What is left of the records of a block, written anew.
 ghost use mathlib.Core.Path.{_≡_};
 ghost use mathlib.Core.Bool.{true};
-ghost use mathlib.Core.List.{_++_};
-ghost use Prim.Native.Nat.{ℕ, _+_, _*_, _≤_, _<_};
+ghost use Prim.Native.Nat.{ℕ, _<_};
 ghost use lib.Dec.{ltb};
 ghost use lib.IntN.{pos};
-ghost use lib.ListN.{length, getD, take, drop};
+ghost use lib.ListN.{length, getD};
 ghost use lib.Seq.{sets};
 ghost use Rattle.rules.specs.List.{concatMap};
-ghost use Rattle.rules.specs.Limit.{code};
+ghost use Rattle.rules.specs.Limit.{code, _≼_};
 ghost use Rattle.rules.specs.Register.{withDelegations};
 ghost use Rattle.rules.specs.Round.{placed};
-ghost use Rattle.block.specs.Layout.{recordsAt};
+ghost use Rattle.block.specs.Layout.{mostRecords};
 ghost use Rattle.block.specs.Block.{recordBytes, countIn, decode, encode};
 ghost use Rattle.block.specs.WellFormed.{wellFormed};
-ghost use Rattle.block.specs.Records.{recordPlace, HasRecord, HasRecords, delegationAt};
-ghost use Rattle.reckoning.specs.Reckoned.{leftTo};
+ghost use Rattle.block.specs.Records.{recordPlace, delegationAt, leftTo};
+ghost use Rattle.change.specs.Left.{Movable, Weighed, LeftWritten};
+use crate::write::put_record;
+use crate::write::put_two;
+use crate::write::zero_all;
 use block::layout;
 
 // Record `from` written at the place `to` with a new weight, unless that is -1; whether it was.
 fn keep_at(block: &mut [u8], from: usize, to: usize, weight: i16) -> bool
-    requires { ⌜ (to ≤ from) × HasRecord (now block) from × (code weight ≤ 256) ⌝ }
+    requires { ⌜ Movable (now block) from to weight ⌝ }
     ensures { λ r. ⌜ (r ≡ ltb 0 (code weight)) × (now (block .exit) ≡ sets (now (block .entry)) (recordPlace to) (concatMap recordBytes (placed (delegationAt (now (block .entry)) from) weight))) ⌝ }
 {
     if weight < 0 {
@@ -30,15 +32,15 @@ fn keep_at(block: &mut [u8], from: usize, to: usize, weight: i16) -> bool
     let receiver = block::receiver(block, from);
     let need = block::need(block, from);
     let bar = block::bar(block, from);
-    let at = layout::RECORDS_AT + layout::RECORD_SIZE * to;
-    change::put_record(block, at, giver, receiver, weight as u8, need, bar);
+    let at = block::record_place(to);
+    put_record(block, at, giver, receiver, weight as u8, need, bar);
     true
 }
 
 // What is left of the first `n` records, each at its new weight, written from the first place on; how many.
 fn keep_left(block: &mut [u8], n: usize, weights: &[i16]) -> usize
-    requires { ⌜ HasRecords (now block) n × (n ≤ length (now weights)) × ((k : ℕ) → k < n → code (getD (now weights) k (pos 0)) ≤ 256) ⌝ }
-    ensures { λ r. ⌜ (let ds = leftTo (delegationAt (now (block .entry))) (now (weights .entry)) n in (r ≡ length ds) × (now (block .exit) ≡ take recordsAt (now (block .entry)) ++ (concatMap recordBytes ds ++ drop (recordPlace r) (now (block .entry))))) ⌝ }
+    requires { ⌜ Weighed (now block) (now weights) n ⌝ }
+    ensures { λ r. ⌜ LeftWritten (now (block .entry)) (now (weights .entry)) n r (now (block .exit)) ⌝ }
 {
     let mut kept: usize = 0;
     let mut k: usize = 0;
@@ -54,12 +56,12 @@ fn keep_left(block: &mut [u8], n: usize, weights: &[i16]) -> usize
 
 // The block written anew: what is left of its delegations, each at its new weight.
 pub fn write_left(block: &mut [u8], weights: &[i16])
-    requires { ⌜ (wellFormed (now block) ≡ true) × (length (now weights) ≡ 256) × ((k : ℕ) → k < countIn (now block) → code (getD (now weights) k (pos 0)) ≤ 256) ⌝ }
+    requires { ⌜ (wellFormed (now block) ≡ true) × (length (now weights) ≡ mostRecords) × ((k : ℕ) → k < countIn (now block) → getD (now weights) k (pos 0) ≼ pos 255) ⌝ }
     ensures { λ _. ⌜ now (block .exit) ≡ encode (withDelegations (decode (now (block .entry))) (leftTo (delegationAt (now (block .entry))) (now (weights .entry)) (countIn (now (block .entry))))) ⌝ }
 {
     let n = block::count(block);
     let kept = keep_left(block, n, weights);
-    let at = layout::RECORDS_AT + layout::RECORD_SIZE * kept;
-    change::zero_all(&mut block[at..]);
-    change::put_two(block, layout::COUNT_AT, kept as u16);
+    let at = block::record_place(kept);
+    zero_all(&mut block[at..]);
+    put_two(block, layout::COUNT_AT, kept as u16);
 }

@@ -1,9 +1,9 @@
--- `rounds::write::keep_at` writes a record at its new place and weight. Assumes nothing.
+-- `change::keep_at` writes a record at its new place and weight. Assumes nothing.
 use borrow.Author.Needs.{needs}
 use Rattle.block.specs.Records.{delegationAt}
-use Rattle.rounds.proofs.Writing.{none-written, weight-fits, one-written}
-use Rattle.rounds.proofs.write.keep_at.Statement.{statement}
-use Rattle.rounds.proofs.write.keep_at.Tie as tie
+use Rattle.change.proofs.Writing.{none-written, weight-fits, one-written}
+use Rattle.change.proofs.left.keep_at.Statement.{statement}
+use Rattle.change.proofs.left.keep_at.Tie as tie
 
 returns : tie.Need-returns
 returns c =
@@ -22,17 +22,14 @@ need-requires c κs = search needs
 bar-requires : tie.Need-bar-requires
 bar-requires c κs = search needs
 
-mul-at : tie.Need-mul-at
-mul-at c = search needs
-
-add-at : tie.Need-add-at
-add-at c = search needs
+record-place-requires : tie.Need-record-place-requires
+record-place-requires c κs = search needs
 
 cast-put-record : tie.Need-cast-put-record
 cast-put-record c =
-    let e = c .before .before .before .before .before .before .before .before .before in
+    let e = c .before .before .before .before .before .before .before .before .before .before in
     let s = e .before .before in
-    weight-fits (s .args .weight) (s .fits .weight) (e .if1 .left) (s .pre .2)
+    weight-fits (s .args .weight) (s .fits .weight) (e .if1 .left) (s .pre .most)
 
 put-record-requires : tie.Need-put-record-requires
 put-record-requires c κs = search needs
@@ -43,10 +40,10 @@ same-length c = search needs
 returns-2 : tie.Need-returns-2
 returns-2 c =
     let p = c .before .before in
-    let e = p .before .before .before .before .before .before .before .before .before .before in
+    let e = p .before .before .before .before .before .before .before .before .before .before .before in
     let s = e .before .before in
-    one-written (s .args .weight) (s .fits .weight) (e .if1 .left) (s .pre .2) (s .args .block .now) _ _ _ _ _ _ (delegationAt (s .args .block .now) (s .args .from))
-    (p .before .before .before .before .before .before .before .before .giver .ensures) (p .before .before .before .before .before .before .receiver .ensures) (p .before .before .before .before .need .ensures) (p .before .before .bar .ensures) (p .put-record .ensures)
+    one-written (s .args .weight) (s .fits .weight) (e .if1 .left) (s .pre .most) (s .args .block .now) _ _ _ _ _ _ (delegationAt (s .args .block .now) (s .args .from))
+    (p .before .before .before .before .before .before .before .before .before .giver .ensures) (p .before .before .before .before .before .before .before .receiver .ensures) (p .before .before .before .before .before .need .ensures) (p .before .before .before .bar .ensures) (rw (p .before .before .record-place .ensures) at (p .put-record .ensures))
 
 pub keep-at-spec : {M : Type 1} → statement M
 keep-at-spec =
@@ -57,8 +54,7 @@ keep-at-spec =
     receiver-requires
     need-requires
     bar-requires
-    mul-at
-    add-at
+    record-place-requires
     cast-put-record
     put-record-requires
     same-length

@@ -1,16 +1,17 @@
--- `rounds::write::keep_left` writes what is left of the first records. Assumes nothing.
+-- `change::keep_left` writes what is left of the first records. Assumes nothing.
 use mathlib.Core.Logic.{⊎-elim}
 use mathlib.Core.Path.{_≡_, sym, _∙_}
 use Prim.Native.Nat.{_-_, _≤_}
 use native.Mathlib.Omega.{arith}
 use lib.IntN.{pos}
 use lib.ListN.{getD}
-use Rattle.rounds.proofs.Writing.{kept-is, Left, left-none, left-few, left-length, left-one, left-same}
-use Rattle.rounds.proofs.write.keep_left.Statement.{statement}
-use Rattle.rounds.proofs.write.keep_left.Tie as tie
+use Rattle.change.specs.Left.{LeftWritten}
+use Rattle.change.proofs.Writing.{kept-is, left-none, left-few, left-length, left-one, left-same}
+use Rattle.change.proofs.left.keep_left.Statement.{statement}
+use Rattle.change.proofs.left.keep_left.Tie as tie
 
 abbrev Inv-loop : tie.InvT-loop
-Inv-loop block₀ n weights kept₀ k₀ block kept k = (k ≤ n) × Left block₀ weights k kept block
+Inv-loop block₀ n weights kept₀ k₀ block kept k = (k ≤ n) × LeftWritten block₀ weights k kept block
 
 abbrev μ-loop : tie.MeasureT-loop
 μ-loop block₀ n weights kept₀ k₀ block kept k = n - k
@@ -32,7 +33,12 @@ keep-at-requires c κs =
     let w = s .args .weights .now in
     let few = left-few b w (v .k) (v .kept) (v .block) (v .inv .1) (omega arith) in
     let long = left-length b w (v .k) (v .kept) (v .block) (v .inv .1) (omega arith) in
-    (few, omega (arith, long), rw (kept-is (getD w (v .k) (pos 0)) (c .before .weight .given)) (s .pre .2 (v .k) (c .before .before .loop-test .taken)))
+    record {
+      down = few;
+      few = omega arith;
+      room = omega (arith, long);
+      most = rw (kept-is (getD w (v .k) (pos 0)) (c .before .weight .given)) (s .pre .most (v .k) (c .before .before .loop-test .taken));
+    }
 
 add-kept : tie.Need-add-kept Inv-loop μ-loop
 add-kept c =
