@@ -13,7 +13,7 @@ use lib.Seq.{getD-set-same, getD-set-other}
 use Rattle.rules.specs.Limit.{none}
 use Rattle.rules.proofs.Lists.{either}
 use Rattle.block.specs.Layout.{mostSubjects}
-use Rattle.runs.specs.Lent.{Room}
+use Rattle.runs.specs.Lent.{SubjectLists}
 use Rattle.search.specs.Search.{Started}
 
 pub filled-more : {A : Type 0} (l : List A) (i : ℕ) (v d : A) → i < length l → ((y : ℕ) → y < i → getD l y d ≡ v) → (y : ℕ) → y < i + 1 → getD (set l i v) y d ≡ v
@@ -28,7 +28,7 @@ everywhere l v n h a y = go (either (ltb y n))
     go (inl q) = a y (ltb→lt y n q)
     go (inr q) = List·getD-eq-default l v (omega (arith, nltb→le y n q))
 
-pub started : (l : List ℤ) (p : List ℕ) → Room l p → ((y : ℕ) → y < mostSubjects → getD l y none ≡ none) → ((y : ℕ) → y < mostSubjects → getD p y 0 ≡ 0)
+pub started : (l : List ℤ) (p : List ℕ) → SubjectLists l p → ((y : ℕ) → y < mostSubjects → getD l y none ≡ none) → ((y : ℕ) → y < mostSubjects → getD p y 0 ≡ 0)
     → Started (set l 0 (pos 255)) p
 started l p room a b = record {
   owner = getD-set-same l 0 (pos 255) none (omega (arith, room .limits));

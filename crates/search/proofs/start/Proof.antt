@@ -6,14 +6,14 @@ use native.Mathlib.Omega.{arith}
 use lib.ListN.{length-set, getD}
 use Rattle.rules.specs.Limit.{none}
 use Rattle.block.specs.Layout.{mostSubjects}
-use Rattle.runs.specs.Lent.{Room}
+use Rattle.runs.specs.Lent.{SubjectLists}
 use Rattle.search.proofs.Fill.{filled-more, started}
 use Rattle.search.proofs.start.Statement.{statement}
 use Rattle.search.proofs.start.Tie as tie
 
 abbrev Inv-loop : tie.InvT-loop
 Inv-loop limits₀ parents₀ i₀ limits parents i =
-    (i ≤ mostSubjects) × Room limits parents × ((y : ℕ) → y < i → getD limits y none ≡ none) × ((y : ℕ) → y < i → getD parents y 0 ≡ 0)
+    (i ≤ mostSubjects) × SubjectLists limits parents × ((y : ℕ) → y < i → getD limits y none ≡ none) × ((y : ℕ) → y < i → getD parents y 0 ≡ 0)
 
 abbrev μ-loop : tie.MeasureT-loop
 μ-loop limits₀ parents₀ i₀ limits parents i = mostSubjects - i
