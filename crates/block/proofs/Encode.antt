@@ -4,30 +4,44 @@ use mathlib.Core.List.{List, [], _∷_, _++_, append-assoc, List·Memᴰ·head, 
 use Prim.Native.Nat.{ℕ, zero, suc, _+_, _-_, _/_, _≤_}
 use native.Mathlib.Nat.{mod-lt}
 use native.Mathlib.Omega.{arith}
-use lib.ListN.{length, drop, replicate, length-append, length-replicate}
-use lib.Seq.{drop-at}
+use lib.ListN.{length, take, drop, replicate, length-append, length-replicate}
+use lib.Seq.{take-at, drop-at}
 use Rattle.rules.specs.List.{_∈_, concatMap}
 use Rattle.rules.specs.Register.{Delegation, Register}
 use Rattle.rules.specs.WellFormed.{DelegationFormed, WellFormed}
+use Rattle.block.specs.Layout.{blockSize, markSize, recordSize, marksSize, recordsSize, marksAt, recordsAt}
 use Rattle.block.specs.Bytes.{IsBytes, twoBytes, readAll, padded}
 use Rattle.block.specs.Block.{marksIn, delegationIn, recordBytes, subjectsIn, countIn, decode, encode}
 use Rattle.block.proofs.Bytes.{two-twoBytes, bytes-append, bytes-zeros, length-written, read-written}
 use Rattle.block.specs.Records.{delegationsTo}
 
--- the bytes of the marks, and of the records
+-- the head: subjects, zero, the count
+abbrev pub headOf : ℕ → ℕ → List ℕ
+headOf n c = n ∷ 0 ∷ twoBytes c
+
+-- the bytes of the marks; what stands between the head and the records; the bytes of the records; what stands after the marks
 abbrev pub marksPart : Register → List ℕ
-marksPart R = padded 128 (concatMap twoBytes (R .marks))
+marksPart R = padded marksSize (concatMap twoBytes (R .marks))
+
+abbrev pub middlePart : Register → List ℕ
+middlePart R = marksPart R
+
+abbrev pub middleSize : ℕ
+middleSize = recordsAt - marksAt
 
 abbrev pub recordsPart : Register → List ℕ
-recordsPart R = padded 2048 (concatMap recordBytes (R .delegations))
+recordsPart R = padded recordsSize (concatMap recordBytes (R .delegations))
+
+abbrev pub afterMarks : Register → List ℕ
+afterMarks R = recordsPart R
 
 length-padded : (n : ℕ) (s : List ℕ) → length s ≤ n → length (padded n s) ≡ n
 length-padded n s h = length-append s (replicate (n - length s) 0) ∙ omega (arith, length-replicate {A = ℕ} (n - length s) 0)
 
-two-wide : (n : ℕ) → length (twoBytes n) ≡ 2
+two-wide : (n : ℕ) → length (twoBytes n) ≡ markSize
 two-wide n = refl
 
-pub record-wide : (d : Delegation) → length (recordBytes d) ≡ 8
+pub record-wide : (d : Delegation) → length (recordBytes d) ≡ recordSize
 record-wide d = refl
 
 -- a record reads back, whatever follows it
@@ -48,25 +62,32 @@ all-bytes g [] h = λ i. omega arith
 all-bytes g (x ∷ xs) h = bytes-append (g x) (concatMap g xs) (h x (List·Memᴰ·head refl)) (all-bytes g xs (λ y m. h y (List·Memᴰ·tail m)))
 
 module _ (R : Register) (f : WellFormed R) where
-  marks-most : length (concatMap twoBytes (R .marks)) ≤ 128
-  marks-most = omega (arith, length-written twoBytes 2 two-wide (R .marks), f .marked, f .most)
+  marks-most : length (concatMap twoBytes (R .marks)) ≤ marksSize
+  marks-most = omega (arith, length-written twoBytes markSize two-wide (R .marks), f .marked, f .most)
 
-  records-most : length (concatMap recordBytes (R .delegations)) ≤ 2048
-  records-most = omega (arith, length-written recordBytes 8 record-wide (R .delegations), f .few)
+  records-most : length (concatMap recordBytes (R .delegations)) ≤ recordsSize
+  records-most = omega (arith, length-written recordBytes recordSize record-wide (R .delegations), f .few)
 
-  pub length-marksPart : length (marksPart R) ≡ 128
-  length-marksPart = length-padded 128 (concatMap twoBytes (R .marks)) marks-most
+  length-marksPart : length (marksPart R) ≡ marksSize
+  length-marksPart = length-padded marksSize (concatMap twoBytes (R .marks)) marks-most
 
-  length-recordsPart : length (recordsPart R) ≡ 2048
-  length-recordsPart = length-padded 2048 (concatMap recordBytes (R .delegations)) records-most
+  pub length-middlePart : length (middlePart R) ≡ middleSize
+  length-middlePart = length-marksPart
 
-  pub length-encode : length (encode R) ≡ 2180
+  length-recordsPart : length (recordsPart R) ≡ recordsSize
+  length-recordsPart = length-padded recordsSize (concatMap recordBytes (R .delegations)) records-most
+
+  pub length-encode : length (encode R) ≡ blockSize
   unfolding encode
-  length-encode = omega (arith, length-append (marksPart R) (recordsPart R), length-marksPart, length-recordsPart)
+  length-encode = omega (arith, length-append (middlePart R) (recordsPart R), length-middlePart, length-recordsPart)
 
-  pub records-encode : drop 132 (encode R) ≡ recordsPart R
+  pub records-encode : drop recordsAt (encode R) ≡ recordsPart R
   unfolding encode
-  records-encode = drop-at (marksPart R) (recordsPart R) 128 length-marksPart
+  records-encode = drop-at (middlePart R) (recordsPart R) middleSize length-middlePart
+
+  pub front-encode : take recordsAt (encode R) ≡ headOf (R .subjects) (length (R .delegations)) ++ middlePart R
+  unfolding encode
+  front-encode = λ i. headOf (R .subjects) (length (R .delegations)) ++ take-at (middlePart R) (recordsPart R) middleSize length-middlePart i
 
   pub subjects-encode : subjectsIn (encode R) ≡ R .subjects
   unfolding encode
@@ -76,18 +97,18 @@ module _ (R : Register) (f : WellFormed R) where
   unfolding encode
   count-encode = two-twoBytes (length (R .delegations)) (omega (arith, f .few))
 
-  pub marks-encode : readAll marksIn 2 (drop 4 (encode R)) (subjectsIn (encode R)) ≡ R .marks
+  pub marks-encode : readAll marksIn markSize (drop marksAt (encode R)) (subjectsIn (encode R)) ≡ R .marks
   unfolding encode
   marks-encode =
-      ap (λ (s : List ℕ). readAll marksIn 2 s (R .subjects)) (append-assoc (concatMap twoBytes (R .marks)) (replicate (128 - length (concatMap twoBytes (R .marks))) 0) (recordsPart R))
-      ∙ ap (λ (n : ℕ). readAll marksIn 2 (concatMap twoBytes (R .marks) ++ (replicate (128 - length (concatMap twoBytes (R .marks))) 0 ++ recordsPart R)) n) (sym (f .marked))
-      ∙ read-written twoBytes 2 two-wide marksIn (R .marks) (replicate (128 - length (concatMap twoBytes (R .marks))) 0 ++ recordsPart R) (λ m i r. two-twoBytes m (f .marks m i))
+      ap (λ (s : List ℕ). readAll marksIn markSize s (R .subjects)) (append-assoc (concatMap twoBytes (R .marks)) (replicate (marksSize - length (concatMap twoBytes (R .marks))) 0) (recordsPart R))
+      ∙ ap (λ (n : ℕ). readAll marksIn markSize (concatMap twoBytes (R .marks) ++ (replicate (marksSize - length (concatMap twoBytes (R .marks))) 0 ++ recordsPart R)) n) (sym (f .marked))
+      ∙ read-written twoBytes markSize two-wide marksIn (R .marks) (replicate (marksSize - length (concatMap twoBytes (R .marks))) 0 ++ recordsPart R) (λ m i r. two-twoBytes m (f .marks m i))
 
   pub delegations-encode : delegationsTo (encode R) (countIn (encode R)) ≡ R .delegations
   delegations-encode =
-      ap (λ (s : List ℕ). readAll delegationIn 8 s (countIn (encode R))) records-encode
-      ∙ ap (λ (n : ℕ). readAll delegationIn 8 (recordsPart R) n) count-encode
-      ∙ read-written recordBytes 8 record-wide delegationIn (R .delegations) (replicate (2048 - length (concatMap recordBytes (R .delegations))) 0)
+      ap (λ (s : List ℕ). readAll delegationIn recordSize s (countIn (encode R))) records-encode
+      ∙ ap (λ (n : ℕ). readAll delegationIn recordSize (recordsPart R) n) count-encode
+      ∙ read-written recordBytes recordSize record-wide delegationIn (R .delegations) (replicate (recordsSize - length (concatMap recordBytes (R .delegations))) 0)
       (λ d m r. record-read d (f .each d m .need) (f .each d m .bar) r)
 
   -- what was written is read back
@@ -110,7 +131,7 @@ module _ (R : Register) (f : WellFormed R) where
   bytes-encode (suc (suc (suc zero))) = two-bytes (length (R .delegations)) 1
   bytes-encode (suc (suc (suc (suc i)))) =
       bytes-append (marksPart R) (recordsPart R)
-      (bytes-append (concatMap twoBytes (R .marks)) (replicate (128 - length (concatMap twoBytes (R .marks))) 0) (all-bytes twoBytes (R .marks) (λ m j. two-bytes m)) (bytes-zeros (128 - length (concatMap twoBytes (R .marks)))))
-      (bytes-append (concatMap recordBytes (R .delegations)) (replicate (2048 - length (concatMap recordBytes (R .delegations))) 0) (all-bytes recordBytes (R .delegations) (λ d m. record-bytes d (f .each d m)))
-      (bytes-zeros (2048 - length (concatMap recordBytes (R .delegations)))))
+      (bytes-append (concatMap twoBytes (R .marks)) (replicate (marksSize - length (concatMap twoBytes (R .marks))) 0) (all-bytes twoBytes (R .marks) (λ m j. two-bytes m)) (bytes-zeros (marksSize - length (concatMap twoBytes (R .marks)))))
+      (bytes-append (concatMap recordBytes (R .delegations)) (replicate (recordsSize - length (concatMap recordBytes (R .delegations))) 0) (all-bytes recordBytes (R .delegations) (λ d m. record-bytes d (f .each d m)))
+      (bytes-zeros (recordsSize - length (concatMap recordBytes (R .delegations)))))
       i

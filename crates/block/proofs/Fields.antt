@@ -1,34 +1,38 @@
 -- A field of a block, read from where its part begins. Assumes nothing.
-use mathlib.Core.Path.{_≡_, sym}
-use mathlib.Core.Bool.{Bool, true, false, not, _&&_}
+use mathlib.Core.Path.{_≡_, sym, subst}
+use mathlib.Core.Bool.{true, _&&_}
 use mathlib.Core.List.{List}
 use Prim.Native.Nat.{ℕ, _+_, _≤_}
 use native.Mathlib.Nat.{add-assoc}
-use borrow.Author.Tests.{leb-true}
-use lib.Bits.{bitAnd}
-use lib.Dec.{eqb, ltb, leb}
+use lib.Dec.{T, eqb, leb→le}
 use lib.ListN.{getD, drop}
 use lib.Seq.{getD-drop}
-use Rattle.rules.proofs.Lists.{clash}
+use Rattle.rules.specs.Register.{Delegation}
+use Rattle.block.specs.Layout.{mostRecords, giverByte, receiverByte, weightByte, restByte, needByte, barByte}
 use Rattle.block.specs.Bytes.{two}
-use Rattle.block.specs.Block.{subjectsIn, countIn}
-use Rattle.block.specs.WellFormed.{headFormed, recordFormed}
+use Rattle.block.specs.Block.{delegationIn, countIn}
+use Rattle.block.specs.WellFormed.{allPass, delegationTests, recordFormed, headTests, headFormed}
+use Rattle.block.proofs.Tests.{Each, end, _▸_, each}
 
 -- two bytes at j of the part that begins at `at`
 pub two-in : (s : List ℕ) (at j : ℕ) → two s (at + j) ≡ two (drop at s) j
 two-in s at j = simp (getD-drop, add-assoc)
 
--- the test of the record that begins at `at`
-pub formed-at : (n at : ℕ) (s : List ℕ) → recordFormed n (drop at s)
-    ≡ (ltb (getD s (at + 0) 0) n && ltb (getD s (at + 1) 0) n && not (eqb (getD s (at + 0) 0) (getD s (at + 1) 0)) && not (eqb (getD s (at + 1) 0) 0)
-    && eqb (bitAnd (two s (at + 4)) (two s (at + 6))) 0 && eqb (getD s (at + 3) 0) 0)
+-- the delegation of the record that begins at `at`, field by field
+abbrev pub fieldsAt : List ℕ → ℕ → Delegation
+fieldsAt s at = record { giver = getD s (at + giverByte) 0; receiver = getD s (at + receiverByte) 0; weight = getD s (at + weightByte) 0; need = two s (at + needByte); bar = two s (at + barByte) }
+
+fields-in : (s : List ℕ) (at : ℕ) → fieldsAt s at ≡ delegationIn (drop at s)
+fields-in s at = simp (getD-drop, add-assoc)
+
+-- the test of that record
+pub formed-at : (n at : ℕ) (s : List ℕ) → recordFormed n (drop at s) ≡ (allPass (delegationTests n) (fieldsAt s at) && (eqb (getD s (at + restByte) 0) 0 && true))
 unfolding recordFormed
-formed-at n at s = simp (getD-drop, add-assoc)
+formed-at n at s = λ i. allPass (delegationTests n) (sym (fields-in s at) i) && (eqb (getD-drop at s restByte 0 i) 0 && true)
 
-and-right : (a b : Bool) → (a && b) ≡ true → b ≡ true
-and-right true b e = e
-and-right false b e = clash (sym e)
-
--- a formed head counts at most 256 delegations
-pub head-few : (b : List ℕ) → headFormed b ≡ true → countIn b ≤ 256
-head-few b t = leb-true (countIn b) 256 (and-right (leb 1 (subjectsIn b) && leb (subjectsIn b) 64 && eqb (getD b 1 0) 0) (leb (countIn b) 256) t)
+-- a formed head counts at most so many delegations
+pub head-few : (b : List ℕ) → headFormed b ≡ true → countIn b ≤ mostRecords
+head-few b t = go (each headTests b (subst T (sym t) tt))
+  where
+    go : Each b headTests → countIn b ≤ mostRecords
+    go (some ▸ most ▸ free ▸ few ▸ end) = leb→le (countIn b) mostRecords few

@@ -1,12 +1,11 @@
 -- A well-formed block holds a well-formed register and is that register written; a well-formed register written is a well-formed block. Assumes nothing.
 use mathlib.Core.Path.{_≡_, refl, sym, ap, subst, _∙_}
-use mathlib.Core.Bool.{true, not, _&&_}
 use mathlib.Core.List.{List, [], _∷_, _++_, append-assoc, append-nil, List·Memᴰ·head, List·Memᴰ·tail, List·Memᴰ·not-nil}
 use Prim.Native.Nat.{ℕ, zero, suc, _+_, _*_, _-_, _≤_, _<_}
 use native.Mathlib.Nat.{zero-add, le-of-suc-le-suc, not-suc-le-zero}
 use native.Mathlib.Omega.{arith}
 use lib.Bits.{bitAnd}
-use lib.Dec.{T, eqb, ltb, leb, eqb→eq, ltb→lt, lt→ltb, leb→le, le→leb, not-T}
+use lib.Dec.{T, eqb, eqb→eq, ltb→lt, lt→ltb, leb→le, le→leb, not-T}
 use lib.ListN.{length, getD, take, drop, replicate, length-drop, length-replicate, getD-replicate, take-append-drop, List·getD-append}
 use lib.Seq.{getD-drop, getD-append-add, drop-drop, take-all}
 use Rattle.rules.specs.List.{_∈_, tabulate, concatMap}
@@ -16,21 +15,23 @@ use Rattle.rules.specs.CallStep.{before}
 use Rattle.rules.proofs.Lists.{T-left, T-right, T-both, eq→eqb, test-ne}
 use Rattle.rules.proofs.WellFormed.{Before-trans}
 use Rattle.rules.proofs.Pairs.{before-Before, Before-before}
+use Rattle.block.specs.Layout.{blockSize, mostSubjects, mostRecords, freeAt, markSize, recordSize, marksSize, recordsSize, marksAt, recordsAt, weightByte, restByte, needByte, barByte}
 use Rattle.block.specs.Bytes.{IsBytes, two, twoBytes, readAll, padded, zeros}
 use Rattle.block.specs.Block.{marksIn, delegationIn, recordBytes, subjectsIn, countIn, decode, encode}
-use Rattle.block.specs.WellFormed.{headFormed, ownerUnmarked, restUnmarked, delegationFormed, recordFormed, recordsFormed, rises, recordsRise, restZero, wellFormed}
+use Rattle.block.specs.WellFormed.{allPass, delegationTests, delegationFormed, recordTests, recordFormed, restUnmarked, recordsFormed, rises, recordsRise, restZero, blockTests, wellFormed}
 use Rattle.block.proofs.Bytes.{tabulate-suc, twoBytes-two, two-most, bytes-drop, length-tabulate, tabulate-mem, length-written, written-at, written-read, allFrom-at, allFrom-all, padded-zeros, getD-mem}
+use Rattle.block.proofs.Tests.{Each, end, _▸_, each, every}
 use Rattle.block.proofs.Encode.{marksPart, recordsPart, marks-encode, record-wide, record-read, length-encode, subjects-encode, count-encode, records-encode, delegations-encode}
 use Rattle.block.specs.Records.{delegationAt, delegationsTo, recordFrom}
 
 -- ── the rules of a well-formed block, each by itself ──
 pub record Parts (b : List ℕ) : Type 0 where
-  pub size : length b ≡ 2180
+  pub size : length b ≡ blockSize
   pub some : 1 ≤ subjectsIn b
-  pub most : subjectsIn b ≤ 64
-  pub second : getD b 1 0 ≡ 0
-  pub few : countIn b ≤ 256
-  pub owner : two b 4 ≡ 0
+  pub most : subjectsIn b ≤ mostSubjects
+  pub free : getD b freeAt 0 ≡ 0
+  pub few : countIn b ≤ mostRecords
+  pub owner : two b marksAt ≡ 0
   pub unmarked : T (restUnmarked b)
   pub formed : T (recordsFormed b)
   pub rise : T (recordsRise b)
@@ -38,45 +39,36 @@ pub record Parts (b : List ℕ) : Type 0 where
 
 pub parts : (b : List ℕ) → T (wellFormed b) → Parts b
 unfolding wellFormed
-parts b h =
-    let h6 = T-left (eqb (length b) 2180 && headFormed b && ownerUnmarked b && restUnmarked b && recordsFormed b && recordsRise b) (restZero b) h in
-    let h5 = T-left (eqb (length b) 2180 && headFormed b && ownerUnmarked b && restUnmarked b && recordsFormed b) (recordsRise b) h6 in
-    let h4 = T-left (eqb (length b) 2180 && headFormed b && ownerUnmarked b && restUnmarked b) (recordsFormed b) h5 in
-    let h3 = T-left (eqb (length b) 2180 && headFormed b && ownerUnmarked b) (restUnmarked b) h4 in
-    let h2 = T-left (eqb (length b) 2180 && headFormed b) (ownerUnmarked b) h3 in
-    let d3 = T-right (eqb (length b) 2180) (headFormed b) h2 in
-    let d2 = T-left (leb 1 (subjectsIn b) && leb (subjectsIn b) 64 && eqb (getD b 1 0) 0) (leb (countIn b) 256) d3 in
-    let d1 = T-left (leb 1 (subjectsIn b) && leb (subjectsIn b) 64) (eqb (getD b 1 0) 0) d2 in
-    record {
-      size = eqb→eq (length b) 2180 (T-left (eqb (length b) 2180) (headFormed b) h2);
-      some = leb→le 1 (subjectsIn b) (T-left (leb 1 (subjectsIn b)) (leb (subjectsIn b) 64) d1);
-      most = leb→le (subjectsIn b) 64 (T-right (leb 1 (subjectsIn b)) (leb (subjectsIn b) 64) d1);
-      second = eqb→eq (getD b 1 0) 0 (T-right (leb 1 (subjectsIn b) && leb (subjectsIn b) 64) (eqb (getD b 1 0) 0) d2);
-      few = leb→le (countIn b) 256 (T-right (leb 1 (subjectsIn b) && leb (subjectsIn b) 64 && eqb (getD b 1 0) 0) (leb (countIn b) 256) d3);
-      owner = eqb→eq (two b 4) 0 (T-right (eqb (length b) 2180 && headFormed b) (ownerUnmarked b) h3);
-      unmarked = T-right (eqb (length b) 2180 && headFormed b && ownerUnmarked b) (restUnmarked b) h4;
-      formed = T-right (eqb (length b) 2180 && headFormed b && ownerUnmarked b && restUnmarked b) (recordsFormed b) h5;
-      rise = T-right (eqb (length b) 2180 && headFormed b && ownerUnmarked b && restUnmarked b && recordsFormed b) (recordsRise b) h6;
-      rest = T-right (eqb (length b) 2180 && headFormed b && ownerUnmarked b && restUnmarked b && recordsFormed b && recordsRise b) (restZero b) h;
+parts b h = go (each blockTests b h)
+  where
+    go : Each b blockTests → Parts b
+    go (size ▸ some ▸ most ▸ free ▸ few ▸ owner ▸ unmarked ▸ formed ▸ rise ▸ rest ▸ end) = record {
+      size = eqb→eq (length b) blockSize size;
+      some = leb→le 1 (subjectsIn b) some;
+      most = leb→le (subjectsIn b) mostSubjects most;
+      free = eqb→eq (getD b freeAt 0) 0 free;
+      few = leb→le (countIn b) mostRecords few;
+      owner = eqb→eq (two b marksAt) 0 owner;
+      unmarked = unmarked;
+      formed = formed;
+      rise = rise;
+      rest = rest;
     }
 
 pub whole : (b : List ℕ) → Parts b → T (wellFormed b)
 unfolding wellFormed
-whole b p =
-    T-both (eqb (length b) 2180 && headFormed b && ownerUnmarked b && restUnmarked b && recordsFormed b && recordsRise b) (restZero b)
-    (T-both (eqb (length b) 2180 && headFormed b && ownerUnmarked b && restUnmarked b && recordsFormed b) (recordsRise b)
-    (T-both (eqb (length b) 2180 && headFormed b && ownerUnmarked b && restUnmarked b) (recordsFormed b)
-    (T-both (eqb (length b) 2180 && headFormed b && ownerUnmarked b) (restUnmarked b)
-    (T-both (eqb (length b) 2180 && headFormed b) (ownerUnmarked b) (T-both (eqb (length b) 2180) (headFormed b) (eq→eqb (p .size)) head) (eq→eqb (p .owner)))
-    (p .unmarked)) (p .formed)) (p .rise)) (p .rest)
-  where
-    head : T (headFormed b)
-    head =
-        T-both (leb 1 (subjectsIn b) && leb (subjectsIn b) 64 && eqb (getD b 1 0) 0) (leb (countIn b) 256)
-        (T-both (leb 1 (subjectsIn b) && leb (subjectsIn b) 64) (eqb (getD b 1 0) 0)
-        (T-both (leb 1 (subjectsIn b)) (leb (subjectsIn b) 64) (le→leb 1 (subjectsIn b) (p .some)) (le→leb (subjectsIn b) 64 (p .most)))
-        (eq→eqb (p .second)))
-        (le→leb (countIn b) 256 (p .few))
+whole b p = every blockTests b (
+    eq→eqb (p .size)
+    ▸ le→leb 1 (subjectsIn b) (p .some)
+    ▸ le→leb (subjectsIn b) mostSubjects (p .most)
+    ▸ eq→eqb (p .free)
+    ▸ le→leb (countIn b) mostRecords (p .few)
+    ▸ eq→eqb (p .owner)
+    ▸ p .unmarked
+    ▸ p .formed
+    ▸ p .rise
+    ▸ p .rest
+    ▸ end)
 
 -- ── rising, as a test and as a statement ──
 rises-Rising : (ds : List Delegation) → T (rises ds) → Rising ds
@@ -98,60 +90,52 @@ Rising-rises (d ∷ e ∷ es) r = T-both (before d e) (rises (e ∷ es)) (Before
 
 -- ── a formed delegation, as a test and as a statement ──
 module _ (n : ℕ) (d : Delegation) where
-  formed-of : d .weight ≤ 255 → d .need ≤ 65535 → d .bar ≤ 65535 → T (delegationFormed n d) → DelegationFormed n d
-  formed-of w x y h =
-      let a = ltb (d .giver) n in
-      let b = ltb (d .receiver) n in
-      let c = not (eqb (d .giver) (d .receiver)) in
-      let e = not (eqb (d .receiver) 0) in
-      let f = eqb (bitAnd (d .need) (d .bar)) 0 in
-      let h3 = T-left (a && b && c && e) f h in
-      let h2 = T-left (a && b && c) e h3 in
-      let h1 = T-left (a && b) c h2 in
-      record {
-        giver = ltb→lt (d .giver) n (T-left a b h1);
-        receiver = ltb→lt (d .receiver) n (T-right a b h1);
-        differ = test-ne (d .giver) (d .receiver) (T-right (a && b) c h2);
-        notOwner = test-ne (d .receiver) 0 (T-right (a && b && c) e h3);
+  formed-of : d .weight ≤ 255 → d .need ≤ 65535 → d .bar ≤ 65535 → T (allPass (delegationTests n) d) → DelegationFormed n d
+  formed-of w x y h = go (each (delegationTests n) d h)
+    where
+      go : Each d (delegationTests n) → DelegationFormed n d
+      go (giver ▸ receiver ▸ differ ▸ notOwner ▸ disjoint ▸ end) = record {
+        giver = ltb→lt (d .giver) n giver;
+        receiver = ltb→lt (d .receiver) n receiver;
+        differ = test-ne (d .giver) (d .receiver) differ;
+        notOwner = test-ne (d .receiver) 0 notOwner;
         weight = w;
         need = x;
         bar = y;
-        disjoint = eqb→eq (bitAnd (d .need) (d .bar)) 0 (T-right (a && b && c && e) f h);
+        disjoint = eqb→eq (bitAnd (d .need) (d .bar)) 0 disjoint;
       }
 
-  formed-test : DelegationFormed n d → T (delegationFormed n d)
-  formed-test k =
-      let a = ltb (d .giver) n in
-      let b = ltb (d .receiver) n in
-      let c = not (eqb (d .giver) (d .receiver)) in
-      let e = not (eqb (d .receiver) 0) in
-      let f = eqb (bitAnd (d .need) (d .bar)) 0 in
-      T-both (a && b && c && e) f
-      (T-both (a && b && c) e
-      (T-both (a && b) c (T-both a b (lt→ltb (d .giver) n (k .giver)) (lt→ltb (d .receiver) n (k .receiver))) (not-T (eqb (d .giver) (d .receiver)) (λ q. k .differ (eqb→eq (d .giver) (d .receiver) q))))
-      (not-T (eqb (d .receiver) 0) (λ q. k .notOwner (eqb→eq (d .receiver) 0 q))))
-      (eq→eqb (k .disjoint))
+  formed-test : DelegationFormed n d → T (allPass (delegationTests n) d)
+  formed-test k = every (delegationTests n) d (
+      lt→ltb (d .giver) n (k .giver)
+      ▸ lt→ltb (d .receiver) n (k .receiver)
+      ▸ not-T (eqb (d .giver) (d .receiver)) (λ q. k .differ (eqb→eq (d .giver) (d .receiver) q))
+      ▸ not-T (eqb (d .receiver) 0) (λ q. k .notOwner (eqb→eq (d .receiver) 0 q))
+      ▸ eq→eqb (k .disjoint)
+      ▸ end)
 
--- the fourth byte of a formed record is zero
-record-third : (n : ℕ) (s : List ℕ) → T (recordFormed n s) → getD s 3 0 ≡ 0
+-- a formed record: the test of its delegation, and its fourth byte
+record-parts : (n : ℕ) (s : List ℕ) → T (recordFormed n s) → T (delegationFormed n s) × (getD s restByte 0 ≡ 0)
 unfolding recordFormed
-record-third n s h = eqb→eq (getD s 3 0) 0 (T-right (delegationFormed n (delegationIn s)) (eqb (getD s 3 0) 0) h)
+record-parts n s h = go (each (recordTests n) s h)
+  where
+    go : Each s (recordTests n) → T (delegationFormed n s) × (getD s restByte 0 ≡ 0)
+    go (formed ▸ fourth ▸ end) = (formed, eqb→eq (getD s restByte 0) 0 fourth)
 
 -- a formed delegation written passes the test of a record
 record-test : (n : ℕ) (d : Delegation) (r : List ℕ) → DelegationFormed n d → T (recordFormed n (recordBytes d ++ r))
 unfolding recordFormed
 record-test n d r k =
-    T-both (delegationFormed n (delegationIn (recordBytes d ++ r))) true
-    (subst (λ (e : Delegation). T (delegationFormed n e)) (sym (record-read d (k .need) (k .bar) r)) (formed-test n d k)) tt
+    every (recordTests n) (recordBytes d ++ r) (subst (λ (e : Delegation). T (allPass (delegationTests n) e)) (sym (record-read d (k .need) (k .bar) r)) (formed-test n d k) ▸ tt ▸ end)
 
 -- any delegation, for places past the end of a list
 none-given : Delegation
 none-given = record { giver = 0; receiver = 0; weight = 0; need = 0; bar = 0 }
 
 -- the first marks of a block
-first-marks : (b : List ℕ) (n : ℕ) → 1 ≤ n → getD (readAll marksIn 2 (drop 4 b) n) 0 0 ≡ two b 4
+first-marks : (b : List ℕ) (n : ℕ) → 1 ≤ n → getD (readAll marksIn markSize (drop marksAt b) n) 0 0 ≡ two b marksAt
 first-marks b zero l = absurd (not-suc-le-zero l)
-first-marks b (suc n) l = λ j. getD-drop 4 b 0 0 j + getD-drop 4 b 1 0 j * 256
+first-marks b (suc n) l = λ j. getD-drop marksAt b 0 0 j + getD-drop marksAt b 1 0 j * 256
 
 -- ── a well-formed block holds a well-formed register ──
 module _ (b : List ℕ) (bytes : IsBytes b) (p : Parts b) where
@@ -160,28 +144,26 @@ module _ (b : List ℕ) (bytes : IsBytes b) (p : Parts b) where
   record-at k l = subst (λ (j : ℕ). T (recordFormed (subjectsIn b) (recordFrom b j))) (zero-add k) (allFrom-at (λ k. recordFormed (subjectsIn b) (recordFrom b k)) 0 (countIn b) (p .formed) k l)
 
   delegation-at : (k : ℕ) → k < countIn b → DelegationFormed (subjectsIn b) (delegationAt b k)
-  unfolding recordFormed
   delegation-at k l =
       let s = recordFrom b k in
-      let h = bytes-drop (8 * k) (drop 132 b) (bytes-drop 132 b bytes) in
-      formed-of (subjectsIn b) (delegationIn s) (omega (arith, h 2)) (two-most s h 4) (two-most s h 6)
-      (T-left (delegationFormed (subjectsIn b) (delegationIn s)) (eqb (getD s 3 0) 0) (record-at k l))
+      let h = bytes-drop (recordSize * k) (drop recordsAt b) (bytes-drop recordsAt b bytes) in
+      formed-of (subjectsIn b) (delegationIn s) (omega (arith, h weightByte)) (two-most s h needByte) (two-most s h barByte) (record-parts (subjectsIn b) s (record-at k l) .0)
 
   pub decode-formed : WellFormed (decode b)
   unfolding decode
   decode-formed = record {
     some = p .some;
     most = p .most;
-    marked = length-tabulate (λ k. marksIn (drop (2 * k) (drop 4 b))) 0 (subjectsIn b);
-    marks = λ m i. mark m (tabulate-mem (λ k. marksIn (drop (2 * k) (drop 4 b))) 0 (subjectsIn b) i);
+    marked = length-tabulate (λ k. marksIn (drop (markSize * k) (drop marksAt b))) 0 (subjectsIn b);
+    marks = λ m i. mark m (tabulate-mem (λ k. marksIn (drop (markSize * k) (drop marksAt b))) 0 (subjectsIn b) i);
     owner = first-marks b (subjectsIn b) (p .some) ∙ p .owner;
-    few = subst (λ (n : ℕ). n ≤ 256) (sym (length-tabulate (delegationAt b) 0 (countIn b))) (p .few);
+    few = subst (λ (n : ℕ). n ≤ mostRecords) (sym (length-tabulate (delegationAt b) 0 (countIn b))) (p .few);
     rising = rises-Rising (delegationsTo b (countIn b)) (p .rise);
     each = λ d i. one d (tabulate-mem (delegationAt b) 0 (countIn b) i);
   }
     where
-      mark : (m : ℕ) → (k : ℕ) × (k < subjectsIn b) × (m ≡ marksIn (drop (2 * (0 + k)) (drop 4 b))) → m ≤ 65535
-      mark m r = subst (λ (x : ℕ). x ≤ 65535) (sym (r .2)) (two-most (drop (2 * (0 + r .0)) (drop 4 b)) (bytes-drop (2 * (0 + r .0)) (drop 4 b) (bytes-drop 4 b bytes)) 0)
+      mark : (m : ℕ) → (k : ℕ) × (k < subjectsIn b) × (m ≡ marksIn (drop (markSize * (0 + k)) (drop marksAt b))) → m ≤ 65535
+      mark m r = subst (λ (x : ℕ). x ≤ 65535) (sym (r .2)) (two-most (drop (markSize * (0 + r .0)) (drop marksAt b)) (bytes-drop (markSize * (0 + r .0)) (drop marksAt b) (bytes-drop marksAt b bytes)) 0)
 
       one : (d : Delegation) → (k : ℕ) × (k < countIn b) × (d ≡ delegationAt b (0 + k)) → DelegationFormed (subjectsIn b) d
       one d r = subst (λ (x : Delegation). DelegationFormed (subjectsIn b) x) (sym (r .2)) (delegation-at (0 + r .0) (omega (arith, r .1)))
@@ -192,15 +174,15 @@ take-tabulate zero s l = refl
 take-tabulate (suc n) [] l = absurd (not-suc-le-zero l)
 take-tabulate (suc n) (x ∷ xs) l = let e = take-tabulate n xs (le-of-suc-le-suc l) ∙ sym (tabulate-suc (λ i. getD (x ∷ xs) i 0) 0 n) in λ j. x ∷ e j
 
-marks-back : (s : List ℕ) → 2 ≤ length s → IsBytes s → twoBytes (marksIn s) ≡ take 2 s
-marks-back s l h = twoBytes-two (getD s 0 0) (getD s 1 0) (h 0) (h 1) ∙ sym (take-tabulate 2 s l)
+marks-back : (s : List ℕ) → markSize ≤ length s → IsBytes s → twoBytes (marksIn s) ≡ take markSize s
+marks-back s l h = twoBytes-two (getD s 0 0) (getD s 1 0) (h 0) (h 1) ∙ sym (take-tabulate markSize s l)
 
-record-back : (s : List ℕ) → 8 ≤ length s → IsBytes s → getD s 3 0 ≡ 0 → recordBytes (delegationIn s) ≡ take 8 s
+record-back : (s : List ℕ) → recordSize ≤ length s → IsBytes s → getD s restByte 0 ≡ 0 → recordBytes (delegationIn s) ≡ take recordSize s
 record-back s l h z =
     let p = twoBytes-two (getD s 4 0) (getD s 5 0) (h 4) (h 5) in
     let q = twoBytes-two (getD s 6 0) (getD s 7 0) (h 6) (h 7) in
     let z′ = sym z in
-    (λ j. getD s 0 0 ∷ getD s 1 0 ∷ getD s 2 0 ∷ z′ j ∷ (p j ++ q j)) ∙ sym (take-tabulate 8 s l)
+    (λ j. getD s 0 0 ∷ getD s 1 0 ∷ getD s 2 0 ∷ z′ j ∷ (p j ++ q j)) ∙ sym (take-tabulate recordSize s l)
 
 -- the zero bytes that a test names
 zeros-at : (b : List ℕ) (a n : ℕ) → T (zeros b a n) → (k : ℕ) → a ≤ k → k < a + n → getD b k 0 ≡ 0
@@ -209,47 +191,47 @@ zeros-at b a n h k l m =
     eqb→eq (getD b k 0) 0 (subst (λ (j : ℕ). T (eqb (getD b j 0) 0)) e (allFrom-at (λ j. eqb (getD b j 0) 0) a n h (k - a) (omega arith)))
 
 module _ (b : List ℕ) (bytes : IsBytes b) (p : Parts b) where
-  marks-written : padded 128 (concatMap twoBytes (readAll marksIn 2 (drop 4 b) (subjectsIn b))) ≡ take 128 (drop 4 b)
+  marks-written : padded marksSize (concatMap twoBytes (readAll marksIn markSize (drop marksAt b) (subjectsIn b))) ≡ take marksSize (drop marksAt b)
   marks-written =
-      ap (padded 128) (written-read twoBytes 2 (λ n. refl) marksIn (subjectsIn b) (drop 4 b) back)
-      ∙ padded-zeros (drop 4 b) (2 * subjectsIn b) 128 (omega (arith, p .most)) (simp length-drop (omega (arith, p .size))) (λ k l m. getD-drop 4 b k 0 ∙ zero-mark k l m)
+      ap (padded marksSize) (written-read twoBytes markSize (λ n. refl) marksIn (subjectsIn b) (drop marksAt b) back)
+      ∙ padded-zeros (drop marksAt b) (markSize * subjectsIn b) marksSize (omega (arith, p .most)) (simp length-drop (omega (arith, p .size))) (λ k l m. getD-drop marksAt b k 0 ∙ zero-mark k l m)
     where
-      back : (k : ℕ) → k < subjectsIn b → twoBytes (marksIn (drop (2 * k) (drop 4 b))) ≡ take 2 (drop (2 * k) (drop 4 b))
-      back k l = marks-back (drop (2 * k) (drop 4 b)) (simp length-drop (omega (arith, p .size, p .most))) (bytes-drop (2 * k) (drop 4 b) (bytes-drop 4 b bytes))
+      back : (k : ℕ) → k < subjectsIn b → twoBytes (marksIn (drop (markSize * k) (drop marksAt b))) ≡ take markSize (drop (markSize * k) (drop marksAt b))
+      back k l = marks-back (drop (markSize * k) (drop marksAt b)) (simp length-drop (omega (arith, p .size, p .most))) (bytes-drop (markSize * k) (drop marksAt b) (bytes-drop marksAt b bytes))
 
-      zero-mark : (k : ℕ) → 2 * subjectsIn b ≤ k → k < 128 → getD b (4 + k) 0 ≡ 0
-      zero-mark k l m = zeros-at b (4 + 2 * subjectsIn b) (132 - (4 + 2 * subjectsIn b)) (p .unmarked) (4 + k) (omega arith) (omega arith)
+      zero-mark : (k : ℕ) → markSize * subjectsIn b ≤ k → k < marksSize → getD b (marksAt + k) 0 ≡ 0
+      zero-mark k l m = zeros-at b (marksAt + markSize * subjectsIn b) (marksAt + marksSize - (marksAt + markSize * subjectsIn b)) (p .unmarked) (marksAt + k) (omega arith) (omega arith)
 
-  records-written : padded 2048 (concatMap recordBytes (delegationsTo b (countIn b))) ≡ drop 132 b
+  records-written : padded recordsSize (concatMap recordBytes (delegationsTo b (countIn b))) ≡ drop recordsAt b
   records-written =
-      ap (padded 2048) (written-read recordBytes 8 record-wide delegationIn (countIn b) (drop 132 b) back)
-      ∙ padded-zeros (drop 132 b) (8 * countIn b) 2048 (omega (arith, p .few)) (simp length-drop (omega (arith, p .size))) (λ k l m. getD-drop 132 b k 0 ∙ zero-record k l m)
-      ∙ take-all 2048 (drop 132 b) (simp length-drop (omega (arith, p .size)))
+      ap (padded recordsSize) (written-read recordBytes recordSize record-wide delegationIn (countIn b) (drop recordsAt b) back)
+      ∙ padded-zeros (drop recordsAt b) (recordSize * countIn b) recordsSize (omega (arith, p .few)) (simp length-drop (omega (arith, p .size))) (λ k l m. getD-drop recordsAt b k 0 ∙ zero-record k l m)
+      ∙ take-all recordsSize (drop recordsAt b) (simp length-drop (omega (arith, p .size)))
     where
-      third : (k : ℕ) → k < countIn b → getD (recordFrom b k) 3 0 ≡ 0
-      third k l = record-third (subjectsIn b) (recordFrom b k) (record-at b bytes p k l)
+      third : (k : ℕ) → k < countIn b → getD (recordFrom b k) restByte 0 ≡ 0
+      third k l = record-parts (subjectsIn b) (recordFrom b k) (record-at b bytes p k l) .1
 
-      back : (k : ℕ) → k < countIn b → recordBytes (delegationAt b k) ≡ take 8 (recordFrom b k)
-      back k l = record-back (recordFrom b k) (simp length-drop (omega (arith, p .size, p .few))) (bytes-drop (8 * k) (drop 132 b) (bytes-drop 132 b bytes)) (third k l)
+      back : (k : ℕ) → k < countIn b → recordBytes (delegationAt b k) ≡ take recordSize (recordFrom b k)
+      back k l = record-back (recordFrom b k) (simp length-drop (omega (arith, p .size, p .few))) (bytes-drop (recordSize * k) (drop recordsAt b) (bytes-drop recordsAt b bytes)) (third k l)
 
-      zero-record : (k : ℕ) → 8 * countIn b ≤ k → k < 2048 → getD b (132 + k) 0 ≡ 0
-      zero-record k l m = zeros-at b (132 + 8 * countIn b) (2180 - (132 + 8 * countIn b)) (p .rest) (132 + k) (omega arith) (omega (arith, p .few))
+      zero-record : (k : ℕ) → recordSize * countIn b ≤ k → k < recordsSize → getD b (recordsAt + k) 0 ≡ 0
+      zero-record k l m = zeros-at b (recordsAt + recordSize * countIn b) (blockSize - (recordsAt + recordSize * countIn b)) (p .rest) (recordsAt + k) (omega arith) (omega (arith, p .few))
 
-  head-written : (subjectsIn b ∷ 0 ∷ twoBytes (length (delegationsTo b (countIn b)))) ≡ take 4 b
+  head-written : (subjectsIn b ∷ 0 ∷ twoBytes (length (delegationsTo b (countIn b)))) ≡ take marksAt b
   head-written =
       let n = length-tabulate (delegationAt b) 0 (countIn b) in
       let e = ap twoBytes n ∙ twoBytes-two (getD b 2 0) (getD b 3 0) (bytes 2) (bytes 3) in
-      let z = sym (p .second) in
-      (λ j. subjectsIn b ∷ z j ∷ e j) ∙ sym (take-tabulate 4 b (omega (arith, p .size)))
+      let z = sym (p .free) in
+      (λ j. subjectsIn b ∷ z j ∷ e j) ∙ sym (take-tabulate marksAt b (omega (arith, p .size)))
 
   -- what was read is written back
   pub encode-decode : encode (decode b) ≡ b
   unfolding decode encode
   encode-decode =
       (λ j. head-written j ++ (marks-written j ++ records-written j))
-      ∙ ap (λ (s : List ℕ). take 4 b ++ (take 128 (drop 4 b) ++ s)) (sym (drop-drop 128 4 b))
-      ∙ ap (λ (s : List ℕ). take 4 b ++ s) (take-append-drop 128 (drop 4 b))
-      ∙ take-append-drop 4 b
+      ∙ ap (λ (s : List ℕ). take marksAt b ++ (take marksSize (drop marksAt b) ++ s)) (sym (drop-drop marksSize marksAt b))
+      ∙ ap (λ (s : List ℕ). take marksAt b ++ s) (take-append-drop marksSize (drop marksAt b))
+      ∙ take-append-drop marksAt b
 
 -- ── a well-formed register written is a well-formed block ──
 -- zeros that stand after a list in a block are zeros of the block
@@ -268,25 +250,25 @@ zeros-after b front rest at n m e l = allFrom-all (λ k. eqb (getD b k 0) 0) (at
         ∙ getD-replicate m k 0 0 (omega arith))
 
 module _ (R : Register) (f : WellFormed R) where
-  marks-drop : drop 4 (encode R) ≡ marksPart R ++ recordsPart R
+  marks-drop : drop marksAt (encode R) ≡ marksPart R ++ recordsPart R
   unfolding encode
   marks-drop = refl
 
-  second-zero : getD (encode R) 1 0 ≡ 0
+  free-zero : getD (encode R) freeAt 0 ≡ 0
   unfolding encode
-  second-zero = refl
+  free-zero = refl
 
-  owner-zero : two (encode R) 4 ≡ 0
+  owner-zero : two (encode R) marksAt ≡ 0
   owner-zero =
       sym (first-marks (encode R) (subjectsIn (encode R)) (subst (λ (n : ℕ). 1 ≤ n) (sym (subjects-encode R f)) (f .some)))
       ∙ ap (λ (ms : List ℕ). getD ms 0 0) (marks-encode R f) ∙ f .owner
 
   unmarked-zero : T (restUnmarked (encode R))
   unmarked-zero =
-      let n = length-written twoBytes 2 (λ x. refl) (R .marks) in
-      let e : 4 + length (concatMap twoBytes (R .marks)) ≡ 4 + 2 * subjectsIn (encode R) = omega (arith, n, f .marked, subjects-encode R f) in
-      subst (λ (a : ℕ). T (zeros (encode R) a (132 - a))) e
-      (zeros-after (encode R) (concatMap twoBytes (R .marks)) (recordsPart R) 4 (132 - (4 + length (concatMap twoBytes (R .marks)))) (128 - length (concatMap twoBytes (R .marks))) marks-drop (omega arith))
+      let n = length-written twoBytes markSize (λ x. refl) (R .marks) in
+      let e : marksAt + length (concatMap twoBytes (R .marks)) ≡ marksAt + markSize * subjectsIn (encode R) = omega (arith, n, f .marked, subjects-encode R f) in
+      subst (λ (a : ℕ). T (zeros (encode R) a (marksAt + marksSize - a))) e
+      (zeros-after (encode R) (concatMap twoBytes (R .marks)) (recordsPart R) marksAt (marksAt + marksSize - (marksAt + length (concatMap twoBytes (R .marks)))) (marksSize - length (concatMap twoBytes (R .marks))) marks-drop (omega arith))
 
   records-formed : T (recordsFormed (encode R))
   records-formed = allFrom-all (λ k. recordFormed (subjectsIn (encode R)) (recordFrom (encode R) k)) 0 (countIn (encode R)) one
@@ -296,18 +278,18 @@ module _ (R : Register) (f : WellFormed R) where
           let m : k < length (R .delegations) = omega (arith, count-encode R f) in
           let d = getD (R .delegations) k none-given in
           let i = getD-mem (R .delegations) k none-given m in
-          let (r, e) = written-at recordBytes 8 record-wide (R .delegations) k none-given (replicate (2048 - length (concatMap recordBytes (R .delegations))) 0) m in
+          let (r, e) = written-at recordBytes recordSize record-wide (R .delegations) k none-given (replicate (recordsSize - length (concatMap recordBytes (R .delegations))) 0) m in
           let z : 0 + k ≡ k = zero-add k in
-          subst (λ (s : List ℕ). T (recordFormed (subjectsIn (encode R)) s)) (sym ((λ j. drop (8 * z j) (records-encode R f j)) ∙ e))
+          subst (λ (s : List ℕ). T (recordFormed (subjectsIn (encode R)) s)) (sym ((λ j. drop (recordSize * z j) (records-encode R f j)) ∙ e))
           (subst (λ (n : ℕ). T (recordFormed n (recordBytes d ++ r))) (sym (subjects-encode R f)) (record-test (R .subjects) d r (f .each d i)))
 
   pub encode-formed : T (wellFormed (encode R))
   encode-formed = whole (encode R) record {
     size = length-encode R f;
     some = subst (λ (n : ℕ). 1 ≤ n) (sym (subjects-encode R f)) (f .some);
-    most = subst (λ (n : ℕ). n ≤ 64) (sym (subjects-encode R f)) (f .most);
-    second = second-zero;
-    few = subst (λ (n : ℕ). n ≤ 256) (sym (count-encode R f)) (f .few);
+    most = subst (λ (n : ℕ). n ≤ mostSubjects) (sym (subjects-encode R f)) (f .most);
+    free = free-zero;
+    few = subst (λ (n : ℕ). n ≤ mostRecords) (sym (count-encode R f)) (f .few);
     owner = owner-zero;
     unmarked = unmarked-zero;
     formed = records-formed;
@@ -317,8 +299,8 @@ module _ (R : Register) (f : WellFormed R) where
     where
       rest-zero : T (restZero (encode R))
       rest-zero =
-          let n = length-written recordBytes 8 record-wide (R .delegations) in
-          let e : 132 + length (concatMap recordBytes (R .delegations)) ≡ 132 + 8 * countIn (encode R) = omega (arith, n, count-encode R f) in
-          subst (λ (a : ℕ). T (zeros (encode R) a (2180 - a))) e
-          (zeros-after (encode R) (concatMap recordBytes (R .delegations)) [] 132 (2180 - (132 + length (concatMap recordBytes (R .delegations)))) (2048 - length (concatMap recordBytes (R .delegations)))
+          let n = length-written recordBytes recordSize record-wide (R .delegations) in
+          let e : recordsAt + length (concatMap recordBytes (R .delegations)) ≡ recordsAt + recordSize * countIn (encode R) = omega (arith, n, count-encode R f) in
+          subst (λ (a : ℕ). T (zeros (encode R) a (blockSize - a))) e
+          (zeros-after (encode R) (concatMap recordBytes (R .delegations)) [] recordsAt (blockSize - (recordsAt + length (concatMap recordBytes (R .delegations)))) (recordsSize - length (concatMap recordBytes (R .delegations)))
           (records-encode R f ∙ sym (append-nil _)) (omega arith))

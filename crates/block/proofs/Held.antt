@@ -12,15 +12,16 @@ use lib.ListN.{length, getD, drop}
 use Rattle.rules.specs.Limit.{code}
 use Rattle.rules.specs.Pair.{isPair, stands}
 use Rattle.rules.specs.WellFormed.{WellFormed}
-use Rattle.rules.specs.Call.{granted}
+use Rattle.rules.specs.Register.{granted}
 use Rattle.rules.proofs.Lists.{clash, either}
+use Rattle.block.specs.Layout.{blockSize, mostRecords}
 use Rattle.block.specs.Bytes.{IsBytes, readAll, leading}
 use Rattle.block.specs.Block.{subjectsIn, countIn, decode, encode}
 use Rattle.block.specs.WellFormed.{wellFormed}
 use Rattle.block.proofs.Bytes.{length-tabulate}
 use Rattle.block.proofs.Form.{Parts, parts, decode-formed, encode-decode}
 use Rattle.block.proofs.PairPlace.{leading-most, pairPlace, weightAt-found, weightAt-missing}
-use Rattle.block.specs.Records.{delegationAt, delegationsTo}
+use Rattle.block.specs.Records.{HasHead, HasMarks, HasRecords, delegationAt, delegationsTo}
 
 -- at most as many at the front as there are
 pub leading-read : {A : Type 0} (f : A → Bool) (g : List ℕ → A) (w : ℕ) (s : List ℕ) (n : ℕ) → leading f (readAll g w s n) ≤ n
@@ -30,11 +31,21 @@ module _ (b : List ℕ) (bytes : IsBytes b) (formed : wellFormed b ≡ true) whe
   pub rules-of : Parts b
   rules-of = parts b (subst T (sym formed) tt)
 
-  pub size-held : length b ≡ 2180
+  pub size-held : length b ≡ blockSize
   size-held = rules-of .size
 
-  pub count-most : countIn b ≤ 256
+  pub count-most : countIn b ≤ mostRecords
   count-most = rules-of .few
+
+  -- the bytes reach as far as each part that is read
+  pub has-head : HasHead b
+  has-head = omega (arith, size-held)
+
+  pub has-marks : (v : ℕ) → v < subjectsIn b → HasMarks b v
+  has-marks v l = omega (arith, size-held, rules-of .most)
+
+  pub has-records : HasRecords b (countIn b)
+  has-records = omega (arith, size-held, count-most)
 
   pub held-formed : WellFormed (decode b)
   held-formed = decode-formed b bytes rules-of

@@ -1,4 +1,5 @@
 pub mod Bytes
+pub mod Tests
 pub mod Encode
 pub mod Form
 pub mod PairPlace

@@ -1,6 +1,6 @@
 -- A loop over places: x is the whole answer, e says that it is the answer from place i on. Each form at its end, stopped at i, and gone on. Assumes nothing.
-use mathlib.Core.Path.{_≡_, refl, sym, _∙_}
-use mathlib.Core.Bool.{Bool, true, false}
+use mathlib.Core.Path.{_≡_, refl, sym, ap, _∙_}
+use mathlib.Core.Bool.{Bool, true, false, not}
 use mathlib.Core.List.{[], _∷_}
 use Prim.Native.Nat.{ℕ, zero, suc, _+_, _-_, _≤_, _<_}
 use native.Mathlib.Numerals.{add-one}
@@ -45,14 +45,22 @@ module _ {A : Type 0} (g : A → Bool) (f : ℕ → A) (i n : ℕ) (e : Counted 
   pub front-end : n ≤ i → i ≡ leading g (tabulate f 0 n)
   front-end h = sym (rw (rest-end f i n h, add-zero) at e)
 
-  pub front-stop : i < n → g (f i) ≡ false → i ≡ leading g (tabulate f 0 n)
+  front-stop : i < n → g (f i) ≡ false → i ≡ leading g (tabulate f 0 n)
   front-stop h t = sym (rw (rest-on f i n h, t, add-zero) at e)
 
-  pub front-on : i < n → g (f i) ≡ true → Counted g f n (i + 1)
+  front-on : i < n → g (f i) ≡ true → Counted g f n (i + 1)
   front-on h t = (rw (rest-on f i n h, t) at e) ∙ omega arith
 
 pub front-all : {A : Type 0} (g : A → Bool) (f : ℕ → A) (n : ℕ) → Counted g f n 0
 front-all g f n = rw (← rest-all f n) (omega arith)
+
+-- how many stand before the first that passes the test t; r is the answer at place i
+module _ {A : Type 0} (t : A → Bool) (f : ℕ → A) (i n : ℕ) (e : Counted (λ x. not (t x)) f n i) {r : Bool} (q : r ≡ t (f i)) (h : i < n) where
+  pub first-here : r ≡ true → i ≡ leading (λ x. not (t x)) (tabulate f 0 n)
+  first-here y = front-stop (λ x. not (t x)) f i n e h (ap not (sym q ∙ y))
+
+  pub first-on : r ≡ false → Counted (λ x. not (t x)) f n (i + 1)
+  first-on y = front-on (λ x. not (t x)) f i n e h (ap not (sym q ∙ y))
 
 -- one value, or none
 alone : (f : ℕ → Delegation) (i m : ℕ) → m ≤ 1 → rises (tabulate f i m) ≡ true

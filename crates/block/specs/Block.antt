@@ -4,7 +4,7 @@ use Prim.Native.Nat.{ℕ, _*_}
 use lib.ListN.{length, getD, take, drop}
 use Rattle.rules.specs.List.{concatMap}
 use Rattle.rules.specs.Register.{Delegation, Register}
-use Rattle.block.specs.Layout.{countAt, marksAt, recordsAt, markSize, recordSize, marksSize, recordsSize}
+use Rattle.block.specs.Layout.{countAt, marksAt, recordsAt, markSize, recordSize, marksSize, recordsSize, giverByte, receiverByte, weightByte, needByte, barByte}
 use Rattle.block.specs.Bytes.{two, twoBytes, readAll, padded}
 
 -- the marks that begin a list of bytes
@@ -13,7 +13,7 @@ marksIn s = two s 0
 
 -- the delegation whose record begins a list of bytes: giver, receiver, weight, zero, need, bar
 abbrev pub delegationIn : List ℕ → Delegation
-delegationIn s = record { giver = getD s 0 0; receiver = getD s 1 0; weight = getD s 2 0; need = two s 4; bar = two s 6 }
+delegationIn s = record { giver = getD s giverByte 0; receiver = getD s receiverByte 0; weight = getD s weightByte 0; need = two s needByte; bar = two s barByte }
 
 abbrev pub recordBytes : Delegation → List ℕ
 recordBytes d = d .giver ∷ d .receiver ∷ d .weight ∷ 0 ∷ (twoBytes (d .need) ++ twoBytes (d .bar))

@@ -25,7 +25,10 @@ marksSize = markSize * mostSubjects
 abbrev pub recordsSize : ℕ
 recordsSize = recordSize * mostRecords
 
--- where the count of delegations, the marks and the records begin
+-- where the unused byte of the head, the count of delegations, the marks and the records begin
+abbrev pub freeAt : ℕ
+freeAt = 1
+
 abbrev pub countAt : ℕ
 countAt = 2
 
@@ -34,3 +37,22 @@ marksAt = 4
 
 abbrev pub recordsAt : ℕ
 recordsAt = marksAt + marksSize
+
+-- where each field of a record begins; its fourth byte is zero
+abbrev pub giverByte : ℕ
+giverByte = 0
+
+abbrev pub receiverByte : ℕ
+receiverByte = 1
+
+abbrev pub weightByte : ℕ
+weightByte = 2
+
+abbrev pub restByte : ℕ
+restByte = 3
+
+abbrev pub needByte : ℕ
+needByte = 4
+
+abbrev pub barByte : ℕ
+barByte = 6

@@ -1,22 +1,35 @@
--- The records of a block by their place. Assumes nothing.
+-- The marks and the records of a block by their place. Assumes nothing.
 use mathlib.Core.List.{List}
 use Prim.Native.Nat.{ℕ, _+_, _*_, _≤_}
 use lib.ListN.{length, drop}
 use Rattle.rules.specs.Register.{Delegation}
-use Rattle.block.specs.Layout.{recordsAt, recordSize}
+use Rattle.block.specs.Layout.{marksAt, recordsAt, markSize, recordSize}
 use Rattle.block.specs.Bytes.{readAll}
-use Rattle.block.specs.Block.{delegationIn}
+use Rattle.block.specs.Block.{marksIn, delegationIn}
 
--- where record k begins
+-- where the marks of subject v begin, and where record k begins
+abbrev pub markPlace : ℕ → ℕ
+markPlace v = marksAt + markSize * v
+
 abbrev pub recordPlace : ℕ → ℕ
 recordPlace k = recordsAt + recordSize * k
 
--- the bytes reach as far as record k, as the first n records
+-- the bytes reach as far as the head, the marks of subject v, record k, the first n records
+abbrev pub HasHead : List ℕ → Type 0
+HasHead b = marksAt ≤ length b
+
+abbrev pub HasMarks : List ℕ → ℕ → Type 0
+HasMarks b v = markPlace v + markSize ≤ length b
+
 abbrev pub HasRecord : List ℕ → ℕ → Type 0
 HasRecord b k = recordPlace k + recordSize ≤ length b
 
 abbrev pub HasRecords : List ℕ → ℕ → Type 0
 HasRecords b n = recordPlace n ≤ length b
+
+-- the marks of subject v
+abbrev pub marksFor : List ℕ → ℕ → ℕ
+marksFor b v = marksIn (drop (markSize * v) (drop marksAt b))
 
 -- the bytes from record k on
 abbrev pub recordFrom : List ℕ → ℕ → List ℕ

@@ -1,19 +1,76 @@
--- Well-formed blocks (document 01, 'The block'), each rule a named test; for any list of bytes of any length. Assumes nothing.
+-- Well-formed blocks (document 01, 'The block'): a list of named tests, for any list of bytes of any length. Assumes nothing.
 use mathlib.Core.Bool.{Bool, true, not, _&&_}
-use mathlib.Core.List.{List, [], _∷_}
+use mathlib.Core.List.{List, [], _∷_, _++_}
 use Prim.Native.Nat.{ℕ, _+_, _*_, _-_}
 use lib.Bits.{bitAnd}
 use lib.Dec.{eqb, ltb, leb}
 use lib.ListN.{length, getD, drop}
 use Rattle.rules.specs.Register.{Delegation}
 use Rattle.rules.specs.CallStep.{before}
-use Rattle.block.specs.Layout.{blockSize, marksAt, recordsAt, markSize, recordSize}
+use Rattle.block.specs.Layout.{blockSize, mostSubjects, mostRecords, freeAt, marksAt, recordsAt, markSize, recordSize, marksSize, restByte}
 use Rattle.block.specs.Bytes.{two, readAll, allFrom, zeros}
 use Rattle.block.specs.Block.{delegationIn, subjectsIn, countIn}
 
--- byte 0: enrolled subjects, 1 to 64; byte 1: zero; bytes 2 and 3: delegations, 0 to 256
+-- every test of a list passes
+abbrev pub allPass : {A : Type 0} → List (A → Bool) → A → Bool
+allPass [] x = true
+allPass (f ∷ fs) x = f x && allPass fs x
+
+-- ── a delegation among n subjects, and its record ──
+-- giver and receiver are enrolled and differ, the receiver is not 0, need and bar share no mark
+abbrev pub giverEnrolled : ℕ → Delegation → Bool
+giverEnrolled n d = ltb (d .giver) n
+
+abbrev pub receiverEnrolled : ℕ → Delegation → Bool
+receiverEnrolled n d = ltb (d .receiver) n
+
+abbrev pub endsDiffer : Delegation → Bool
+endsDiffer d = not (eqb (d .giver) (d .receiver))
+
+abbrev pub notToOwner : Delegation → Bool
+notToOwner d = not (eqb (d .receiver) 0)
+
+abbrev pub marksApart : Delegation → Bool
+marksApart d = eqb (bitAnd (d .need) (d .bar)) 0
+
+abbrev pub delegationTests : ℕ → List (Delegation → Bool)
+delegationTests n = giverEnrolled n ∷ receiverEnrolled n ∷ endsDiffer ∷ notToOwner ∷ marksApart ∷ []
+
+-- the record that begins a list of bytes: its delegation is formed, and its fourth byte is zero
+abbrev pub delegationFormed : ℕ → List ℕ → Bool
+delegationFormed n s = allPass (delegationTests n) (delegationIn s)
+
+abbrev pub fourthZero : List ℕ → Bool
+fourthZero s = eqb (getD s restByte 0) 0
+
+abbrev pub recordTests : ℕ → List (List ℕ → Bool)
+recordTests n = delegationFormed n ∷ fourthZero ∷ []
+
+unfoldable pub recordFormed : ℕ → List ℕ → Bool
+recordFormed n s = allPass (recordTests n) s
+
+-- ── the head: byte 0, enrolled subjects, 1 to 64; byte 1, zero; bytes 2 and 3, delegations, 0 to 256 ──
+abbrev pub someEnrolled : List ℕ → Bool
+someEnrolled b = leb 1 (subjectsIn b)
+
+abbrev pub fewEnrolled : List ℕ → Bool
+fewEnrolled b = leb (subjectsIn b) mostSubjects
+
+abbrev pub freeZero : List ℕ → Bool
+freeZero b = eqb (getD b freeAt 0) 0
+
+abbrev pub fewRecords : List ℕ → Bool
+fewRecords b = leb (countIn b) mostRecords
+
+abbrev pub headTests : List (List ℕ → Bool)
+headTests = someEnrolled ∷ fewEnrolled ∷ freeZero ∷ fewRecords ∷ []
+
 abbrev pub headFormed : List ℕ → Bool
-headFormed b = leb 1 (subjectsIn b) && leb (subjectsIn b) 64 && eqb (getD b 1 0) 0 && leb (countIn b) 256
+headFormed b = allPass headTests b
+
+-- ── the block ──
+abbrev pub rightSize : List ℕ → Bool
+rightSize b = eqb (length b) blockSize
 
 -- the owner's marks are zero
 abbrev pub ownerUnmarked : List ℕ → Bool
@@ -21,15 +78,7 @@ ownerUnmarked b = eqb (two b marksAt) 0
 
 -- the marks of subjects that are not enrolled are zero
 abbrev pub restUnmarked : List ℕ → Bool
-restUnmarked b = let a = marksAt + markSize * subjectsIn b in zeros b a (recordsAt - a)
-
--- giver and receiver are enrolled and differ, the receiver is not 0, need and bar share no mark
-abbrev pub delegationFormed : ℕ → Delegation → Bool
-delegationFormed n d = ltb (d .giver) n && ltb (d .receiver) n && not (eqb (d .giver) (d .receiver)) && not (eqb (d .receiver) 0) && eqb (bitAnd (d .need) (d .bar)) 0
-
--- the record that begins a list of bytes: its delegation is formed, and its fourth byte is zero
-unfoldable pub recordFormed : ℕ → List ℕ → Bool
-recordFormed n s = delegationFormed n (delegationIn s) && eqb (getD s 3 0) 0
+restUnmarked b = let a = marksAt + markSize * subjectsIn b in zeros b a (marksAt + marksSize - a)
 
 abbrev pub recordsFormed : List ℕ → Bool
 recordsFormed b = allFrom (λ k. recordFormed (subjectsIn b) (drop (recordSize * k) (drop recordsAt b))) 0 (countIn b)
@@ -50,6 +99,8 @@ recordsRise b = rises (readAll delegationIn recordSize (drop recordsAt b) (count
 abbrev pub restZero : List ℕ → Bool
 restZero b = let a = recordsAt + recordSize * countIn b in zeros b a (blockSize - a)
 
+abbrev pub blockTests : List (List ℕ → Bool)
+blockTests = rightSize ∷ (headTests ++ (ownerUnmarked ∷ restUnmarked ∷ recordsFormed ∷ recordsRise ∷ restZero ∷ []))
+
 unfoldable pub wellFormed : List ℕ → Bool
-wellFormed b =
-    eqb (length b) blockSize && headFormed b && ownerUnmarked b && restUnmarked b && recordsFormed b && recordsRise b && restZero b
+wellFormed b = allPass blockTests b

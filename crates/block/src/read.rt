@@ -1,14 +1,15 @@
 // Reads of a block: its fields, whether it is well formed, and where a record is.
 ghost use mathlib.Core.Path.{_≡_};
 ghost use mathlib.Core.Bool.{not};
-ghost use Prim.Native.Nat.{_+_, _-_, _*_, _≤_};
+ghost use Prim.Native.Nat.{_+_, _-_, _≤_};
 ghost use lib.ListN.{length, getD, drop};
 ghost use Rattle.rules.specs.Pair.{isPair, receives};
-ghost use Rattle.rules.specs.Call.{granted};
+ghost use Rattle.rules.specs.Register.{granted};
 ghost use Rattle.rules.specs.CallStep.{before};
+ghost use Rattle.block.specs.Layout.{mostRecords, recordSize};
 ghost use Rattle.block.specs.Bytes.{two, allFrom, zeros, leading};
-ghost use Rattle.block.specs.Block.{marksIn, subjectsIn, countIn};
-ghost use Rattle.block.specs.Records.{HasRecord, HasRecords, recordFrom, delegationAt, delegationsTo};
+ghost use Rattle.block.specs.Block.{subjectsIn, countIn, recordsIn};
+ghost use Rattle.block.specs.Records.{HasHead, HasMarks, HasRecord, HasRecords, marksFor, recordPlace, recordFrom, delegationAt, delegationsTo};
 ghost use Rattle.block.specs.WellFormed.{headFormed, recordFormed, rises, wellFormed};
 use crate::layout::BAR;
 use crate::layout::BLOCK_SIZE;
@@ -17,6 +18,7 @@ use crate::layout::FREE_AT;
 use crate::layout::GIVER;
 use crate::layout::MARK_SIZE;
 use crate::layout::MARKS_AT;
+use crate::layout::MARKS_END;
 use crate::layout::MOST_RECORDS;
 use crate::layout::MOST_SUBJECTS;
 use crate::layout::NEED;
@@ -35,7 +37,7 @@ pub fn read_two(s: &[u8], at: usize) -> u16
 }
 
 // The bytes from `from` up to `to` are zero.
-pub fn zero_range(s: &[u8], from: usize, to: usize) -> bool
+fn zero_range(s: &[u8], from: usize, to: usize) -> bool
     requires { ⌜ to ≤ length (now s) ⌝ }
     ensures { λ r. ⌜ r ≡ zeros (now (s .entry)) from (to - from) ⌝ }
 {
@@ -59,7 +61,7 @@ pub fn subjects(b: &[u8]) -> u8
 
 // How many delegations stand.
 pub fn count(b: &[u8]) -> usize
-    requires { ⌜ 4 ≤ length (now b) ⌝ }
+    requires { ⌜ HasHead (now b) ⌝ }
     ensures { λ r. ⌜ r ≡ countIn (now (b .entry)) ⌝ }
 {
     read_two(b, COUNT_AT) as usize
@@ -67,15 +69,32 @@ pub fn count(b: &[u8]) -> usize
 
 // The marks of a subject.
 pub fn marks(b: &[u8], subject: usize) -> u16
-    requires { ⌜ 4 + 2 * subject + 2 ≤ length (now b) ⌝ }
-    ensures { λ r. ⌜ r ≡ marksIn (drop (2 * subject) (drop 4 (now (b .entry)))) ⌝ }
+    requires { ⌜ HasMarks (now b) subject ⌝ }
+    ensures { λ r. ⌜ r ≡ marksFor (now (b .entry)) subject ⌝ }
 {
     read_two(b, MARKS_AT + MARK_SIZE * subject)
 }
 
+// Where record `k` begins.
+pub fn record_place(k: usize) -> usize
+    requires { ⌜ k ≤ mostRecords ⌝ }
+    ensures { λ r. ⌜ r ≡ recordPlace k ⌝ }
+{
+    RECORDS_AT + RECORD_SIZE * k
+}
+
+// The bytes of the records that stand.
+pub fn records(b: &[u8]) -> &[u8]
+    requires { ⌜ HasRecords (now b) (countIn (now b)) ⌝ }
+    ensures { λ r. ⌜ now r ≡ recordsIn (now (b .entry)) ⌝ }
+{
+    let end = RECORDS_AT + RECORD_SIZE * count(b);
+    &b[RECORDS_AT..end]
+}
+
 // The byte at `j` of record `k`.
 fn record_byte(b: &[u8], k: usize, j: usize) -> u8
-    requires { ⌜ (j + 1 ≤ 8) × (HasRecord (now b) k) ⌝ }
+    requires { ⌜ (j + 1 ≤ recordSize) × (HasRecord (now b) k) ⌝ }
     ensures { λ r. ⌜ r ≡ getD (recordFrom (now (b .entry)) k) j 0 ⌝ }
 {
     b[RECORDS_AT + RECORD_SIZE * k + j]
@@ -83,7 +102,7 @@ fn record_byte(b: &[u8], k: usize, j: usize) -> u8
 
 // The two-byte number at `j` of record `k`.
 fn record_two(b: &[u8], k: usize, j: usize) -> u16
-    requires { ⌜ (j + 2 ≤ 8) × (HasRecord (now b) k) ⌝ }
+    requires { ⌜ (j + 2 ≤ recordSize) × (HasRecord (now b) k) ⌝ }
     ensures { λ r. ⌜ r ≡ two (recordFrom (now (b .entry)) k) j ⌝ }
 {
     read_two(b, RECORDS_AT + RECORD_SIZE * k + j)
@@ -126,8 +145,8 @@ pub fn bar(b: &[u8], k: usize) -> u16
 }
 
 // The record at `at` is formed as one between enrolled subjects.
-pub fn record_formed(s: &[u8], at: usize, subjects: u8) -> bool
-    requires { ⌜ at + 8 ≤ length (now s) ⌝ }
+fn record_formed(s: &[u8], at: usize, subjects: u8) -> bool
+    requires { ⌜ at + recordSize ≤ length (now s) ⌝ }
     ensures { λ r. ⌜ r ≡ recordFormed subjects (drop at (now (s .entry))) ⌝ }
 {
     let giver = s[at + GIVER];
@@ -152,7 +171,7 @@ pub fn record_formed(s: &[u8], at: usize, subjects: u8) -> bool
 }
 
 // The first `count` records are each formed.
-pub fn records_formed(b: &[u8], count: usize, subjects: u8) -> bool
+fn records_formed(b: &[u8], count: usize, subjects: u8) -> bool
     requires { ⌜ HasRecords (now b) count ⌝ }
     ensures { λ r. ⌜ r ≡ allFrom (λ k. recordFormed subjects (recordFrom (now (b .entry)) k)) 0 count ⌝ }
 {
@@ -190,7 +209,7 @@ fn is_before(b: &[u8], k: usize, giver: u8, receiver: u8) -> bool
 }
 
 // The first `count` records rise strictly.
-pub fn records_rise(b: &[u8], count: usize) -> bool
+fn records_rise(b: &[u8], count: usize) -> bool
     requires { ⌜ HasRecords (now b) count ⌝ }
     ensures { λ r. ⌜ r ≡ rises (delegationsTo (now (b .entry)) count) ⌝ }
 {
@@ -206,7 +225,7 @@ pub fn records_rise(b: &[u8], count: usize) -> bool
 
 // The first four bytes are formed.
 fn head_formed(b: &[u8]) -> bool
-    requires { ⌜ 4 ≤ length (now b) ⌝ }
+    requires { ⌜ HasHead (now b) ⌝ }
     ensures { λ r. ⌜ r ≡ headFormed (now (b .entry)) ⌝ }
 {
     let n = b[0];
@@ -238,7 +257,7 @@ pub fn well_formed(b: &[u8]) -> bool
     if read_two(b, MARKS_AT) != 0 {
         return false;
     }
-    if !zero_range(b, MARKS_AT + MARK_SIZE * (n as usize), RECORDS_AT) {
+    if !zero_range(b, MARKS_AT + MARK_SIZE * (n as usize), MARKS_END) {
         return false;
     }
     if !records_formed(b, records, n) {

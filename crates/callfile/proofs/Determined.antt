@@ -7,11 +7,11 @@ use Prim.Native.Nat.{ℕ, _+_}
 use native.Mathlib.Omega.{arith}
 use lib.IntN.{ℤ, pos, negsuc}
 use lib.ListN.{length}
-use Rattle.rules.specs.Call.{Call, fresh}
+use Rattle.rules.specs.Call.{fresh}
 use Rattle.block.specs.Block.{encode}
 use Rattle.text.specs.Text.{AllAllowed}
 use Rattle.text.proofs.Injective.{line-inj}
-use Rattle.callfile.specs.CallFile.{callNames, answerNames, values, AllInRange, callLine, callLines, answerLines, ending, NoCall, Prints, unnamed, named, Determined}
+use Rattle.callfile.specs.CallFile.{callNames, answerNames, FileCall, values, AllWritable, callLine, callLines, answerLines, ending, NoCall, Prints, unnamed, named, Determined}
 use Rattle.callfile.proofs.Rows.{values-inj}
 use Rattle.callfile.proofs.Lines.{seven-values}
 
@@ -21,7 +21,7 @@ signed (pos n ∷ zs) a = (a .0, signed zs (a .1))
 signed (negsuc n ∷ zs) a = absurd (a .0)
 
 -- the lines of calls at the front of a text, as many as there are
-calls-one : (cs ds : List Call) (s t : List ℕ) → AllInRange cs → AllInRange ds → NoCall s → NoCall t → callLines cs ++ s ≡ callLines ds ++ t → (cs ≡ ds) × (s ≡ t)
+calls-one : (cs ds : List FileCall) (s t : List ℕ) → AllWritable cs → AllWritable ds → NoCall s → NoCall t → callLines cs ++ s ≡ callLines ds ++ t → (cs ≡ ds) × (s ≡ t)
 calls-one [] [] s t a b m n e = (refl, e)
 calls-one [] (d ∷ ds) s t a b m n e = absurd (m d (callLines ds ++ t) (b .0) (e ∙ append-assoc (callLine d) (callLines ds) t))
 calls-one (c ∷ cs) [] s t a b m n e = absurd (n c (callLines cs ++ s) (a .0) (sym e ∙ append-assoc (callLine c) (callLines cs) s))

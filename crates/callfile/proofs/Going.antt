@@ -17,38 +17,38 @@ use Rattle.text.specs.Write.{Room, Written}
 use Rattle.text.proofs.Sizes.{line-short, line-long}
 use Rattle.text.proofs.Reading.{clash}
 use Rattle.text.proofs.Writing.{put-nil, then-written}
-use Rattle.callfile.specs.CallFile.{values, InRange, AllInRange, callLine, callLines, answerLine, answerLines, malformed, ending, NoCall, mostText, outSize}
-use Rattle.callfile.specs.Row.{callOfRow, CallRead, Answered, Answerable, RowAnswered, Finished}
+use Rattle.callfile.specs.CallFile.{FileCall, meant, values, Writable, AllWritable, callLine, callLines, answerLine, answerLines, malformed, ending, NoCall, mostText, outSize}
+use Rattle.callfile.specs.Row.{callOfRow, madeOfRow, CallRead, Answered, Answerable, RowAnswered, Finished}
 use Rattle.callfile.specs.declared.Row.{Row}
 use Rattle.callfile.specs.declared.Place.{Place}
 use Rattle.callfile.proofs.Lines.{seven-values}
 
 -- the block that calls leave
-abbrev leftBy : List ℕ → List Call → List ℕ
+abbrev leftBy : List ℕ → List FileCall → List ℕ
 leftBy b [] = b
-leftBy b (c ∷ cs) = leftBy (callOn steps b c .bytes) cs
+leftBy b (c ∷ cs) = leftBy (callOn steps b (meant c) .bytes) cs
 
 -- ── one call more ──
-lines-join : (cs : List Call) (c : Call) → callLines (cs ++ (c ∷ [])) ≡ callLines cs ++ callLine c
+lines-join : (cs : List FileCall) (c : FileCall) → callLines (cs ++ (c ∷ [])) ≡ callLines cs ++ callLine c
 lines-join [] c = append-nil (callLine c)
 lines-join (d ∷ cs) c = ap (λ (s : List ℕ). callLine d ++ s) (lines-join cs c) ∙ sym (append-assoc (callLine d) (callLines cs) (callLine c))
 
-left-join : (b : List ℕ) (cs : List Call) (c : Call) → leftBy b (cs ++ (c ∷ [])) ≡ callOn steps (leftBy b cs) c .bytes
+left-join : (b : List ℕ) (cs : List FileCall) (c : FileCall) → leftBy b (cs ++ (c ∷ [])) ≡ callOn steps (leftBy b cs) (meant c) .bytes
 left-join b [] c = refl
-left-join b (d ∷ cs) c = left-join (callOn steps b d .bytes) cs c
+left-join b (d ∷ cs) c = left-join (callOn steps b (meant d) .bytes) cs c
 
-answers-join : (b : List ℕ) (cs : List Call) (c : Call) → answerLines b (cs ++ (c ∷ [])) ≡ answerLines b cs ++ answerLine (callOn steps (leftBy b cs) c)
-answers-join b [] c = append-nil (answerLine (callOn steps b c))
+answers-join : (b : List ℕ) (cs : List FileCall) (c : FileCall) → answerLines b (cs ++ (c ∷ [])) ≡ answerLines b cs ++ answerLine (callOn steps (leftBy b cs) (meant c))
+answers-join b [] c = append-nil (answerLine (callOn steps b (meant c)))
 answers-join b (d ∷ cs) c =
-    ap (λ (s : List ℕ). answerLine (callOn steps b d) ++ s) (answers-join (callOn steps b d .bytes) cs c)
-    ∙ sym (append-assoc (answerLine (callOn steps b d)) (answerLines (callOn steps b d .bytes) cs) (answerLine (callOn steps (leftBy (callOn steps b d .bytes) cs) c)))
+    ap (λ (s : List ℕ). answerLine (callOn steps b (meant d)) ++ s) (answers-join (callOn steps b (meant d) .bytes) cs c)
+    ∙ sym (append-assoc (answerLine (callOn steps b (meant d))) (answerLines (callOn steps b (meant d) .bytes) cs) (answerLine (callOn steps (leftBy (callOn steps b (meant d) .bytes) cs) (meant c))))
 
-ranges-join : (cs : List Call) (c : Call) → AllInRange cs → InRange c → AllInRange (cs ++ (c ∷ []))
+ranges-join : (cs : List FileCall) (c : FileCall) → AllWritable cs → Writable c → AllWritable (cs ++ (c ∷ []))
 ranges-join [] c a h = (h, tt)
 ranges-join (d ∷ cs) c a h = (a .0, ranges-join cs c (a .1) h)
 
 -- a call's line has at least 14 bytes
-line-min : (c : Call) → 14 ≤ length (callLine c)
+line-min : (c : FileCall) → 14 ≤ length (callLine c)
 line-min c = omega (arith, line-long (values c), seven-values c)
 
 pub no-call-end : NoCall []
@@ -62,8 +62,8 @@ Asked text at out to = (2 ≤ at) × (at ≤ length text) × (length text ≤ mo
 
 -- the calls that were made on the block and answered, up to the line at next
 pub record Going (text : List ℕ) (at : ℕ) (b out : List ℕ) (to next end number : ℕ) (b′ out′ : List ℕ) : Type 0 where
-  pub calls : List Call
-  pub ranges : AllInRange calls
+  pub calls : List FileCall
+  pub ranges : AllWritable calls
   pub lines : drop at text ≡ callLines calls ++ drop next text
   pub count : number ≡ 2 + length calls
   pub block : b′ ≡ leftBy b calls
@@ -116,20 +116,21 @@ module _ (text : List ℕ) (at : ℕ) (b out : List ℕ) (to : ℕ) (h : Asked t
           let w : length (drop next text) ≡ length (callLine (callOfRow r)) + length (drop (r .next) text) = ap length (q .2) ∙ length-append (callLine (callOfRow r)) (drop (r .next) text) in
           (omega (arith, q .1, line-min (callOfRow r)), omega (arith, q .1, w, length-drop next text, length-drop (r .next) text, g .within, line-min (callOfRow r)))
 
-      going-more : (n : ℕ) (b″ out″ : List ℕ) → Answered (callOfRow r) b′ out′ end n b″ out″ → length b″ ≡ length b′ → length out″ ≡ length out′ → Going text at b out to (r .next) n (number + 1) b″ out″
-      going-more n b″ out″ w x y =
+      going-more : (n : ℕ) (b″ out″ : List ℕ) → Answered (madeOfRow r) b′ out′ end n b″ out″ → length b″ ≡ length b′ → length out″ ≡ length out′ → Going text at b out to (r .next) n (number + 1) b″ out″
+      going-more n b″ out″ made x y =
           let d = callOfRow r in
+          let w = subst (λ (k : Call). Answered k b′ out′ end n b″ out″) (sym (c .known f .1)) made in
           let q = c .read f in
-          let v : Written end (answerLine (callOn steps (leftBy b (g .calls)) d)) out′ n out″ = subst (λ (s : List ℕ). Written end (answerLine (callOn steps s d)) out′ n out″) (g .block) (w .line) in
-          let m : Room to (answerLines b (g .calls) ++ answerLine (callOn steps (leftBy b (g .calls)) d)) out =
-          omega (arith, length-append (answerLines b (g .calls)) (answerLine (callOn steps (leftBy b (g .calls)) d)), g .answers .next, v .next, w .short, g .room, h .2, h .4, line-inside .0, line-inside .1) in
+          let v : Written end (answerLine (callOn steps (leftBy b (g .calls)) (meant d))) out′ n out″ = subst (λ (s : List ℕ). Written end (answerLine (callOn steps s (meant d))) out′ n out″) (g .block) (w .line) in
+          let m : Room to (answerLines b (g .calls) ++ answerLine (callOn steps (leftBy b (g .calls)) (meant d))) out =
+          omega (arith, length-append (answerLines b (g .calls)) (answerLine (callOn steps (leftBy b (g .calls)) (meant d))), g .answers .next, v .next, w .short, g .room, h .2, h .4, line-inside .0, line-inside .1) in
           record {
             calls = g .calls ++ (d ∷ []);
             ranges = ranges-join (g .calls) d (g .ranges) (q .0);
             lines = g .lines ∙ ap (λ (s : List ℕ). callLines (g .calls) ++ s) (q .2) ∙ sym (append-assoc (callLines (g .calls)) (callLine d) (drop (r .next) text)) ∙ ap (λ (s : List ℕ). s ++ drop (r .next) text) (sym (lines-join (g .calls) d));
             count = omega (arith, g .count, length-append (g .calls) (d ∷ []));
-            block = w .block ∙ ap (λ (s : List ℕ). callOn steps s d .bytes) (g .block) ∙ sym (left-join b (g .calls) d);
-            answers = subst (λ (s : List ℕ). Written to s out n out″) (sym (answers-join b (g .calls) d)) (then-written to (answerLines b (g .calls)) (answerLine (callOn steps (leftBy b (g .calls)) d)) out end out′ n out″ m (g .answers) v);
+            block = w .block ∙ ap (λ (s : List ℕ). callOn steps s (meant d) .bytes) (g .block) ∙ sym (left-join b (g .calls) d);
+            answers = subst (λ (s : List ℕ). Written to s out n out″) (sym (answers-join b (g .calls) d)) (then-written to (answerLines b (g .calls)) (answerLine (callOn steps (leftBy b (g .calls)) (meant d))) out end out′ n out″ m (g .answers) v);
             within = line-inside .1;
             room = omega (arith, w .short, g .room, line-inside .0);
             few = omega (arith, g .few, line-inside .0);
@@ -176,7 +177,7 @@ module _ (text : List ℕ) (at : ℕ) (b out : List ℕ) (to : ℕ) (h : Asked t
           omega (arith, g .room, g .within, g .size, h .2, h .4),
           λ f.
               let i = line-inside text at b out to h next (p .to) (p .number) b′ out′ g r c f in
-              (c .known f, omega (arith, g .room, g .size, h .2, h .4, i .0, i .1)),
+              (c .known f .0, omega (arith, g .room, g .size, h .2, h .4, i .0, i .1)),
         )
 
     module _ (p′ : Place) (b″ out″ : List ℕ) (a : RowAnswered r p (length text) b′ out′ p′ b″ out″) (x : length b″ ≡ length b′) (y : length out″ ≡ length out′) where

@@ -9,17 +9,16 @@ use lib.ListN.{length, getD, drop, drop-of-length-le}
 use lib.Seq.{drop-cons}
 use mir.Syntax.{w64}
 use mir.Val.{ofZ, toZ}
-use Rattle.rules.specs.Call.{Call, enrol, grant, revoke, downgrade, askReach, askUse}
 use Rattle.text.specs.Text.{line, Allowed, AllAllowed}
 use Rattle.text.specs.Read.{LineRead}
 use Rattle.text.specs.declared.Line.{Line}
 use Rattle.text.proofs.Reading.{clash}
 use Rattle.text.proofs.Signed.{kept, allowed-fits}
 use Rattle.text.proofs.Lines.{allowed-at}
-use Rattle.callfile.specs.CallFile.{values}
+use Rattle.callfile.specs.CallFile.{FileCall, enrols, grants, revokes, downgrades, asksReach, asksUse, values}
 use Rattle.callfile.specs.Row.{isRow, rowOf, RowRead, CallRead}
 use Rattle.callfile.specs.declared.Row.{Row}
-use Rattle.callfile.proofs.Rows.{row-none, row-call, row-values}
+use Rattle.callfile.proofs.Rows.{row-none, row-call, row-named}
 
 -- ── seven values ──
 module _ (vs : List ℤ) (a : AllAllowed false vs) (i : ℕ) (h : i < length vs) where
@@ -58,13 +57,13 @@ module _ (text : List ℕ) (at : ℕ) (before : List ℤ) (o : Line) (after : Li
       }
 
 -- ── a call ──
-pub seven-values : (c : Call) → length (values c) ≡ 7
-seven-values (enrol m) = refl
-seven-values (grant g r w n b) = refl
-seven-values (revoke y g r) = refl
-seven-values (downgrade y g r w) = refl
-seven-values (askReach g r) = refl
-seven-values (askUse r) = refl
+pub seven-values : (c : FileCall) → length (values c) ≡ 7
+seven-values (enrols m) = refl
+seven-values (grants g r w n b) = refl
+seven-values (revokes y g r) = refl
+seven-values (downgrades y g r w) = refl
+seven-values (asksReach g r) = refl
+seven-values (asksUse r) = refl
 
 module _ (text : List ℕ) (at : ℕ) (w : Row) (l : RowRead text at w) where
   pub call-missing : (r : Row) → w .found ≡ false → (r .found ≡ false) × (r .next ≡ at) → CallRead text at r
@@ -83,9 +82,9 @@ module _ (text : List ℕ) (at : ℕ) (w : Row) (l : RowRead text at w) where
 
   pub call-there : isRow (w .call) (w .by) (w .giver) (w .receiver) (w .weight) (w .need) (w .bar) ≡ true → w .found ≡ true → CallRead text at w
   call-there e g =
-      let v = row-values (w .call) (w .by) (w .giver) (w .receiver) (w .weight) (w .need) (w .bar) e in
+      let (v, m) = row-named (w .call) (w .by) (w .giver) (w .receiver) (w .weight) (w .need) (w .bar) e in
       record {
-        known = λ t. row-call (w .call) (w .by) (w .giver) (w .receiver) (w .weight) (w .need) (w .bar) e;
+        known = λ t. (row-call (w .call) (w .by) (w .giver) (w .receiver) (w .weight) (w .need) (w .bar) e, m);
         read = λ t.
             let q = l .read t in
             (subst (λ (s : List ℤ). AllAllowed false s) v (q .0), q .1 ∙ ap (λ (s : List ℤ). at + length (line s)) v, q .2 ∙ ap (λ (s : List ℤ). line s ++ drop (w .next) text) v);

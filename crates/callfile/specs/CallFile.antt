@@ -2,14 +2,18 @@
 use mathlib.Core.Path.{_≡_}
 use mathlib.Core.Logic.{_≢_, _⊎_}
 use mathlib.Core.Bool.{false}
-use mathlib.Core.List.{List, [], _∷_, _++_}
+use mathlib.Core.List.{List, [], _∷_, _++_, map}
 use Prim.Native.Nat.{ℕ, _+_, _≤_, _<_}
 use lib.IntN.{ℤ, pos}
 use lib.ListN.{length, drop}
+use Rattle.rules.specs.List.{concatMap}
 use Rattle.rules.specs.Table.{steps}
+use Rattle.rules.specs.Register.{granted}
 use Rattle.rules.specs.Call.{Call, enrol, grant, revoke, downgrade, askReach, askUse, fresh}
+use Rattle.rules.specs.Trace.{traceFrom}
 use Rattle.block.specs.Block.{encode}
 use Rattle.register.specs.CallOn.{Result, callOn}
+use Rattle.demands.specs.History.{bytesLeft}
 use Rattle.text.specs.Text.{line, AllAllowed}
 use Rattle.text.specs.Bytes.{bytesOf}
 use Rattle.callfile.specs.declared.Printed.{Printed}
@@ -27,27 +31,45 @@ answerNames = bytesOf "refusal first second third\n"
 abbrev pub row : (call by giver receiver weight need bar : ℕ) → List ℤ
 row call by giver receiver weight need bar = pos call ∷ pos by ∷ pos giver ∷ pos receiver ∷ pos weight ∷ pos need ∷ pos bar ∷ []
 
+-- the calls that a call file can have
+pub data FileCall : Type 0 where
+  enrols : (marks : ℕ) → FileCall
+  grants : (giver receiver weight need bar : ℕ) → FileCall
+  revokes : (by giver receiver : ℕ) → FileCall
+  downgrades : (by giver receiver weight : ℕ) → FileCall
+  asksReach : (giver receiver : ℕ) → FileCall
+  asksUse : (receiver : ℕ) → FileCall
+
+-- the call that is meant
+abbrev pub meant : FileCall → Call
+meant (enrols marks) = enrol marks
+meant (grants giver receiver weight need bar) = grant (granted giver receiver weight need bar)
+meant (revokes by giver receiver) = revoke by giver receiver
+meant (downgrades by giver receiver weight) = downgrade by giver receiver weight
+meant (asksReach giver receiver) = askReach giver receiver
+meant (asksUse receiver) = askUse receiver
+
 -- the values of a call: 0 in a column that it does not use
-abbrev pub values : Call → List ℤ
-values (enrol marks) = row 0 0 0 0 0 marks 0
-values (grant giver receiver weight need bar) = row 1 0 giver receiver weight need bar
-values (revoke by giver receiver) = row 2 by giver receiver 0 0 0
-values (downgrade by giver receiver weight) = row 3 by giver receiver weight 0 0
-values (askReach giver receiver) = row 4 0 giver receiver 0 0 0
-values (askUse receiver) = row 5 0 0 receiver 0 0 0
+abbrev pub values : FileCall → List ℤ
+values (enrols marks) = row 0 0 0 0 0 marks 0
+values (grants giver receiver weight need bar) = row 1 0 giver receiver weight need bar
+values (revokes by giver receiver) = row 2 by giver receiver 0 0 0
+values (downgrades by giver receiver weight) = row 3 by giver receiver weight 0 0
+values (asksReach giver receiver) = row 4 0 giver receiver 0 0 0
+values (asksUse receiver) = row 5 0 0 receiver 0 0 0
 
 -- no value is above 4,294,967,295
-abbrev pub InRange : Call → Type 0
-InRange c = AllAllowed false (values c)
+abbrev pub Writable : FileCall → Type 0
+Writable c = AllAllowed false (values c)
 
-abbrev pub AllInRange : List Call → Type 0
-AllInRange [] = Unit {0}
-AllInRange (c ∷ cs) = InRange c × AllInRange cs
+abbrev pub AllWritable : List FileCall → Type 0
+AllWritable [] = Unit {0}
+AllWritable (c ∷ cs) = Writable c × AllWritable cs
 
-abbrev pub callLine : Call → List ℕ
+abbrev pub callLine : FileCall → List ℕ
 callLine c = line (values c)
 
-abbrev pub callLines : List Call → List ℕ
+abbrev pub callLines : List FileCall → List ℕ
 callLines [] = []
 callLines (c ∷ cs) = callLine c ++ callLines cs
 
@@ -55,9 +77,8 @@ callLines (c ∷ cs) = callLine c ++ callLines cs
 abbrev pub answerLine : Result → List ℕ
 answerLine o = line (pos (o .refusal) ∷ o .first ∷ o .second ∷ o .third ∷ [])
 
-abbrev pub answerLines : List ℕ → List Call → List ℕ
-answerLines b [] = []
-answerLines b (c ∷ cs) = answerLine (callOn steps b c) ++ answerLines (callOn steps b c .bytes) cs
+abbrev pub answerLines : List ℕ → List FileCall → List ℕ
+answerLines b cs = concatMap answerLine (traceFrom (callOn steps) bytesLeft b (map meant cs))
 
 -- ── the whole ──
 
@@ -72,7 +93,7 @@ ending n (b ∷ bs) = malformed n
 
 -- a text that begins with no call's line
 abbrev pub NoCall : List ℕ → Type 0
-NoCall s = (c : Call) (rest : List ℕ) → InRange c → s ≢ callLine c ++ rest
+NoCall s = (c : FileCall) (rest : List ℕ) → Writable c → s ≢ callLine c ++ rest
 
 -- the bytes that are read at most
 abbrev pub mostText : ℕ
@@ -83,7 +104,7 @@ pub data Prints (text out : List ℕ) : Type 0 where
   -- too long, or without the line of names: malformed at line 1
   unnamed : (mostText < length text) ⊎ ((rest : List ℕ) → text ≢ callNames ++ rest) → out ≡ answerNames ++ malformed 1 → Prints text out
   -- the names, the lines of calls, and a rest that is empty or malformed; the calls are made from a fresh register on
-  named : (calls : List Call) (rest : List ℕ) → length text ≤ mostText → AllInRange calls → text ≡ callNames ++ (callLines calls ++ rest) → NoCall rest
+  named : (calls : List FileCall) (rest : List ℕ) → length text ≤ mostText → AllWritable calls → text ≡ callNames ++ (callLines calls ++ rest) → NoCall rest
       → out ≡ answerNames ++ (answerLines (encode fresh) calls ++ ending (2 + length calls) rest) → Prints text out
 
 -- a text prints one thing, so that what `run` promises is an equation

@@ -3,20 +3,19 @@ use mathlib.Core.Path.{_≡_}
 use mathlib.Core.List.{[]}
 use Prim.Native.String.{String}
 use lib.IntN.{pos, negsuc}
-use Rattle.rules.specs.Call.{enrol, grant, revoke, downgrade, askReach, askUse}
 use Rattle.text.specs.Bytes.{bytesOf}
-use Rattle.callfile.specs.CallFile.{callLine, answerLine, Prints}
+use Rattle.callfile.specs.CallFile.{enrols, grants, revokes, downgrades, asksReach, asksUse, callLine, answerLine, Prints}
 
 abbrev pub Shows : String → String → Type 0
 Shows text out = Prints (bytesOf text) (bytesOf out)
 
 pub record Examples : Type 0 where
-  pub enrolled : callLine (enrol 3) ≡ bytesOf "0 0 0 0 0 3 0\n"
-  pub granted : callLine (grant 0 1 255 2 4) ≡ bytesOf "1 0 0 1 255 2 4\n"
-  pub revoked : callLine (revoke 1 2 3) ≡ bytesOf "2 1 2 3 0 0 0\n"
-  pub lowered : callLine (downgrade 1 2 3 4) ≡ bytesOf "3 1 2 3 4 0 0\n"
-  pub reached : callLine (askReach 1 2) ≡ bytesOf "4 0 1 2 0 0 0\n"
-  pub used : callLine (askUse 4294967295) ≡ bytesOf "5 0 0 4294967295 0 0 0\n"
+  pub enrolled : callLine (enrols 3) ≡ bytesOf "0 0 0 0 0 3 0\n"
+  pub granted : callLine (grants 0 1 255 2 4) ≡ bytesOf "1 0 0 1 255 2 4\n"
+  pub revoked : callLine (revokes 1 2 3) ≡ bytesOf "2 1 2 3 0 0 0\n"
+  pub lowered : callLine (downgrades 1 2 3 4) ≡ bytesOf "3 1 2 3 4 0 0\n"
+  pub reached : callLine (asksReach 1 2) ≡ bytesOf "4 0 1 2 0 0 0\n"
+  pub used : callLine (asksUse 4294967295) ≡ bytesOf "5 0 0 4294967295 0 0 0\n"
   -- a reach of none
   pub none : answerLine (record { refusal = 0; first = negsuc 0; second = pos 0; third = pos 0; bytes = [] }) ≡ bytesOf "0 -1 0 0\n"
   pub listing : Shows

@@ -8,7 +8,7 @@ ghost use Rattle.text.specs.Text.{AllAllowed};
 ghost use Rattle.text.specs.Write.{Written};
 ghost use Rattle.replay.specs.Replay.{isCall};
 ghost use Rattle.callfile.specs.CallFile.{malformed, mostText, outSize, printedTo, RunMade};
-ghost use Rattle.callfile.specs.Row.{zeros, isRow, rowOf, callOfRow, RowRead, CallRead, Answered, Answerable, RowAnswered, Finished};
+ghost use Rattle.callfile.specs.Row.{allZero, isRow, rowOf, madeOfRow, RowRead, CallRead, Answered, Answerable, RowAnswered, Finished};
 use block::layout;
 use rules::refusal;
 
@@ -56,8 +56,8 @@ fn no_row(at: usize) -> Row
     }
 }
 
-fn zeros(a: u32, b: u32, c: u32, d: u32, e: u32) -> bool
-    ensures { λ r. ⌜ r ≡ zeros a b c d e ⌝ }
+fn all_zero(a: u32, b: u32, c: u32, d: u32, e: u32) -> bool
+    ensures { λ r. ⌜ r ≡ allZero a b c d e ⌝ }
 {
     if a != 0 {
         return false;
@@ -79,22 +79,22 @@ fn is_row(r: Row) -> bool
     ensures { λ b. ⌜ b ≡ isRow (r .call) (r .by) (r .giver) (r .receiver) (r .weight) (r .need) (r .bar) ⌝ }
 {
     if r.call == 0 {
-        return zeros(r.by, r.giver, r.receiver, r.weight, r.bar);
+        return all_zero(r.by, r.giver, r.receiver, r.weight, r.bar);
     }
     if r.call == 1 {
-        return zeros(r.by, 0, 0, 0, 0);
+        return all_zero(r.by, 0, 0, 0, 0);
     }
     if r.call == 2 {
-        return zeros(r.weight, r.need, r.bar, 0, 0);
+        return all_zero(r.weight, r.need, r.bar, 0, 0);
     }
     if r.call == 3 {
-        return zeros(r.need, r.bar, 0, 0, 0);
+        return all_zero(r.need, r.bar, 0, 0, 0);
     }
     if r.call == 4 {
-        return zeros(r.by, r.weight, r.need, r.bar, 0);
+        return all_zero(r.by, r.weight, r.need, r.bar, 0);
     }
     if r.call == 5 {
-        return zeros(r.by, r.giver, r.weight, r.need, r.bar);
+        return all_zero(r.by, r.giver, r.weight, r.need, r.bar);
     }
     false
 }
@@ -170,7 +170,7 @@ fn read_next<'s, 'a>(r: &'s mut CallReader<'a>) -> Row
 // Makes the call of a row and writes its line of answers; the place after it.
 fn write_answer(block: &mut [u8], r: Row, out: &mut [u8], at: usize) -> usize
     requires { ⌜ T (isCall (r .call)) × (at + 48 ≤ length (now out)) ⌝ }
-    ensures { λ n. ⌜ Answered (callOfRow r) (now (block .entry)) (now (out .entry)) at n (now (block .exit)) (now (out .exit)) ⌝ }
+    ensures { λ n. ⌜ Answered (madeOfRow r) (now (block .entry)) (now (out .entry)) at n (now (block .exit)) (now (out .exit)) ⌝ }
 {
     let o = replay::call(
         block,

@@ -15,17 +15,18 @@ use lib.Signed.{ltZ}
 use Rattle.rules.specs.List.{_∈_, keep, filter, any}
 use Rattle.rules.specs.Limit.{none, code}
 use Rattle.rules.specs.Table.{TableRule}
-use Rattle.rules.specs.Register.{Delegation, Register, marksOf}
+use Rattle.rules.specs.Register.{Delegation, Register, marksOf, granted}
 use Rattle.rules.specs.Chain.{limit, IsChain}
 use Rattle.rules.specs.Reach.{reach}
 use Rattle.rules.specs.Support.{ChainFor, allowed}
 use Rattle.rules.specs.Pair.{isPair, weightAt, stands}
 use Rattle.rules.specs.WellFormed.{Rising}
-use Rattle.rules.specs.Call.{askReach, granted}
+use Rattle.rules.specs.Call.{askReach}
 use Rattle.rules.specs.Refusal.{firstOf, passed, chainPassed, chainHeld}
 use Rattle.rules.proofs.Lists.{eqOr}
 use Rattle.rules.proofs.Refusals.{numbered, firstOf-none, firstOf-some}
 use Rattle.rules.proofs.Pairs.{test-pair}
+use Rattle.rules.proofs.Support.{allowed-reach}
 use Rattle.block.specs.Bytes.{IsBytes, leading}
 use Rattle.block.specs.Block.{subjectsIn, countIn, recordsIn, decode}
 use Rattle.block.specs.WellFormed.{wellFormed}
@@ -41,7 +42,7 @@ use Rattle.chain.proofs.Ready.{limit-reach, traceable}
 use Rattle.search.proofs.Searching.{reach-marks, records-held, lent-held, reach-found, chain-found}
 use Rattle.refusals.specs.Early.{notWellFormed, early}
 use Rattle.chain.specs.ChainOn.{chainRefusalOn, unwrittenBy, ChainLeft, ChainMade, ChainFront}
-use Rattle.chain.specs.declared.Written.{Written}
+use Rattle.chain.specs.declared.ChainAnswer.{ChainAnswer}
 use Rattle.refusals.proofs.Holding.{or-false, at-place, place-inside, weight-stands, enrolled-test}
 
 -- a refused call leaves the buffer
@@ -114,7 +115,7 @@ module _ (t : List ℤ) (b : List ℕ) (bytes : IsBytes b) (formed : wellFormed 
   chain-first : (x1 x2 x3 : Bool) → (leb (subjectsIn b) g || leb (subjectsIn b) r) ≡ x1 → stands (decode b) g r ≡ x2
       → any (λ d. ltb (code (allowed t (decode b) d)) (suc (d .weight))) (filter (isPair g r) (decode b .delegations)) ≡ x3
       → firstOf (chainHeld t (decode b) g r) ≡ cond x1 9 (cond (not x2) 13 (cond x3 16 0))
-  chain-first x1 x2 x3 e1 e2 e3 = let p1 = enrolled-test t b bytes formed g r ∙ e1 in λ j. cond (p1 j) 9 (cond (not (e2 j)) 13 (cond (e3 j) 16 0))
+  chain-first x1 x2 x3 e1 e2 e3 = let p1 = enrolled-test b bytes formed g r ∙ e1 in λ j. cond (p1 j) 9 (cond (not (e2 j)) 13 (cond (e3 j) 16 0))
 
   pub chain-unenrolled : (leb (subjectsIn b) g || leb (subjectsIn b) r) ≡ true → (buf : List ℕ)
       → ChainLeft t (decode b) g r (weightAt (decode b .delegations) g r) (firstOf (chainHeld t (decode b) g r)) buf (unwrittenBy 9) buf
@@ -132,18 +133,17 @@ module _ (t : List ℤ) (b : List ℕ) (bytes : IsBytes b) (formed : wellFormed 
       -- the test of 16, as the code makes it
       heavy-test : any (λ x. ltb (code (allowed t (decode b) x)) (suc (x .weight))) (filter (isPair g r) (decode b .delegations))
           ≡ ltZ (reach t (decode b) g r) (pos (delegationAt b k .weight))
-      unfolding allowed
       heavy-test =
           let a = at-place b bytes formed g r k place found in
           let (e, h) = one-pair g r (decode b .delegations) (granted 0 0 0 0 0) (held-formed b bytes formed .rising) (place-inside b bytes formed g r k place found) in
           let q = test-pair g r (delegationAt b k) (subst (λ (x : Delegation). T (isPair g r x)) a h) in
           ap (any (λ x. ltb (code (allowed t (decode b) x)) (suc (x .weight)))) (e ∙ ap (λ (x : Delegation). x ∷ []) a)
           ∙ or-false (ltb (code (allowed t (decode b) (delegationAt b k))) (suc (delegationAt b k .weight)))
-          ∙ (λ j. ltb (code (reach t (decode b) (q .0 j) (q .1 j))) (suc (delegationAt b k .weight)))
+          ∙ ap (λ (l : ℤ). ltb (code l) (suc (delegationAt b k .weight))) (allowed-reach t (decode b) (delegationAt b k) ∙ (λ j. reach t (decode b) (q .0 j) (q .1 j)))
           ∙ sym (below-weight (reach t (decode b) g r) (delegationAt b k .weight))
 
       -- past 9 and 13 what is left is what the search leaves
-      pub chain-carried : (w : ℕ) → w ≡ delegationAt b k .weight → (buf : List ℕ) (o : Written) (after : List ℕ)
+      pub chain-carried : (w : ℕ) → w ≡ delegationAt b k .weight → (buf : List ℕ) (o : ChainAnswer) (after : List ℕ)
           → ChainLeft t (decode b) g r (pos w) (cond (ltZ (reach t (decode b) g r) (pos w)) 16 0) buf o after
           → ChainLeft t (decode b) g r (weightAt (decode b .delegations) g r) (firstOf (chainHeld t (decode b) g r)) buf o after
       chain-carried w e buf o after q =
@@ -180,14 +180,14 @@ module _ (t : List ℤ) (b : List ℕ) (g r : ℕ) (buf : List ℕ) where
     chain-early n e k = chain-refused n (past-buffer ∙ firstOf-some (early b (askReach g r)) (chainHeld t (decode b) g r) n early-numbered e k) k
 
     -- past these what is left is what the register allows
-    pub chain-made : firstOf (early b (askReach g r)) ≡ 0 → (o : Written) (after : List ℕ)
+    pub chain-made : firstOf (early b (askReach g r)) ≡ 0 → (o : ChainAnswer) (after : List ℕ)
         → ChainLeft t (decode b) g r (weightAt (decode b .delegations) g r) (firstOf (chainHeld t (decode b) g r)) buf o after → ChainMade t b g r buf o after
     chain-made e o after h =
         subst (λ (x : ℕ). ChainLeft t (decode b) g r (weightAt (decode b .delegations) g r) x buf o after)
         (sym (past-buffer ∙ firstOf-none (early b (askReach g r)) (chainHeld t (decode b) g r) early-numbered e)) h
 
 -- ── the front handed back ──
-module _ (t : List ℤ) (b : List ℕ) (g r : ℕ) (buf : List ℕ) (o : Written) (after : List ℕ) (made : ChainMade t b g r buf o after) where
+module _ (t : List ℤ) (b : List ℕ) (g r : ℕ) (buf : List ℕ) (o : ChainAnswer) (after : List ℕ) (made : ChainMade t b g r buf o after) where
   pub front-fits : 2 * o .links ≤ length after
   front-fits = go (eqOr (o .refusal) 0)
     where

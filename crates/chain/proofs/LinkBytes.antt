@@ -27,24 +27,24 @@ module _ (parent : ℕ → Delegation) where
       go ih (inr n) = omega (arith, ih (parent u .giver), ap length (linksTo-step parent k u n), length-append (linksTo parent k (parent u .giver)) (parent u ∷ []))
 
   -- what is handed out: how many links there are, and the buffer with their bytes in front
-  abbrev Written : ℕ → ℕ → ℕ → List ℕ → List ℕ → Type 0
-  Written k u n buf after = (n ≡ length (linksTo parent k u)) × (after ≡ linkBytes (linksTo parent k u) ++ drop (2 * n) buf)
+  abbrev LinksWritten : ℕ → ℕ → ℕ → List ℕ → List ℕ → Type 0
+  LinksWritten k u n buf after = (n ≡ length (linksTo parent k u)) × (after ≡ linkBytes (linksTo parent k u) ++ drop (2 * n) buf)
 
-  written-none : (k u : ℕ) (buf : List ℕ) → linksTo parent k u ≡ [] → Written k u 0 buf buf
+  written-none : (k u : ℕ) (buf : List ℕ) → linksTo parent k u ≡ [] → LinksWritten k u 0 buf buf
   written-none k u buf e = rw e (refl, refl)
 
-  pub written-left : (k u : ℕ) (buf : List ℕ) → k ≡ 0 → Written k u 0 buf buf
+  pub written-left : (k u : ℕ) (buf : List ℕ) → k ≡ 0 → LinksWritten k u 0 buf buf
   written-left k u buf e = written-none k u buf (ap (λ (i : ℕ). linksTo parent i u) e)
 
-  pub written-owner : (k u : ℕ) (buf : List ℕ) → u ≡ 0 → Written k u 0 buf buf
+  pub written-owner : (k u : ℕ) (buf : List ℕ) → u ≡ 0 → LinksWritten k u 0 buf buf
   written-owner k u buf e = written-none k u buf (linksTo-owner parent k u e)
 
-  pub written-more : (k u g r n : ℕ) (buf after : List ℕ) → k ≢ 0 → u ≢ 0 → parent u .giver ≡ g → parent u .receiver ≡ r → 2 * k ≤ length buf → Written (k - 1) g n buf after
-      → Written k u (n + 1) buf (set (set after (2 * n) g) (2 * n + 1) r)
+  pub written-more : (k u g r n : ℕ) (buf after : List ℕ) → k ≢ 0 → u ≢ 0 → parent u .giver ≡ g → parent u .receiver ≡ r → 2 * k ≤ length buf → LinksWritten (k - 1) g n buf after
+      → LinksWritten k u (n + 1) buf (set (set after (2 * n) g) (2 * n + 1) r)
   written-more zero u g r n buf after h z eg er room w = absurd (h refl)
   written-more (suc k) u g r n buf after h z eg er room w =
       let j : suc k - 1 ≡ k = omega arith in
-      let (en, ew) = subst (λ (i : ℕ). Written i g n buf after) j w in
+      let (en, ew) = subst (λ (i : ℕ). LinksWritten i g n buf after) j w in
       let xs = linksTo parent k g in
       let e : linksTo parent (suc k) u ≡ xs ++ (parent u ∷ []) = linksTo-step parent k u z ∙ ap (λ (i : ℕ). linksTo parent k i ++ (parent u ∷ [])) eg in
       let b : linkBytes (linksTo parent (suc k) u) ≡ linkBytes xs ++ (g ∷ r ∷ []) = ap linkBytes e ∙ bytes-snoc xs (parent u) ∙ (λ i. linkBytes xs ++ (eg i ∷ er i ∷ [])) in

@@ -15,7 +15,7 @@ use Rattle.block.specs.Layout.{blockSize}
 use Rattle.block.specs.Block.{decode}
 use Rattle.chain.specs.Links.{linkBytes}
 use Rattle.refusals.specs.Early.{notWellFormed}
-use Rattle.chain.specs.declared.Written.{Written}
+use Rattle.chain.specs.declared.ChainAnswer.{ChainAnswer}
 
 -- 1: the block is not 2,180 bytes, or the buffer is under 126
 abbrev pub wrongLengths : List ℕ → List ℕ → ℕ × Bool
@@ -26,11 +26,11 @@ unfoldable pub chainRefusalOn : List ℤ → List ℕ → ℕ → ℕ → List �
 chainRefusalOn t b g r buf = firstOf (wrongLengths b buf ∷ (chainPassed g r ++ (notWellFormed b ∷ chainHeld t (decode b) g r)))
 
 -- what a refused chain call returns
-abbrev pub unwrittenBy : ℕ → Written
+abbrev pub unwrittenBy : ℕ → ChainAnswer
 unwrittenBy n = record { refusal = n; links = 0 }
 
 -- what is returned, and what the buffer holds afterwards, where the refusal is n and the pair's weight is w
-pub record ChainLeft (t : List ℤ) (R : Register) (g r : ℕ) (w : ℤ) (n : ℕ) (before : List ℕ) (o : Written) (after : List ℕ) : Type 0 where
+pub record ChainLeft (t : List ℤ) (R : Register) (g r : ℕ) (w : ℤ) (n : ℕ) (before : List ℕ) (o : ChainAnswer) (after : List ℕ) : Type 0 where
   pub refusal : o .refusal ≡ n
   -- a refused call changes nothing
   pub refused : o .refusal ≢ 0 → (o .links ≡ 0) × (after ≡ before)
@@ -38,7 +38,7 @@ pub record ChainLeft (t : List ℤ) (R : Register) (g r : ℕ) (w : ℤ) (n : �
   pub chain : o .refusal ≡ 0 → (ds : List Delegation) × ChainFor t R g r w ds × (o .links ≡ length ds) × (after ≡ linkBytes ds ++ drop (2 * length ds) before)
 
 -- what the chain call promises: of the register that the block holds, for the weight that stands there for the pair
-abbrev pub ChainMade : List ℤ → List ℕ → ℕ → ℕ → List ℕ → Written → List ℕ → Type 0
+abbrev pub ChainMade : List ℤ → List ℕ → ℕ → ℕ → List ℕ → ChainAnswer → List ℕ → Type 0
 ChainMade t b g r before o after = ChainLeft t (decode b) g r (weightAt (decode b .delegations) g r) (chainRefusalOn t b g r before) before o after
 
 -- what the chain call tells and hands back where it hands back the front: the refusal n; an empty part where refused, else the bytes of such a chain

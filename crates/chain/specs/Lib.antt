@@ -1,2 +1,3 @@
 pub mod Links
 pub mod ChainOn
+pub mod Given

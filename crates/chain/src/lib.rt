@@ -4,7 +4,7 @@ mod links;
 
 ghost use mathlib.Core.Path.{_≡_};
 ghost use denote.Ref.{ptr};
-ghost use Rattle.rules.specs.Table.{steps};
+ghost use Rattle.rules.specs.Table.{TableRule, steps};
 ghost use Rattle.chain.specs.ChainOn.{unwrittenBy, ChainMade, ChainFront};
 use refusals::early;
 use refusals::pair_passed;
@@ -14,24 +14,31 @@ use rules::refusal;
 const CHAIN_SIZE: usize = 126;
 
 // The refusal number of the chain call, 0 when accepted, and how many links were written.
-pub struct Written {
+pub struct ChainAnswer {
     pub refusal: u32,
     pub links: usize,
 }
 
 // Refused: no link is written.
-fn unwritten(number: u32) -> Written
+fn unwritten(number: u32) -> ChainAnswer
     ensures { λ r. ⌜ r ≡ unwrittenBy number ⌝ }
 {
-    Written {
+    ChainAnswer {
         refusal: number,
         links: 0,
     }
 }
 
-// Writes a chain that carries the weight of a standing delegation into `buf`.
-pub fn write_chain(block: &[u8], giver: u32, receiver: u32, buf: &mut [u8]) -> Written
-    ensures { λ r. ⌜ ChainMade steps (now (block .entry)) giver receiver (now (buf .entry)) r (now (buf .exit)) ⌝ }
+// The chain call by a lent step table.
+fn write_chain_by(
+    block: &[u8],
+    table: &[i16],
+    giver: u32,
+    receiver: u32,
+    buf: &mut [u8],
+) -> ChainAnswer
+    requires { ⌜ TableRule (now table) ⌝ }
+    ensures { λ r. ⌜ ChainMade (now (table .entry)) (now (block .entry)) giver receiver (now (buf .entry)) r (now (buf .exit)) ⌝ }
 {
     if buf.len() < CHAIN_SIZE {
         return unwritten(refusal::WRONG_LENGTH);
@@ -40,7 +47,15 @@ pub fn write_chain(block: &[u8], giver: u32, receiver: u32, buf: &mut [u8]) -> W
     if n != 0 {
         return unwritten(n);
     }
-    held::write_held(block, giver, receiver, buf)
+    held::write_held(block, table, giver, receiver, buf)
+}
+
+// Writes a chain that carries the weight of a standing delegation into `buf`.
+pub fn write_chain(block: &[u8], giver: u32, receiver: u32, buf: &mut [u8]) -> ChainAnswer
+    ensures { λ r. ⌜ ChainMade steps (now (block .entry)) giver receiver (now (buf .entry)) r (now (buf .exit)) ⌝ }
+{
+    let table = rules::steps();
+    write_chain_by(block, &table, giver, receiver, buf)
 }
 
 // The same: tells the refusal, 0 when accepted, and hands back the filled front of `buf`, empty where refused.

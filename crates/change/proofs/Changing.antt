@@ -1,67 +1,90 @@
 -- Changes of a well-formed block as changes of the register that it holds. Assumes nothing.
 use mathlib.Core.Path.{_≡_, sym, ap, subst, _∙_}
-use mathlib.Core.Bool.{true, not}
+use mathlib.Core.Bool.{Bool, true, not}
 use mathlib.Core.List.{List, _∷_, _++_}
-use Prim.Native.Nat.{ℕ, suc, _+_, _*_, _-_, _≤_, _<_}
+use Prim.Native.Nat.{ℕ, suc, _+_, _-_, _≤_, _<_}
 use native.Mathlib.Omega.{arith}
 use lib.ListN.{length, getD, take, drop, set}
 use lib.Seq.{sets}
-use Rattle.rules.specs.Register.{Delegation, reweigh, withDelegations}
+use Rattle.rules.specs.Register.{Delegation, reweigh, withDelegations, granted}
 use Rattle.rules.specs.Pair.{isPair, stands}
 use Rattle.rules.specs.Cut.{removal, lowering, named}
-use Rattle.rules.specs.Call.{granted, enrolled}
+use Rattle.rules.specs.Call.{enrolled}
 use Rattle.rules.specs.CallStep.{before, insert}
+use Rattle.block.specs.Layout.{blockSize, mostSubjects, mostRecords, recordSize, countAt, recordsAt, weightByte}
 use Rattle.block.specs.Bytes.{IsBytes, twoBytes, leading}
-use Rattle.block.specs.Block.{recordBytes, subjectsIn, countIn, decode, encode}
+use Rattle.block.specs.Block.{delegationIn, recordBytes, subjectsIn, countIn, decode, encode}
 use Rattle.block.specs.WellFormed.{wellFormed}
 use Rattle.change.specs.Shift.{movedUp, movedDown}
 use Rattle.block.proofs.PairPlace.{leading-most}
-use Rattle.block.proofs.Held.{held-formed, held-written, subjects-held, delegations-held, count-held, place-held, found-stands}
+use Rattle.block.proofs.Held.{leading-read, size-held, count-most, held-formed, held-written, subjects-held, delegations-held, count-held, place-held, found-stands}
 use Rattle.change.proofs.Splice.{insert-leading, filter-pair, map-pair}
 use Rattle.change.proofs.Rewrite.{encode-insert, encode-remove, encode-reweigh, encode-enrol}
-use Rattle.block.specs.Records.{delegationsTo}
+use Rattle.block.specs.Records.{markPlace, recordPlace, delegationsTo}
+
+-- b is a block, n records stand in it, and k is a place among them
+pub record Among (b : List ℕ) (n k : ℕ) : Type 0 where
+  pub size : length b ≡ blockSize
+  pub most : n ≤ mostRecords
+  pub within : k ≤ n
 
 module _ (b : List ℕ) (bytes : IsBytes b) (formed : wellFormed b ≡ true) where
+  pub among : (f : Delegation → Bool) (n k : ℕ) → n ≡ countIn b → k ≡ leading f (delegationsTo b n) → Among b n k
+  among f n k e q = record {
+    size = size-held b bytes formed;
+    most = subst (λ (m : ℕ). m ≤ mostRecords) (sym e) (count-most b bytes formed);
+    within = subst (λ (m : ℕ). m ≤ n) (sym q) (leading-read f delegationIn recordSize (drop recordsAt b) n);
+  }
+
   -- one more subject
-  pub enrol-held : (v : ℕ) → subjectsIn b < 64 → sets (set b 0 (subjectsIn b + 1)) (4 + 2 * subjectsIn b) (twoBytes v) ≡ encode (enrolled (decode b) v)
+  pub enrol-held : (v : ℕ) → subjectsIn b < mostSubjects → sets (set b 0 (subjectsIn b + 1)) (markPlace (subjectsIn b)) (twoBytes v) ≡ encode (enrolled (decode b) v)
   enrol-held v l =
-      (λ j. sets (set ((held-written b bytes formed) j) 0 (n j + 1)) (4 + 2 * n j) (twoBytes v)) ∙ encode-enrol (decode b) (held-formed b bytes formed) v (subst (λ (x : ℕ). x < 64) (sym (subjects-held b bytes formed)) l)
+      (λ j. sets (set ((held-written b bytes formed) j) 0 (n j + 1)) (markPlace (n j)) (twoBytes v)) ∙ encode-enrol (decode b) (held-formed b bytes formed) v (subst (λ (x : ℕ). x < mostSubjects) (sym (subjects-held b bytes formed)) l)
     where
       n : subjectsIn b ≡ decode b .subjects
       n = sym (subjects-held b bytes formed)
 
-  -- one more delegation
-  pub insert-held : (d : Delegation) (k : ℕ) → countIn b < 256 → k ≡ leading (λ e. not (before d e)) (delegationsTo b (countIn b))
-      → sets (sets (movedUp b (132 + 8 * k) (132 + 8 * countIn b)) (132 + 8 * k) (recordBytes d)) 2 (twoBytes (countIn b + 1)) ≡ encode (withDelegations (decode b) (insert d (decode b .delegations)))
-  insert-held d k l e =
-      let ds = decode b .delegations in
-      let n : countIn b ≡ length (decode b .delegations) = sym (count-held b bytes formed) in
-      let q : k ≡ leading (λ x. not (before d x)) ds = e ∙ ap (leading (λ x. not (before d x))) (sym (delegations-held b bytes formed)) in
-      (λ j. sets (sets (movedUp ((held-written b bytes formed) j) (132 + 8 * k) (132 + 8 * n j)) (132 + 8 * k) (recordBytes d)) 2 (twoBytes (n j + 1)))
-      ∙ encode-insert (decode b) (held-formed b bytes formed) d k (subst (λ (x : ℕ). x ≤ length ds) (sym q) (leading-most (λ x. not (before d x)) ds)) (subst (λ (x : ℕ). x < 256) n l)
-      ∙ ap (λ (x : ℕ). encode (withDelegations (decode b) (take x ds ++ (d ∷ drop x ds)))) q
-      ∙ ap (λ (x : List Delegation). encode (withDelegations (decode b) x)) (sym (insert-leading d ds))
+  -- n records are counted
+  module _ (n : ℕ) (counted : n ≡ countIn b) where
+    all : n ≡ length (decode b .delegations)
+    all = counted ∙ sym (count-held b bytes formed)
 
-  module _ (g r k : ℕ) (e : k ≡ leading (λ d. not (isPair g r d)) (delegationsTo b (countIn b))) where
-    -- the pair's delegation removed
-    pub remove-held : stands (decode b) g r ≡ true
-        → sets (sets (movedDown b (132 + 8 * k) (132 + 8 * countIn b)) (132 + 8 * countIn b - 8) (recordBytes (granted 0 0 0 0 0))) 2 (twoBytes (countIn b - 1)) ≡ encode (named (decode b) (removal g r))
-    unfolding named
-    remove-held s =
+    -- one more delegation
+    pub insert-held : (d : Delegation) (k : ℕ) → n < mostRecords → k ≡ leading (λ e. not (before d e)) (delegationsTo b n)
+        → sets (sets (movedUp b (recordPlace k) (recordPlace n)) (recordPlace k) (recordBytes d)) countAt (twoBytes (n + 1)) ≡ encode (withDelegations (decode b) (insert d (decode b .delegations)))
+    insert-held d k l e =
         let ds = decode b .delegations in
-        let n : countIn b ≡ length (decode b .delegations) = sym (count-held b bytes formed) in
-        (λ j. sets (sets (movedDown ((held-written b bytes formed) j) (132 + 8 * k) (132 + 8 * n j)) (132 + 8 * n j - 8) (recordBytes (granted 0 0 0 0 0))) 2 (twoBytes (n j - 1)))
-        ∙ encode-remove (decode b) (held-formed b bytes formed) k (omega (arith, (found-stands b bytes formed g r k e) s, (count-held b bytes formed)))
-        ∙ ap (λ (x : ℕ). encode (withDelegations (decode b) (take x ds ++ drop (suc x) ds))) (place-held b bytes formed g r k e)
-        ∙ ap (λ (x : List Delegation). encode (withDelegations (decode b) x)) (sym (filter-pair g r ds ((held-formed b bytes formed) .rising)))
+        let q : k ≡ leading (λ x. not (before d x)) ds = e ∙ (λ i. leading (λ x. not (before d x)) (delegationsTo b (counted i))) ∙ ap (leading (λ x. not (before d x))) (sym (delegations-held b bytes formed)) in
+        (λ j. sets (sets (movedUp ((held-written b bytes formed) j) (recordPlace k) (recordPlace (all j))) (recordPlace k) (recordBytes d)) countAt (twoBytes (all j + 1)))
+        ∙ encode-insert (decode b) (held-formed b bytes formed) d k (subst (λ (x : ℕ). x ≤ length ds) (sym q) (leading-most (λ x. not (before d x)) ds)) (subst (λ (x : ℕ). x < mostRecords) all l)
+        ∙ ap (λ (x : ℕ). encode (withDelegations (decode b) (take x ds ++ (d ∷ drop x ds)))) q
+        ∙ ap (λ (x : List Delegation). encode (withDelegations (decode b) x)) (sym (insert-leading d ds))
 
-    -- the pair's delegation at another weight
-    pub lower-held : (w : ℕ) → stands (decode b) g r ≡ true → set b (134 + 8 * k) w ≡ encode (named (decode b) (lowering g r w))
-    unfolding named
-    lower-held w s =
-        let ds = decode b .delegations in
-        let l : k < length ds = omega (arith, (found-stands b bytes formed g r k e) s, (count-held b bytes formed)) in
-        ap (λ (x : List ℕ). set x (134 + 8 * k) w) (held-written b bytes formed)
-        ∙ encode-reweigh (decode b) (held-formed b bytes formed) k w l
-        ∙ ap (λ (x : ℕ). encode (withDelegations (decode b) (take x ds ++ (reweigh (getD ds x (granted 0 0 0 0 0)) w ∷ drop (suc x) ds)))) (place-held b bytes formed g r k e)
-        ∙ ap (λ (x : List Delegation). encode (withDelegations (decode b) x)) (sym (map-pair g r w ds (granted 0 0 0 0 0) ((held-formed b bytes formed) .rising) (subst (λ (x : ℕ). x < length ds) (place-held b bytes formed g r k e) l)))
+    -- the pair stands: its place is that of a record
+    module _ (g r k : ℕ) (e : k ≡ leading (λ d. not (isPair g r d)) (delegationsTo b n)) (s : stands (decode b) g r ≡ true) where
+      found : k ≡ leading (λ d. not (isPair g r d)) (delegationsTo b (countIn b))
+      found = e ∙ (λ i. leading (λ d. not (isPair g r d)) (delegationsTo b (counted i)))
+
+      pub place-below : k < n
+      place-below = omega (arith, found-stands b bytes formed g r k found s, counted)
+
+      -- the pair's delegation removed
+      pub remove-held : sets (sets (movedDown b (recordPlace k) (recordPlace n)) (recordPlace (n - 1)) (recordBytes (granted 0 0 0 0 0))) countAt (twoBytes (n - 1)) ≡ encode (named (decode b) (removal g r))
+      unfolding named
+      remove-held =
+          let ds = decode b .delegations in
+          (λ j. sets (sets (movedDown ((held-written b bytes formed) j) (recordPlace k) (recordPlace (all j))) (recordPlace (all j - 1)) (recordBytes (granted 0 0 0 0 0))) countAt (twoBytes (all j - 1)))
+          ∙ encode-remove (decode b) (held-formed b bytes formed) k (omega (arith, place-below, all))
+          ∙ ap (λ (x : ℕ). encode (withDelegations (decode b) (take x ds ++ drop (suc x) ds))) (place-held b bytes formed g r k found)
+          ∙ ap (λ (x : List Delegation). encode (withDelegations (decode b) x)) (sym (filter-pair g r ds ((held-formed b bytes formed) .rising)))
+
+      -- the pair's delegation at another weight
+      pub lower-held : (w : ℕ) → set b (recordPlace k + weightByte) w ≡ encode (named (decode b) (lowering g r w))
+      unfolding named
+      lower-held w =
+          let ds = decode b .delegations in
+          let l : k < length ds = omega (arith, place-below, all) in
+          ap (λ (x : List ℕ). set x (recordPlace k + weightByte) w) (held-written b bytes formed)
+          ∙ encode-reweigh (decode b) (held-formed b bytes formed) k l w
+          ∙ ap (λ (x : ℕ). encode (withDelegations (decode b) (take x ds ++ (reweigh (getD ds x (granted 0 0 0 0 0)) w ∷ drop (suc x) ds)))) (place-held b bytes formed g r k found)
+          ∙ ap (λ (x : List Delegation). encode (withDelegations (decode b) x)) (sym (map-pair g r w ds (granted 0 0 0 0 0) ((held-formed b bytes formed) .rising) (subst (λ (x : ℕ). x < length ds) (place-held b bytes formed g r k found) l)))

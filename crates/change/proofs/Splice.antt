@@ -13,6 +13,7 @@ use Rattle.rules.specs.Register.{Delegation, reweigh}
 use Rattle.rules.specs.Pair.{isPair}
 use Rattle.rules.specs.WellFormed.{Rising}
 use Rattle.rules.specs.CallStep.{before, insert}
+use Rattle.block.specs.Layout.{recordSize}
 use Rattle.block.specs.Bytes.{leading}
 use Rattle.block.proofs.PairPlace.{pairPlace, others}
 use Rattle.change.specs.Shift.{movedUp, movedDown}
@@ -20,52 +21,52 @@ use Rattle.change.specs.Shift.{movedUp, movedDown}
 -- ── bytes ──
 module _ (P : List ℕ) (at : ℕ) (here : length P ≡ at) where
   -- room made at the end of P, and filled
-  pub spliced-in : (Y Z rec : List ℕ) (end : ℕ) → at + length Y ≡ end → 8 ≤ length Z → length rec ≡ 8 → sets (movedUp (P ++ (Y ++ Z)) at end) at rec ≡ P ++ (rec ++ (Y ++ drop 8 Z))
+  pub spliced-in : (Y Z rec : List ℕ) (end : ℕ) → at + length Y ≡ end → recordSize ≤ length Z → length rec ≡ recordSize → sets (movedUp (P ++ (Y ++ Z)) at end) at rec ≡ P ++ (rec ++ (Y ++ drop recordSize Z))
   unfolding movedUp
   spliced-in Y Z rec end e l w =
       let b = P ++ (Y ++ Z) in
-      let rest = take (end - at) (drop at b) ++ drop (end + 8) b in
+      let rest = take (end - at) (drop at b) ++ drop (end + recordSize) b in
       let size : length b ≡ at + (length Y + length Z) = length-append P (Y ++ Z) ∙ omega (arith, length-append Y Z, here) in
-      let front : length (take (at + 8) b) ≡ at + 8 = length-take-le (at + 8) b (omega arith) in
-      let room : at + length rec ≤ length (take (at + 8) b ++ rest) = omega (arith, length-append (take (at + 8) b) rest) in
+      let front : length (take (at + recordSize) b) ≡ at + recordSize = length-take-le (at + recordSize) b (omega arith) in
+      let room : at + length rec ≤ length (take (at + recordSize) b ++ rest) = omega (arith, length-append (take (at + recordSize) b) rest) in
       let d : drop at b ≡ Y ++ Z = drop-at P (Y ++ Z) at here in
       let y : take (end - at) (drop at b) ≡ Y = ap (take (end - at)) d ∙ take-at Y Z (end - at) (omega arith) in
-      let n : end + 8 ≡ at + (length Y + 8) = omega arith in
-      let z : drop (end + 8) b ≡ drop 8 Z =
-      ap (λ (k : ℕ). drop k b) n ∙ sym (drop-drop (length Y + 8) at b) ∙ ap (drop (length Y + 8)) d ∙ drop-append-add Y Z 8 in
-      let p : take at (take (at + 8) b ++ rest) ≡ P =
-      take-append-le at (take (at + 8) b) rest (omega arith) ∙ take-take at (at + 8) b (omega arith) ∙ take-at P (Y ++ Z) at here in
-      let r : drop (at + length rec) (take (at + 8) b ++ rest) ≡ rest = drop-at (take (at + 8) b) rest (at + length rec) (omega arith) in
-      sets-eq rec (take (at + 8) b ++ rest) at room
+      let n : end + recordSize ≡ at + (length Y + recordSize) = omega arith in
+      let z : drop (end + recordSize) b ≡ drop recordSize Z =
+      ap (λ (k : ℕ). drop k b) n ∙ sym (drop-drop (length Y + recordSize) at b) ∙ ap (drop (length Y + recordSize)) d ∙ drop-append-add Y Z recordSize in
+      let p : take at (take (at + recordSize) b ++ rest) ≡ P =
+      take-append-le at (take (at + recordSize) b) rest (omega arith) ∙ take-take at (at + recordSize) b (omega arith) ∙ take-at P (Y ++ Z) at here in
+      let r : drop (at + length rec) (take (at + recordSize) b ++ rest) ≡ rest = drop-at (take (at + recordSize) b) rest (at + length rec) (omega arith) in
+      sets-eq rec (take (at + recordSize) b ++ rest) at room
       ∙ (λ j. p j ++ rec ++ r j)
       ∙ append-assoc P rec rest
       ∙ (λ j. P ++ (rec ++ (y j ++ z j)))
 
   -- the record W that begins at the end of P taken out, and zeros put at the end
-  pub spliced-out : (W Y Z rec : List ℕ) (end : ℕ) → length W ≡ 8 → at + 8 + length Y ≡ end → length rec ≡ 8 → sets (movedDown (P ++ (W ++ (Y ++ Z))) at end) (end - 8) rec ≡ P ++ (Y ++ (rec ++ Z))
+  pub spliced-out : (W Y Z rec : List ℕ) (end last : ℕ) → length W ≡ recordSize → at + recordSize + length Y ≡ end → last + recordSize ≡ end → length rec ≡ recordSize → sets (movedDown (P ++ (W ++ (Y ++ Z))) at end) last rec ≡ P ++ (Y ++ (rec ++ Z))
   unfolding movedDown
-  spliced-out W Y Z rec end w e k =
+  spliced-out W Y Z rec end last w e x k =
       let b = P ++ (W ++ (Y ++ Z)) in
-      let n : end - (at + 8) ≡ length Y = omega arith in
+      let n : end - (at + recordSize) ≡ length Y = omega arith in
       let p : take at b ≡ P = take-at P (W ++ (Y ++ Z)) at here in
       let d : drop at b ≡ W ++ (Y ++ Z) = drop-at P (W ++ (Y ++ Z)) at here in
-      let s : drop (at + 8) b ≡ Y ++ Z = sym (drop-drop 8 at b) ∙ ap (drop 8) d ∙ drop-at W (Y ++ Z) 8 w in
-      let y : take (end - (at + 8)) (drop (at + 8) b) ≡ Y = ap (take (end - (at + 8))) s ∙ take-at Y Z (end - (at + 8)) (omega arith) in
-      let q = drop (at + (end - (at + 8))) b in
-      let long : length b ≡ at + (8 + (length Y + length Z)) = length-append P (W ++ (Y ++ Z)) ∙ omega (arith, length-append W (Y ++ Z), length-append Y Z, here) in
-      let qlong : length q ≡ 8 + length Z = length-drop (at + (end - (at + 8))) b ∙ omega arith in
-      let moved : take at b ++ take (end - (at + 8)) (drop (at + 8) b) ++ q ≡ (P ++ Y) ++ q = λ j. p j ++ y j ++ q in
-      let py : length (P ++ Y) ≡ end - 8 = length-append P Y ∙ omega arith in
-      let room : end - 8 + length rec ≤ length ((P ++ Y) ++ q) = omega (arith, length-append (P ++ Y) q) in
-      let tail : drop (end - 8 + length rec) ((P ++ Y) ++ q) ≡ Z =
-      let m : end - 8 + length rec ≡ length (P ++ Y) + 8 = omega arith in
-      let u : 8 + (at + (end - (at + 8))) ≡ at + (8 + length Y) = omega arith in
-      let v : at + (end - (at + 8)) + 8 ≡ at + (8 + length Y) = omega arith in
-      ap (λ (i : ℕ). drop i ((P ++ Y) ++ q)) m ∙ drop-append-add (P ++ Y) q 8 ∙ drop-drop 8 (at + (end - (at + 8))) b ∙ ap (λ (i : ℕ). drop i b) v
-      ∙ sym (drop-drop (8 + length Y) at b) ∙ ap (drop (8 + length Y)) d ∙ ap (λ (i : ℕ). drop i (W ++ (Y ++ Z))) (ap (λ (i : ℕ). i + length Y) (sym w)) ∙ drop-append-add W (Y ++ Z) (length Y) ∙ drop-append-seam Y Z in
-      ap (λ (l : List ℕ). sets l (end - 8) rec) moved
-      ∙ sets-eq rec ((P ++ Y) ++ q) (end - 8) room
-      ∙ (λ j. take-at (P ++ Y) q (end - 8) py j ++ rec ++ tail j)
+      let s : drop (at + recordSize) b ≡ Y ++ Z = sym (drop-drop recordSize at b) ∙ ap (drop recordSize) d ∙ drop-at W (Y ++ Z) recordSize w in
+      let y : take (end - (at + recordSize)) (drop (at + recordSize) b) ≡ Y = ap (take (end - (at + recordSize))) s ∙ take-at Y Z (end - (at + recordSize)) (omega arith) in
+      let q = drop (at + (end - (at + recordSize))) b in
+      let long : length b ≡ at + (recordSize + (length Y + length Z)) = length-append P (W ++ (Y ++ Z)) ∙ omega (arith, length-append W (Y ++ Z), length-append Y Z, here) in
+      let qlong : length q ≡ recordSize + length Z = length-drop (at + (end - (at + recordSize))) b ∙ omega arith in
+      let moved : take at b ++ take (end - (at + recordSize)) (drop (at + recordSize) b) ++ q ≡ (P ++ Y) ++ q = λ j. p j ++ y j ++ q in
+      let py : length (P ++ Y) ≡ last = length-append P Y ∙ omega arith in
+      let room : last + length rec ≤ length ((P ++ Y) ++ q) = omega (arith, length-append (P ++ Y) q) in
+      let tail : drop (last + length rec) ((P ++ Y) ++ q) ≡ Z =
+      let m : last + length rec ≡ length (P ++ Y) + recordSize = omega arith in
+      let u : recordSize + (at + (end - (at + recordSize))) ≡ at + (recordSize + length Y) = omega arith in
+      let v : at + (end - (at + recordSize)) + recordSize ≡ at + (recordSize + length Y) = omega arith in
+      ap (λ (i : ℕ). drop i ((P ++ Y) ++ q)) m ∙ drop-append-add (P ++ Y) q recordSize ∙ drop-drop recordSize (at + (end - (at + recordSize))) b ∙ ap (λ (i : ℕ). drop i b) v
+      ∙ sym (drop-drop (recordSize + length Y) at b) ∙ ap (drop (recordSize + length Y)) d ∙ ap (λ (i : ℕ). drop i (W ++ (Y ++ Z))) (ap (λ (i : ℕ). i + length Y) (sym w)) ∙ drop-append-add W (Y ++ Z) (length Y) ∙ drop-append-seam Y Z in
+      ap (λ (l : List ℕ). sets l last rec) moved
+      ∙ sets-eq rec ((P ++ Y) ++ q) last room
+      ∙ (λ j. take-at (P ++ Y) q last py j ++ rec ++ tail j)
       ∙ append-assoc (P ++ Y) rec Z
       ∙ append-assoc P Y (rec ++ Z)
 

@@ -3,11 +3,12 @@ use mathlib.Core.List.{List, _++_}
 use Prim.Native.Nat.{ℕ, _+_, _-_}
 use lib.ListN.{take, drop}
 use lib.Seq.{paste}
+use Rattle.block.specs.Layout.{recordSize}
 
--- the bytes from at to end, moved up by 8
+-- the bytes from at to end, moved up by the size of a record
 unfoldable pub movedUp : List ℕ → ℕ → ℕ → List ℕ
-movedUp b at end = take (at + 8) b ++ (take (end - at) (drop at b) ++ drop (end + 8) b)
+movedUp b at end = take (at + recordSize) b ++ (take (end - at) (drop at b) ++ drop (end + recordSize) b)
 
--- the bytes from at + 8 to end, moved down by 8
+-- the bytes after the record at `at` up to end, moved down by the size of a record
 unfoldable pub movedDown : List ℕ → ℕ → ℕ → List ℕ
-movedDown b at end = paste b at (drop (at + 8) b) (end - (at + 8))
+movedDown b at end = paste b at (drop (at + recordSize) b) (end - (at + recordSize))

@@ -5,11 +5,12 @@ ghost use mathlib.Core.Path.{_≡_};
 ghost use mathlib.Core.Bool.{true};
 ghost use Prim.Native.Nat.{_<_};
 ghost use lib.ListN.{length};
-ghost use Rattle.rules.specs.Register.{withDelegations};
+ghost use Rattle.rules.specs.Register.{withDelegations, granted};
 ghost use Rattle.rules.specs.Pair.{stands};
 ghost use Rattle.rules.specs.Cut.{removal, lowering, named};
-ghost use Rattle.rules.specs.Call.{fresh, granted, enrolled};
+ghost use Rattle.rules.specs.Call.{fresh, enrolled};
 ghost use Rattle.rules.specs.CallStep.{insert};
+ghost use Rattle.block.specs.Layout.{blockSize, mostSubjects, mostRecords};
 ghost use Rattle.block.specs.Block.{subjectsIn, countIn, decode, encode};
 ghost use Rattle.block.specs.WellFormed.{wellFormed};
 use block::count;
@@ -17,10 +18,9 @@ use block::find;
 use block::layout::COUNT_AT;
 use block::layout::MARK_SIZE;
 use block::layout::MARKS_AT;
-use block::layout::RECORD_SIZE;
-use block::layout::RECORDS_AT;
 use block::layout::WEIGHT;
 use block::place;
+use block::record_place;
 use block::subjects;
 pub use write::put_record;
 pub use write::put_two;
@@ -30,7 +30,7 @@ pub use write::zero_all;
 
 // The fresh register, over any bytes.
 pub fn write_fresh(b: &mut [u8])
-    requires { ⌜ length (now b) ≡ 2180 ⌝ }
+    requires { ⌜ length (now b) ≡ blockSize ⌝ }
     ensures { λ _. ⌜ now (b .exit) ≡ encode fresh ⌝ }
 {
     zero_all(b);
@@ -39,7 +39,7 @@ pub fn write_fresh(b: &mut [u8])
 
 // One more subject.
 pub fn add_subject(b: &mut [u8], marks: u16)
-    requires { ⌜ (wellFormed (now b) ≡ true) × (subjectsIn (now b) < 64) ⌝ }
+    requires { ⌜ (wellFormed (now b) ≡ true) × (subjectsIn (now b) < mostSubjects) ⌝ }
     ensures { λ _. ⌜ now (b .exit) ≡ encode (enrolled (decode (now (b .entry))) marks) ⌝ }
 {
     let n = subjects(b);
@@ -49,13 +49,12 @@ pub fn add_subject(b: &mut [u8], marks: u16)
 
 // One more delegation, at its place.
 pub fn insert(b: &mut [u8], giver: u8, receiver: u8, weight: u8, need: u16, bar: u16)
-    requires { ⌜ (wellFormed (now b) ≡ true) × (countIn (now b) < 256) ⌝ }
+    requires { ⌜ (wellFormed (now b) ≡ true) × (countIn (now b) < mostRecords) ⌝ }
     ensures { λ _. ⌜ now (b .exit) ≡ encode (withDelegations (decode (now (b .entry))) (insert (granted giver receiver weight need bar) ((decode (now (b .entry))) .delegations))) ⌝ }
 {
     let n = count(b);
-    let k = place(b, n, giver, receiver);
-    let at = RECORDS_AT + RECORD_SIZE * k;
-    shift_up(b, at, RECORDS_AT + RECORD_SIZE * n);
+    let at = record_place(place(b, n, giver, receiver));
+    shift_up(b, at, record_place(n));
     put_record(b, at, giver, receiver, weight, need, bar);
     put_two(b, COUNT_AT, (n + 1) as u16);
 }
@@ -66,11 +65,11 @@ pub fn remove(b: &mut [u8], giver: u8, receiver: u8)
     ensures { λ _. ⌜ now (b .exit) ≡ encode (named (decode (now (b .entry))) (removal giver receiver)) ⌝ }
 {
     let n = count(b);
-    let k = find(b, n, giver, receiver);
-    let end = RECORDS_AT + RECORD_SIZE * n;
-    shift_down(b, RECORDS_AT + RECORD_SIZE * k, end);
-    put_record(b, end - RECORD_SIZE, 0, 0, 0, 0, 0);
-    put_two(b, COUNT_AT, (n - 1) as u16);
+    let at = record_place(find(b, n, giver, receiver));
+    shift_down(b, at, record_place(n));
+    let last = n - 1;
+    put_record(b, record_place(last), 0, 0, 0, 0, 0);
+    put_two(b, COUNT_AT, last as u16);
 }
 
 // The pair's delegation at another weight.
@@ -79,6 +78,6 @@ pub fn set_weight(b: &mut [u8], giver: u8, receiver: u8, weight: u8)
     ensures { λ _. ⌜ now (b .exit) ≡ encode (named (decode (now (b .entry))) (lowering giver receiver weight)) ⌝ }
 {
     let n = count(b);
-    let k = find(b, n, giver, receiver);
-    b[RECORDS_AT + RECORD_SIZE * k + WEIGHT] = weight;
+    let at = record_place(find(b, n, giver, receiver));
+    b[at + WEIGHT] = weight;
 }

@@ -1,6 +1,6 @@
 -- P1 to P8 on bytes: the trace of the calls on bytes is the trace of the definitions, written; so the calls on bytes make of each example what
 -- document 01 says of it. And the trace is the one that demand 3 cites. Assumes nothing.
-use mathlib.Core.Path.{_≡_, refl, sym, ap, _∙_}
+use mathlib.Core.Path.{_≡_, refl, ap, _∙_}
 use mathlib.Core.List.{List, [], _∷_, _++_, map}
 use Prim.Native.Nat.{ℕ, zero, suc}
 use lib.ListN.{length, take, drop}
@@ -11,16 +11,17 @@ use Rattle.rules.specs.Register.{Register}
 use Rattle.rules.specs.WellFormed.{WellFormed}
 use Rattle.rules.specs.Call.{Call, fresh}
 use Rattle.rules.specs.CallStep.{callStep}
-use Rattle.rules.specs.Trace.{traceFrom, trace}
+use Rattle.rules.specs.Trace.{Entry, allAsked, traceFrom, stateFrom, History}
+use Rattle.rules.specs.History.{leftBy, trace}
 use Rattle.rules.specs.Examples.{Example, lastLeft, computed, said, examples}
 use Rattle.rules.proofs.Calls.{fresh-formed, callStep-formed}
+use Rattle.rules.proofs.Trace.{trace-at, history-from}
 use Rattle.rules.proofs.Answers.{examples-hold}
 use Rattle.block.specs.Block.{decode, encode}
 use Rattle.block.proofs.Encode.{decode-encode}
 use Rattle.register.specs.CallOn.{Result, callOn}
-use Rattle.register.specs.Made.{result}
-use Rattle.demands.specs.History.{Entry, calls, History, blockFrom, blockAt}
-use Rattle.demands.specs.Examples.{traceOnFrom, traceOn, lineOn, computedOn}
+use Rattle.demands.specs.History.{bytesLeft, traceOn, blockAt}
+use Rattle.demands.specs.Examples.{lineOn, computedOn}
 use Rattle.register.proofs.OnBytes.{onBytes, callOn-encode}
 
 module _ {A B C : Type 0} (g : A → B) (f : B → C) where
@@ -37,21 +38,21 @@ module _ {A B C : Type 0} (g : A → B) (f : B → C) where
 
 module _ (t : List ℤ) where
   -- ── the trace on bytes is the trace on registers, written ──
-  traceOnFrom-encode : (R : Register) → WellFormed R → (cs : List Call) → traceOnFrom t (encode R) cs ≡ map onBytes (traceFrom t R cs)
+  traceOnFrom-encode : (R : Register) → WellFormed R → (cs : List Call) → traceFrom (callOn t) bytesLeft (encode R) cs ≡ map onBytes (traceFrom (callStep t) leftBy R cs)
   traceOnFrom-encode R f [] = refl
   traceOnFrom-encode R f (c ∷ cs) =
-      ap (λ (r : Result). r ∷ traceOnFrom t (r .bytes) cs) (callOn-encode t R f c)
+      ap (λ (r : Result). r ∷ traceFrom (callOn t) bytesLeft (r .bytes) cs) (callOn-encode t R f c)
       ∙ ap (λ (rs : List Result). onBytes (callStep t R c) ∷ rs) (traceOnFrom-encode (callStep t R c .left) (callStep-formed t R c f) cs)
 
   traceOn-encode : (cs : List Call) → traceOn t cs ≡ map onBytes (trace t cs)
   traceOn-encode cs = traceOnFrom-encode fresh fresh-formed cs
 
-  last-block : (R : Register) → WellFormed R → (c : Call) (cs : List Call) → decode (blockFrom t (encode R) (c ∷ cs) (suc (length cs))) .delegations ≡ lastLeft (traceFrom t R (c ∷ cs))
+  last-block : (R : Register) → WellFormed R → (c : Call) (cs : List Call) → decode (stateFrom (callOn t) bytesLeft (encode R) (c ∷ cs) (suc (length cs))) .delegations ≡ lastLeft (traceFrom (callStep t) leftBy R (c ∷ cs))
   last-block R f c [] =
       ap (λ (r : Result). decode (r .bytes) .delegations) (callOn-encode t R f c)
       ∙ ap (λ (S : Register). S .delegations) (decode-encode (callStep t R c .left) (callStep-formed t R c f))
   last-block R f c (d ∷ ds) =
-      ap (λ (r : Result). decode (blockFrom t (r .bytes) (d ∷ ds) (suc (length ds))) .delegations) (callOn-encode t R f c)
+      ap (λ (r : Result). decode (stateFrom (callOn t) bytesLeft (r .bytes) (d ∷ ds) (suc (length ds))) .delegations) (callOn-encode t R f c)
       ∙ last-block (callStep t R c .left) (callStep-formed t R c f) d ds
 
   -- the last block holds the delegations that the last call left
@@ -60,24 +61,14 @@ module _ (t : List ℤ) where
   blockAt-last (c ∷ cs) = last-block fresh fresh-formed c cs
 
   -- ── the trace is the one that demand 3 cites ──
-  result-at : (b : List ℕ) (cs : List Call) (i : ℕ) (r : Result) → At (traceOnFrom t b cs) i r → (c : Call) × At cs i c × (r ≡ callOn t (blockFrom t b cs i) c)
-  result-at b [] i r a = absurd a
-  result-at b (c ∷ cs) zero r a = (c, refl, sym a)
-  result-at b (c ∷ cs) (suc i) r a = result-at (callOn t b c .bytes) cs i r a
 
   -- the result at place i is that of the call at place i on the block S i
   pub trace-blocks : (cs : List Call) (i : ℕ) (r : Result) → At (traceOn t cs) i r → (c : Call) × At cs i c × (r ≡ callOn t (blockAt t cs i) c)
-  trace-blocks cs i r a = result-at (encode fresh) cs i r a
-
-  history-from : (b : List ℕ) (es : List Entry) → History t b es → map (λ e. result (e .answer) (e .after)) es ≡ traceOnFrom t b (calls es)
-  history-from b [] h = refl
-  history-from b (e ∷ es) h =
-      ap (λ (rs : List Result). result (e .answer) (e .after) ∷ rs) (history-from (e .after) es (h .1))
-      ∙ ap (λ (r : Result). r ∷ traceOnFrom t (r .bytes) (calls es)) (h .0)
+  trace-blocks cs i r a = trace-at (callOn t) bytesLeft (encode fresh) cs i r a
 
   -- what the calls of a history returned and left is the trace of its calls
-  pub history-trace : (es : List Entry) → History t (encode fresh) es → map (λ e. result (e .answer) (e .after)) es ≡ traceOn t (calls es)
-  history-trace es h = history-from (encode fresh) es h
+  pub history-trace : (es : List (Entry Call Result)) → History (callOn t) bytesLeft (encode fresh) es → map (λ (e : Entry Call Result). e .outcome) es ≡ traceOn t (allAsked es)
+  history-trace es h = history-from (callOn t) bytesLeft (encode fresh) es h
 
 -- ── the examples ──
 

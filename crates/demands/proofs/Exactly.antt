@@ -1,77 +1,64 @@
 -- Demand 2, as theorems about the calls on bytes. Assumes nothing.
 use mathlib.Core.Path.{_≡_, refl, sym, ap, subst, _∙_}
-use mathlib.Core.Logic.{_≢_, _⊎_, inl, inr}
-use mathlib.Core.Bool.{Bool, true, false, cond, not, _||_}
-use mathlib.Core.List.{List, [], _∷_}
-use Prim.Native.Nat.{ℕ, suc, _≤_}
+use mathlib.Core.Logic.{_⊎_, inl, inr}
+use mathlib.Core.Bool.{Bool, false}
+use mathlib.Core.List.{List, [], _∷_, _++_}
+use Prim.Native.Nat.{ℕ, suc}
 use native.Mathlib.Omega.{arith}
 use borrow.Author.Tests.{le-ltb}
-use lib.Dec.{T, ltb, nltb→le}
+use lib.Dec.{ltb, nltb→le}
 use lib.IntN.{ℤ, pos}
 use Rattle.rules.specs.Limit.{none, code, _≼_}
 use Rattle.rules.specs.Table.{TableRule, steps}
 use Rattle.rules.specs.Register.{Delegation}
 use Rattle.rules.specs.Chain.{limit, IsChain}
 use Rattle.rules.specs.Reach.{IsReach, reach}
-use Rattle.rules.specs.Support.{allowed, Carried}
-use Rattle.rules.specs.Call.{grant, askReach, granted}
+use Rattle.rules.specs.Support.{allowed}
+use Rattle.rules.specs.Call.{grant, askReach}
 use Rattle.rules.specs.Refusal.{firstOf, passed, held, notEnrolled, pairStands, allStand, overweight}
 use Rattle.rules.specs.CallStep.{accepted}
 use Rattle.rules.proofs.Table.{steps-rule}
+use Rattle.rules.proofs.Lists.{not-or-left}
+use Rattle.rules.proofs.Refusals.{firstOf-left, firstOf-none, passes-of}
 use Rattle.rules.proofs.Reach.{reach-is, reach-only}
 use Rattle.rules.proofs.Support.{allowed-carried, carried-allowed}
 use Rattle.rules.proofs.Calls.{accepted-refusal}
 use Rattle.block.specs.Block.{decode}
-use Rattle.refusals.specs.Early.{early}
 use Rattle.register.specs.CallOn.{Result, callOn}
 use Rattle.demands.specs.Exactly.{Grantable, GrantExactly, ReachAnswer, ReachExactly}
 use Rattle.register.proofs.Made.{callOn-accepted}
 use Rattle.register.proofs.Through.{accepted-through}
 
--- ── a list of refusals of which none applies ──
-firstOf-head : (n : ℕ) (x : Bool) (ps : List (ℕ × Bool)) → n ≢ 0 → firstOf ((n, x) ∷ ps) ≡ 0 → (x ≡ false) × (firstOf ps ≡ 0)
-firstOf-head n true ps k e = absurd (k e)
-firstOf-head n false ps k e = (refl, e)
-
 -- ── grant ──
-module _ (t : List ℤ) (rule : TableRule t) (b : List ℕ) (g r w n m : ℕ) where
-  light : (ltb (code (allowed t (decode b) (granted g r w n m))) (suc w) || false) ≡ false → Carried t (decode b) (granted g r w n m)
-  light e = allowed-carried t rule (decode b) (granted g r w n m) (go (ltb (code (allowed t (decode b) (granted g r w n m))) (suc w)) e (nltb→le (code (allowed t (decode b) (granted g r w n m))) (suc w)))
-    where
-      go : (x : Bool) → (x || false) ≡ false → (T (not x) → suc w ≤ code (allowed t (decode b) (granted g r w n m))) → pos w ≼ allowed t (decode b) (granted g r w n m)
-      go true q h = absurd (subst T q tt)
-      go false q h = h tt
+module _ (t : List ℤ) (rule : TableRule t) (b : List ℕ) (d : Delegation) where
+  -- the tests before 16, and 16
+  abbrev tests : List (ℕ × Bool)
+  tests = notEnrolled (decode b) (d .giver ∷ d .receiver ∷ []) ∷ pairStands (decode b) (d .giver) (d .receiver) ∷ allStand (decode b) ∷ []
 
-  heavy-not : Carried t (decode b) (granted g r w n m) → (ltb (code (allowed t (decode b) (granted g r w n m))) (suc w) || false) ≡ false
-  heavy-not c = let h = carried-allowed t rule (decode b) (granted g r w n m) c in rw (le-ltb (code (allowed t (decode b) (granted g r w n m))) (suc w) h)
+  abbrev last : List (ℕ × Bool)
+  last = overweight t (decode b) (d ∷ []) ∷ []
 
-  grant-only : callOn t b (grant g r w n m) .refusal ≡ 0 → Grantable t b g r w n m
+  grant-only : callOn t b (grant d) .refusal ≡ 0 → Grantable t b d
   unfolding held
   grant-only e =
-      let h = accepted-through t b (grant g r w n m) e in
-      let (x1, r1) = firstOf-head 9 (notEnrolled (decode b) (g ∷ r ∷ []) .1) (pairStands (decode b) g r ∷ allStand (decode b) ∷ overweight t (decode b) (granted g r w n m ∷ []) ∷ []) (λ q. omega arith) (h .held) in
-      let (x2, r2) = firstOf-head 11 (pairStands (decode b) g r .1) (allStand (decode b) ∷ overweight t (decode b) (granted g r w n m ∷ []) ∷ []) (λ q. omega arith) r1 in
-      let (x3, r3) = firstOf-head 12 (allStand (decode b) .1) (overweight t (decode b) (granted g r w n m ∷ []) ∷ []) (λ q. omega arith) r2 in
-      let (x4, r4) = firstOf-head 16 (overweight t (decode b) (granted g r w n m ∷ []) .1) [] (λ q. omega arith) r3 in
+      let h = accepted-through t b (grant d) e in
+      let l = ltb (code (allowed t (decode b) d)) (suc (d .weight)) in
       record {
         size = h .early .size;
         passed = h .early .passed;
         formed = h .early .formed;
-        held = λ j. cond (x1 j) 9 (cond (x2 j) 11 (cond (x3 j) 12 0));
-        carried = light x4;
+        held = firstOf-left tests last tt (h .held);
+        carried = allowed-carried t rule (decode b) d (nltb→le (code (allowed t (decode b) d)) (suc (d .weight)) (not-or-left l false (passes-of (tests ++ last) tt (h .held) 16)));
       }
 
-  grant-whenever : Grantable t b g r w n m → callOn t b (grant g r w n m) .refusal ≡ 0
+  grant-whenever : Grantable t b d → callOn t b (grant d) .refusal ≡ 0
   unfolding held
   grant-whenever k =
-      let (x1, r1) = firstOf-head 9 (notEnrolled (decode b) (g ∷ r ∷ []) .1) (pairStands (decode b) g r ∷ allStand (decode b) ∷ []) (λ q. omega arith) (k .held) in
-      let (x2, r2) = firstOf-head 11 (pairStands (decode b) g r .1) (allStand (decode b) ∷ []) (λ q. omega arith) r1 in
-      let (x3, r3) = firstOf-head 12 (allStand (decode b) .1) [] (λ q. omega arith) r2 in
-      let x4 = heavy-not (k .carried) in
-      let all : firstOf (held t (decode b) (grant g r w n m)) ≡ 0 = λ j. cond (x1 j) 9 (cond (x2 j) 11 (cond (x3 j) 12 (cond (x4 j) 16 0))) in
-      ap (λ (x : Result). x .refusal) (callOn-accepted t (grant g r w n m) b record { size = k .size; passed = k .passed; formed = k .formed } all) ∙ accepted-refusal t (decode b) (grant g r w n m)
+      let light = carried-allowed t rule (decode b) d (k .carried) in
+      let all : firstOf (tests ++ last) ≡ 0 = firstOf-none tests last tt (k .held) ∙ rw (le-ltb (code (allowed t (decode b) d)) (suc (d .weight)) light) in
+      ap (λ (x : Result). x .refusal) (callOn-accepted t (grant d) b record { size = k .size; passed = k .passed; formed = k .formed } all) ∙ accepted-refusal t (decode b) (grant d)
 
-  pub grant-exactly : GrantExactly t b g r w n m
+  pub grant-exactly : GrantExactly t b d
   grant-exactly = record { only = grant-only; whenever = grant-whenever }
 
 -- ── reach ──
@@ -106,8 +93,8 @@ pub reach-exactly : (t : List ℤ) (b : List ℕ) (g r : ℕ) → ReachExactly t
 reach-exactly t b g r e = answers-reach t b g r e
 
 -- ── by document 01's own table ──
-pub grant-exactly-steps : (b : List ℕ) (g r w n m : ℕ) → GrantExactly steps b g r w n m
-grant-exactly-steps b g r w n m = grant-exactly steps steps-rule b g r w n m
+pub grant-exactly-steps : (b : List ℕ) (d : Delegation) → GrantExactly steps b d
+grant-exactly-steps b d = grant-exactly steps steps-rule b d
 
 pub reach-exactly-steps : (b : List ℕ) (g r : ℕ) → ReachExactly steps b g r
 reach-exactly-steps b g r = reach-exactly steps b g r

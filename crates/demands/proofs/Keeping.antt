@@ -29,8 +29,7 @@ use Rattle.block.proofs.Held.{held-formed}
 use Rattle.refusals.specs.Early.{early}
 use Rattle.register.specs.CallOn.{Result, turned, written, callOn, openOn}
 use Rattle.demands.specs.Kept.{Kept, KeptOpen}
-use Rattle.register.proofs.Made.{callOn-late}
-use Rattle.register.proofs.Through.{accepted-through}
+use Rattle.register.proofs.Through.{accepted-through, accepted-step, accepted-left}
 
 module _ (t : List ℤ) (b : List ℕ) (c : Call) where
   written-same : (o : Outcome) → o .refusal ≢ 0 → written b o .bytes ≡ b
@@ -46,22 +45,12 @@ module _ (t : List ℤ) (b : List ℕ) (c : Call) where
       go true k = written-same (callStep t (decode b) c) k
       go false k = refl
 
-  -- an accepted call on bytes is the accepted call on the register that the block holds
-  accepted-step : callOn t b c .refusal ≡ 0 → (callOn t b c ≡ written b (callStep t (decode b) c)) × (callStep t (decode b) c .refusal ≡ 0)
-  accepted-step e = let q = callOn-late t c b (accepted-through t b c e .early) in (q, sym (ap (λ (r : Result). r .refusal) q) ∙ e)
-
-  -- an accepted call leaves the register that the definitions leave, written
-  accepted-left : callOn t b c .refusal ≡ 0 → callOn t b c .bytes ≡ encode (callStep t (decode b) c .left)
-  accepted-left e =
-      let (q, z) = accepted-step e in
-      ap (λ (r : Result). r .bytes) q ∙ ap (λ (x : Bool). cond x (encode (callStep t (decode b) c .left)) b) (eq-eqb (callStep t (decode b) c .refusal) 0 z)
-
   pub kept : TableRule t → IsBytes b → Kept t b c
   kept rule bytes = record {
     refused = refused-same;
-    formed = λ e. ap wellFormed (accepted-left e) ∙ T-true (wellFormed (encode (callStep t (decode b) c .left))) (encode-formed (callStep t (decode b) c .left) (left-formed e));
+    formed = λ e. ap wellFormed (accepted-left t b c e) ∙ T-true (wellFormed (encode (callStep t (decode b) c .left))) (encode-formed (callStep t (decode b) c .left) (left-formed e));
     bytes = go (eqb (callOn t b c .refusal) 0) refl;
-    range = λ e. let (q, z) = accepted-step e in subst (λ (r : Result). InRange c (r .first) (r .second) (r .third)) (sym q) (callStep-range t rule (decode b) c (found-formed e) z);
+    range = λ e. let (q, z) = accepted-step t b c e in subst (λ (r : Result). InRange c (r .first) (r .second) (r .third)) (sym q) (callStep-range t rule (decode b) c (found-formed e) z);
   }
     where
       found-formed : callOn t b c .refusal ≡ 0 → WellFormed (decode b)
@@ -71,7 +60,7 @@ module _ (t : List ℤ) (b : List ℕ) (c : Call) where
       left-formed e = callStep-formed t (decode b) c (found-formed e)
 
       go : (x : Bool) → eqb (callOn t b c .refusal) 0 ≡ x → IsBytes (callOn t b c .bytes)
-      go true q = let e = eqb→eq (callOn t b c .refusal) 0 (subst T (sym q) tt) in subst IsBytes (sym (accepted-left e)) (bytes-encode (callStep t (decode b) c .left) (left-formed e))
+      go true q = let e = eqb→eq (callOn t b c .refusal) 0 (subst T (sym q) tt) in subst IsBytes (sym (accepted-left t b c e)) (bytes-encode (callStep t (decode b) c .left) (left-formed e))
       go false q = subst IsBytes (sym (refused-same (λ e. absurd (T-not true (subst (λ (x : Bool). T (not x)) (sym (sym (eq-eqb (callOn t b c .refusal) 0 e) ∙ q)) tt) tt)))) bytes
 
 -- by document 01's own table

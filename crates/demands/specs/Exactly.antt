@@ -9,7 +9,7 @@ use Rattle.rules.specs.Limit.{none, _≼_}
 use Rattle.rules.specs.Register.{Delegation}
 use Rattle.rules.specs.Chain.{limit, IsChain}
 use Rattle.rules.specs.Support.{Carried}
-use Rattle.rules.specs.Call.{grant, askReach, granted}
+use Rattle.rules.specs.Call.{grant, askReach}
 use Rattle.rules.specs.Refusal.{firstOf, passed, notEnrolled, pairStands, allStand}
 use Rattle.block.specs.Layout.{blockSize}
 use Rattle.block.specs.Block.{decode}
@@ -17,17 +17,17 @@ use Rattle.block.specs.WellFormed.{wellFormed}
 use Rattle.register.specs.CallOn.{callOn}
 
 -- no refusal of a grant but 16 applies, and some chain carries the weight
-pub record Grantable (t : List ℤ) (b : List ℕ) (g r w n m : ℕ) : Type 0 where
+pub record Grantable (t : List ℤ) (b : List ℕ) (d : Delegation) : Type 0 where
   pub size : length b ≡ blockSize
-  pub passed : firstOf (passed (grant g r w n m)) ≡ 0
+  pub passed : firstOf (passed (grant d)) ≡ 0
   pub formed : wellFormed b ≡ true
-  pub held : firstOf (notEnrolled (decode b) (g ∷ r ∷ []) ∷ pairStands (decode b) g r ∷ allStand (decode b) ∷ []) ≡ 0
-  pub carried : Carried t (decode b) (granted g r w n m)
+  pub held : firstOf (notEnrolled (decode b) (d .giver ∷ d .receiver ∷ []) ∷ pairStands (decode b) (d .giver) (d .receiver) ∷ allStand (decode b) ∷ []) ≡ 0
+  pub carried : Carried t (decode b) d
 
 -- a grant is accepted exactly when it is grantable
-pub record GrantExactly (t : List ℤ) (b : List ℕ) (g r w n m : ℕ) : Type 0 where
-  pub only : callOn t b (grant g r w n m) .refusal ≡ 0 → Grantable t b g r w n m
-  pub whenever : Grantable t b g r w n m → callOn t b (grant g r w n m) .refusal ≡ 0
+pub record GrantExactly (t : List ℤ) (b : List ℕ) (d : Delegation) : Type 0 where
+  pub only : callOn t b (grant d) .refusal ≡ 0 → Grantable t b d
+  pub whenever : Grantable t b d → callOn t b (grant d) .refusal ≡ 0
 
 -- reach answers -1 exactly when there is no chain, and k exactly when some chain has the limit k and none a larger one
 pub record ReachAnswer (t : List ℤ) (b : List ℕ) (g r : ℕ) : Type 0 where

@@ -1,22 +1,11 @@
 -- P1 to P8 of document 01 on bytes: the calls on bytes followed down a list from the block that open writes. Assumes nothing.
-use mathlib.Core.List.{List, [], _∷_, _++_, map}
-use Prim.Native.Nat.{ℕ}
+use mathlib.Core.List.{_++_, map}
 use lib.ListN.{length, take, drop}
-use lib.IntN.{ℤ}
 use Rattle.rules.specs.Table.{steps}
-use Rattle.rules.specs.Call.{Call, fresh}
 use Rattle.rules.specs.Examples.{Line, line, Example, Shown}
-use Rattle.block.specs.Block.{decode, encode}
-use Rattle.register.specs.CallOn.{Result, callOn}
-use Rattle.demands.specs.History.{blockAt}
-
--- the results, from the block b on: each next block is the bytes of callOn, never a block that the module left
-abbrev pub traceOnFrom : List ℤ → List ℕ → List Call → List Result
-traceOnFrom t b [] = []
-traceOnFrom t b (c ∷ cs) = let r = callOn t b c in r ∷ traceOnFrom t (r .bytes) cs
-
-abbrev pub traceOn : List ℤ → List Call → List Result
-traceOn t cs = traceOnFrom t (encode fresh) cs
+use Rattle.block.specs.Block.{decode}
+use Rattle.register.specs.CallOn.{Result}
+use Rattle.demands.specs.History.{traceOn, blockAt}
 
 -- a result as the program prints it: refusal and three answers
 abbrev pub lineOn : Result → Line

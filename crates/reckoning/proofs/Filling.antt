@@ -13,10 +13,10 @@ use lib.IntN.{ℤ, pos}
 use Rattle.rules.specs.List.{_∈_}
 use Rattle.rules.specs.Register.{Delegation, Register, marksOf}
 use Rattle.rules.specs.Reach.{reach}
-use Rattle.rules.specs.Support.{allowed}
 use Rattle.rules.specs.Pair.{receives}
 use Rattle.rules.specs.WellFormed.{WellFormed}
 use Rattle.rules.proofs.Lists.{clash, eqOr}
+use Rattle.rules.proofs.Support.{allowed-reach}
 use Rattle.block.specs.Layout.{mostSubjects}
 use Rattle.block.specs.Bytes.{IsBytes}
 use Rattle.block.specs.Block.{countIn, decode}
@@ -113,5 +113,4 @@ module _ (t : List ℤ) (R : Register) where
   }
 
   pub filled-tabled : WellFormed R → (v : ℕ) → v ≡ R .subjects → (l : List ℤ) → Filled t R v l → Tabled t R l
-  unfolding allowed
-  filled-tabled w v e l f d m = f .rows (d .receiver) (omega (arith, w .each d m .receiver)) (receives-mem m) (d .giver) (omega (arith, w .each d m .giver, w .most))
+  filled-tabled w v e l f d m = f .rows (d .receiver) (omega (arith, w .each d m .receiver)) (receives-mem m) (d .giver) (omega (arith, w .each d m .giver, w .most)) ∙ sym (allowed-reach t R d)

@@ -17,12 +17,17 @@ use Rattle.block.specs.Layout.{blockSize}
 use Rattle.block.specs.Block.{decode}
 use Rattle.block.specs.WellFormed.{wellFormed}
 use Rattle.refusals.specs.Early.{wrongLength, notWellFormed, early, refusalOn}
+use Rattle.refusals.specs.Checked.{InLimits, Checked}
+use Rattle.refusals.proofs.InLimits.{in-limits}
 
 -- none of them applies
 pub record Early (b : List ℕ) (c : Call) : Type 0 where
   pub size : length b ≡ blockSize
   pub passed : firstOf (passed c) ≡ 0
   pub formed : wellFormed b ≡ true
+
+checked : {b : List ℕ} {c : Call} → Early b c → Checked b c
+checked {b} {c} h = record { formed = h .formed; numbers = in-limits c (h .passed) }
 
 -- as the code finds them: the refusal by what was passed is one number, or 0
 abbrev earlyOf : List ℕ → ℕ → List (ℕ × Bool)
@@ -53,19 +58,11 @@ module _ (b : List ℕ) (c : Call) where
       let p = eq-eqb (firstOf (passed c)) 0 (h .passed) in
       early-one ∙ (λ j. cond (not (s j)) 1 (cond (not (p j)) (firstOf (passed c)) (cond (not (h .formed j)) 8 0)))
 
-  -- p and n are what the code finds
-  module _ (p n : ℕ) (e : p ≡ firstOf (passed c)) (q : n ≡ firstOf (earlyOf b p)) where
-    pub early-found : firstOf (early b c) ≡ n
-    early-found = early-one ∙ ap (λ (m : ℕ). firstOf (earlyOf b m)) (sym e) ∙ sym q
-
-    pub past-early : n ≡ 0 → Early b c
-    past-early z = early-none (early-found ∙ z)
-
 -- ── the whole refusal ──
 early-numbered : (b : List ℕ) (c : Call) → T (numbered (early b c))
 unfolding passed
 early-numbered b (enrol m) = tt
-early-numbered b (grant g r w n m) = tt
+early-numbered b (grant d) = tt
 early-numbered b (revoke y g r) = tt
 early-numbered b (downgrade y g r w) = tt
 early-numbered b (askReach g r) = tt
@@ -74,16 +71,13 @@ early-numbered b (askUse r) = tt
 -- no refusal applies
 pub record Through (t : List ℤ) (b : List ℕ) (c : Call) : Type 0 where
   pub early : Early b c
+  pub numbers : InLimits c
   pub held : firstOf (held t (decode b) c) ≡ 0
 
 module _ (t : List ℤ) (b : List ℕ) (c : Call) where
   pub refused-early : (n : ℕ) → firstOf (early b c) ≡ n → n ≢ 0 → n ≡ refusalOn t b c
   unfolding refusalOn
   refused-early n e k = sym (firstOf-some (early b c) (held t (decode b) c) n (early-numbered b c) e k)
-
-  -- p and n are what the code finds
-  pub refused-found : (p n : ℕ) → p ≡ firstOf (passed c) → n ≡ firstOf (earlyOf b p) → n ≢ 0 → n ≡ refusalOn t b c
-  refused-found p n e q k = refused-early n (early-found b c p n e q) k
 
   pub refused-held : Early b c → refusalOn t b c ≡ firstOf (held t (decode b) c)
   unfolding refusalOn
@@ -93,5 +87,26 @@ module _ (t : List ℤ) (b : List ℕ) (c : Call) where
   through z = go (eqOr (firstOf (early b c)) 0)
     where
       go : (firstOf (early b c) ≡ 0) ⊎ (firstOf (early b c) ≢ 0) → Through t b c
-      go (inl e) = let h = early-none b c e in record { early = h; held = sym (refused-held h) ∙ z }
+      go (inl e) = let h = early-none b c e in record { early = h; numbers = checked h .numbers; held = sym (refused-held h) ∙ z }
       go (inr k) = absurd (k (refused-early (firstOf (early b c)) refl k ∙ z))
+
+-- ── the whole refusal, as the code finds it ──
+
+-- n is what the code finds before it looks at what the register holds
+pub record EarlyFound (b : List ℕ) (c : Call) (n : ℕ) : Type 0 where
+  pub first : firstOf (early b c) ≡ n
+  pub checked : n ≡ 0 → Checked b c
+  -- the whole refusal: n where that is one, else h, which is what the code finds in the register
+  pub refused : n ≢ 0 → (t : List ℤ) → n ≡ refusalOn t b c
+  pub late : n ≡ 0 → (t : List ℤ) (h : ℕ) → h ≡ firstOf (held t (decode b) c) → h ≡ refusalOn t b c
+
+pub early-found : {b : List ℕ} {c : Call} {p n : ℕ} → p ≡ firstOf (passed c) → n ≡ firstOf (earlyOf b p) → EarlyFound b c n
+early-found {b} {c} {p} {n} e q = record {
+  first = first;
+  checked = λ z. checked (early-none b c (first ∙ z));
+  refused = λ k t. refused-early t b c n first k;
+  late = λ z t h r. r ∙ sym (refused-held t b c (early-none b c (first ∙ z)));
+}
+  where
+    first : firstOf (early b c) ≡ n
+    first = early-one b c ∙ ap (λ (m : ℕ). firstOf (earlyOf b m)) (sym e) ∙ sym q

@@ -2,7 +2,7 @@
 use mathlib.Core.Path.{_≡_, refl, sym, ap, subst, _∙_}
 use mathlib.Core.Logic.{_⊎_, inl, inr}
 use mathlib.Core.Bool.{Bool, true, false, not, _||_}
-use mathlib.Core.List.{List}
+use mathlib.Core.List.{List, [], _∷_}
 use Prim.Native.Nat.{ℕ, suc, _≤_, _<_}
 use native.Mathlib.Nat.{zero-add}
 use native.Mathlib.Omega.{arith}
@@ -12,14 +12,14 @@ use lib.ListN.{length, getD}
 use lib.IntN.{ℤ, pos}
 use lib.Signed.{ltZ}
 use Rattle.rules.specs.Limit.{none, code}
-use Rattle.rules.specs.Register.{Delegation}
+use Rattle.rules.specs.Register.{Delegation, Register, noDelegation}
 use Rattle.rules.specs.Reach.{reach}
-use Rattle.rules.specs.Support.{allowed}
 use Rattle.rules.specs.Pair.{isPair, weightAt, stands}
-use Rattle.rules.specs.Call.{grant, granted}
-use Rattle.rules.specs.Refusal.{firstOf, held}
+use Rattle.rules.specs.Call.{grant}
+use Rattle.rules.specs.Refusal.{firstOf, overweight, held}
 use Rattle.rules.proofs.Lists.{either, getD-tabulate, T-true}
 use Rattle.rules.proofs.Refusals.{passes-of}
+use Rattle.rules.proofs.Support.{allowed-reach}
 use Rattle.block.specs.Bytes.{IsBytes, leading}
 use Rattle.block.specs.Block.{subjectsIn, countIn, decode}
 use Rattle.block.specs.WellFormed.{wellFormed}
@@ -61,24 +61,24 @@ stands-test b bytes formed g r k place = go (either (ltb k (countIn b)))
 module _ (b : List ℕ) (bytes : IsBytes b) (formed : wellFormed b ≡ true) (g r k : ℕ) (place : k ≡ leading (λ d. not (isPair g r d)) (delegationsTo b (countIn b)))
     (found : k < countIn b) where
   -- the record at the pair's place is its delegation
-  pub at-place : getD (decode b .delegations) (pairPlace g r (decode b .delegations)) (granted 0 0 0 0 0) ≡ delegationAt b k
+  pub at-place : getD (decode b .delegations) (pairPlace g r (decode b .delegations)) noDelegation ≡ delegationAt b k
   at-place =
-      ap (λ (i : ℕ). getD (decode b .delegations) i (granted 0 0 0 0 0)) (sym (place-held b bytes formed g r k place))
-      ∙ ap (λ (ds : List Delegation). getD ds k (granted 0 0 0 0 0)) (delegations-held b bytes formed)
-      ∙ getD-tabulate (λ i. delegationAt b i) (granted 0 0 0 0 0) 0 (countIn b) k found
+      ap (λ (i : ℕ). getD (decode b .delegations) i noDelegation) (sym (place-held b bytes formed g r k place))
+      ∙ ap (λ (ds : List Delegation). getD ds k noDelegation) (delegations-held b bytes formed)
+      ∙ getD-tabulate (λ i. delegationAt b i) noDelegation 0 (countIn b) k found
       ∙ ap (λ (i : ℕ). delegationAt b i) (zero-add k)
 
   pub place-inside : pairPlace g r (decode b .delegations) < length (decode b .delegations)
   place-inside = omega (arith, place-held b bytes formed g r k place, count-held b bytes formed, found)
 
   pub weight-stands : weightAt (decode b .delegations) g r ≡ pos (delegationAt b k .weight)
-  weight-stands = weightAt-found g r (decode b .delegations) (granted 0 0 0 0 0) place-inside ∙ ap (λ (x : Delegation). pos (x .weight)) at-place
+  weight-stands = weightAt-found g r (decode b .delegations) noDelegation place-inside ∙ ap (λ (x : Delegation). pos (x .weight)) at-place
 
 pub weight-missing : (b : List ℕ) (bytes : IsBytes b) (formed : wellFormed b ≡ true) (g r k : ℕ) → k ≡ leading (λ d. not (isPair g r d)) (delegationsTo b (countIn b)) → countIn b ≤ k
     → weightAt (decode b .delegations) g r ≡ none
 weight-missing b bytes formed g r k place l = weightAt-missing g r (decode b .delegations) (omega (arith, place-held b bytes formed g r k place, count-held b bytes formed))
 
-module _ (t : List ℤ) (b : List ℕ) (bytes : IsBytes b) (formed : wellFormed b ≡ true) (g r : ℕ) where
+module _ (b : List ℕ) (bytes : IsBytes b) (formed : wellFormed b ≡ true) (g r : ℕ) where
   -- the test of 9, as the code makes it
   pub enrolled-test : (leb (decode b .subjects) g || (leb (decode b .subjects) r || false)) ≡ (leb (subjectsIn b) g || leb (subjectsIn b) r)
   enrolled-test = ap (λ (s : ℕ). leb s g || (leb s r || false)) (subjects-held b bytes formed) ∙ ap (λ (y : Bool). leb (subjectsIn b) g || y) (or-false (leb (subjectsIn b) r))
@@ -87,15 +87,15 @@ module _ (t : List ℤ) (b : List ℕ) (bytes : IsBytes b) (formed : wellFormed 
   pub both-of : T (not (leb (decode b .subjects) g || (leb (decode b .subjects) r || false))) → (g < subjectsIn b) × (r < subjectsIn b)
   both-of h = both-in (subjectsIn b) g r (ap not (sym enrolled-test) ∙ T-true _ h)
 
-  module _ (w n m : ℕ) where
-    -- the test of 16, as the code makes it
-    pub heavy-test : (ltb (code (allowed t (decode b) (granted g r w n m))) (suc w) || false) ≡ ltZ (reach t (decode b) g r) (pos w)
-    unfolding allowed
-    heavy-test = or-false (ltb (code (reach t (decode b) g r)) (suc w)) ∙ sym (below-weight (reach t (decode b) g r) w)
+-- the test of 16, as the code makes it
+pub heavy-test : (t : List ℤ) (R : Register) (d : Delegation) → overweight t R (d ∷ []) .1 ≡ ltZ (reach t R (d .giver) (d .receiver)) (pos (d .weight))
+heavy-test t R d =
+    let l = reach t R (d .giver) (d .receiver) in
+    rw (allowed-reach t R d) (or-false (ltb (code l) (suc (d .weight))) ∙ sym (below-weight l (d .weight)))
 
 -- room is left for a grant that is not refused
-pub grant-room : (t : List ℤ) (b : List ℕ) (bytes : IsBytes b) (formed : wellFormed b ≡ true) (g r w n m : ℕ) → firstOf (held t (decode b) (grant g r w n m)) ≡ 0 → countIn b < 256
+pub grant-room : (t : List ℤ) (b : List ℕ) (bytes : IsBytes b) (formed : wellFormed b ≡ true) (d : Delegation) → firstOf (held t (decode b) (grant d)) ≡ 0 → countIn b < 256
 unfolding held
-grant-room t b bytes formed g r w n m e =
-    let p = passes-of (held t (decode b) (grant g r w n m)) tt e in
+grant-room t b bytes formed d e =
+    let p = passes-of (held t (decode b) (grant d)) tt e in
     subst (λ (k : ℕ). k < 256) (count-held b bytes formed) (nleb→lt 256 (length (decode b .delegations)) (p 12))

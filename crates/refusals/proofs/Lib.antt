@@ -1,5 +1,5 @@
+pub mod InLimits
 pub mod EarlyTests
 pub mod Joining
-pub mod Within
 pub mod Holding
 pub mod CutHolding

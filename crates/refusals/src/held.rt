@@ -1,20 +1,19 @@
 // Refusals by what the register holds, on a well-formed block: the number of the first that applies, or 0. Each test has one number and is joined to those before it.
 ghost use mathlib.Core.Path.{_≡_};
 ghost use mathlib.Core.Bool.{true, not, _||_};
-ghost use mathlib.Core.List.{[], _∷_};
+ghost use mathlib.Core.List.{List, [], _∷_};
 ghost use Prim.Native.Nat.{_≤_, _<_};
 ghost use lib.Dec.{leb};
-ghost use lib.IntN.{pos};
-ghost use lib.Signed.{ltZ};
-ghost use Rattle.rules.specs.Table.{steps};
-ghost use Rattle.rules.specs.Reach.{reach};
+ghost use lib.IntN.{ℤ};
+ghost use Rattle.rules.specs.Table.{TableRule};
 ghost use Rattle.rules.specs.Pair.{stands};
+ghost use Rattle.rules.specs.Register.{granted};
 ghost use Rattle.rules.specs.Call.{grant, revoke, downgrade, askReach};
-ghost use Rattle.rules.specs.Refusal.{firstOf, notEnrolled, allEnrolled, allStand, mayNot, notBelow, held};
+ghost use Rattle.rules.specs.Refusal.{firstOf, notEnrolled, allEnrolled, allStand, mayNot, notBelow, overweight, held};
 ghost use Rattle.block.specs.Block.{subjectsIn, decode};
 ghost use Rattle.block.specs.WellFormed.{wellFormed};
 ghost use Rattle.refusals.specs.Joined.{orElse};
-use crate::reach_of;
+ghost use Rattle.refusals.specs.Checked.{Checked};
 use crate::tested;
 use block::layout;
 use rules::refusal;
@@ -103,46 +102,60 @@ fn not_below(n: u32, block: &[u8], giver: u32, receiver: u32, weight: u32) -> u3
     )
 }
 
-// 16: the reach of the pair is below the weight. It is searched only where no test before applies.
-fn overweight(n: u32, block: &[u8], giver: u32, receiver: u32, weight: u32) -> u32
-    requires { ⌜ (wellFormed (now block) ≡ true) × (weight ≤ 255) × (n ≡ 0 → (giver < subjectsIn (now block)) × (receiver < subjectsIn (now block))) ⌝ }
-    ensures { λ r. ⌜ r ≡ orElse n (16, ltZ (reach steps (decode (now (block .entry))) giver receiver) (pos weight)) ⌝ }
+// 16: the reach that counts for the delegation is below its weight. It is searched only where no test before applies.
+fn overweight(
+    n: u32,
+    block: &[u8],
+    table: &[i16],
+    giver: u32,
+    receiver: u32,
+    weight: u32,
+    need: u32,
+    bar: u32,
+) -> u32
+    requires { ⌜ Checked (now block) (grant (granted giver receiver weight need bar)) × TableRule (now table) × (n ≡ 0 → (giver < subjectsIn (now block)) × (receiver < subjectsIn (now block))) ⌝ }
+    ensures { λ r. ⌜ r ≡ orElse n (overweight (now (table .entry)) (decode (now (block .entry))) (granted giver receiver weight need bar ∷ [])) ⌝ }
 {
     if n != 0 {
         return n;
     }
-    tested(
-        0,
-        refusal::OVERWEIGHT,
-        reach_of(block, giver as usize, receiver as usize) < weight as i16,
-    )
+    let reach = search::reach_of(block, table, giver as usize, receiver as usize);
+    tested(0, refusal::OVERWEIGHT, reach < weight as i16)
 }
 
 // Of a reach.
 pub fn reach_held(block: &[u8], giver: u32, receiver: u32) -> u32
     requires { ⌜ wellFormed (now block) ≡ true ⌝ }
-    ensures { λ r. ⌜ r ≡ firstOf (held steps (decode (now (block .entry))) (askReach giver receiver)) ⌝ }
+    ensures { λ r. ⌜ ((t : List ℤ) → r ≡ firstOf (held t (decode (now (block .entry))) (askReach giver receiver))) ⌝ }
 {
     let n = not_enrolled(0, block, giver);
     not_enrolled(n, block, receiver)
 }
 
 // Of a grant.
-pub fn grant_held(block: &[u8], giver: u32, receiver: u32, weight: u32, need: u32, bar: u32) -> u32
-    requires { ⌜ (wellFormed (now block) ≡ true) × (giver ≤ 63) × (receiver ≤ 63) × (weight ≤ 255) ⌝ }
-    ensures { λ r. ⌜ r ≡ firstOf (held steps (decode (now (block .entry))) (grant giver receiver weight need bar)) ⌝ }
+pub fn grant_held(
+    block: &[u8],
+    table: &[i16],
+    giver: u32,
+    receiver: u32,
+    weight: u32,
+    need: u32,
+    bar: u32,
+) -> u32
+    requires { ⌜ Checked (now block) (grant (granted giver receiver weight need bar)) × TableRule (now table) ⌝ }
+    ensures { λ r. ⌜ r ≡ firstOf (held (now (table .entry)) (decode (now (block .entry))) (grant (granted giver receiver weight need bar))) ⌝ }
 {
     let n = not_enrolled(0, block, giver);
     let n = not_enrolled(n, block, receiver);
     let n = tested(n, refusal::PAIR_STANDS, stands(block, giver, receiver));
     let n = all_stand(n, block);
-    overweight(n, block, giver, receiver, weight)
+    overweight(n, block, table, giver, receiver, weight, need, bar)
 }
 
 // Of a revocation.
 pub fn revoke_held(block: &[u8], by: u32, giver: u32, receiver: u32) -> u32
-    requires { ⌜ (wellFormed (now block) ≡ true) × (by ≤ 63) × (giver ≤ 63) × (receiver ≤ 63) ⌝ }
-    ensures { λ r. ⌜ r ≡ firstOf (held steps (decode (now (block .entry))) (revoke by giver receiver)) ⌝ }
+    requires { ⌜ Checked (now block) (revoke by giver receiver) ⌝ }
+    ensures { λ r. ⌜ ((t : List ℤ) → r ≡ firstOf (held t (decode (now (block .entry))) (revoke by giver receiver))) ⌝ }
 {
     let n = not_enrolled(0, block, by);
     let n = not_enrolled(n, block, giver);
@@ -153,8 +166,8 @@ pub fn revoke_held(block: &[u8], by: u32, giver: u32, receiver: u32) -> u32
 
 // Of a downgrade.
 pub fn downgrade_held(block: &[u8], by: u32, giver: u32, receiver: u32, weight: u32) -> u32
-    requires { ⌜ (wellFormed (now block) ≡ true) × (by ≤ 63) × (giver ≤ 63) × (receiver ≤ 63) × (weight ≤ 255) ⌝ }
-    ensures { λ r. ⌜ r ≡ firstOf (held steps (decode (now (block .entry))) (downgrade by giver receiver weight)) ⌝ }
+    requires { ⌜ Checked (now block) (downgrade by giver receiver weight) ⌝ }
+    ensures { λ r. ⌜ ((t : List ℤ) → r ≡ firstOf (held t (decode (now (block .entry))) (downgrade by giver receiver weight))) ⌝ }
 {
     let n = revoke_held(block, by, giver, receiver);
     not_below(n, block, giver, receiver, weight)

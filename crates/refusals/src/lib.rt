@@ -3,16 +3,14 @@ mod held;
 mod passed;
 
 ghost use mathlib.Core.Path.{_≡_};
-ghost use mathlib.Core.Bool.{true, not};
-ghost use mathlib.Core.List.{[], _∷_};
-ghost use Prim.Native.Nat.{_<_};
+ghost use mathlib.Core.Bool.{not};
+ghost use mathlib.Core.List.{List, [], _∷_};
 ghost use lib.Dec.{eqb};
-ghost use Rattle.rules.specs.Table.{steps};
-ghost use Rattle.rules.specs.Reach.{reach};
+ghost use lib.IntN.{ℤ};
+ghost use Rattle.rules.specs.Table.{TableRule};
+ghost use Rattle.rules.specs.Register.{granted};
 ghost use Rattle.rules.specs.Call.{enrol, grant, revoke, downgrade, askReach, askUse};
 ghost use Rattle.rules.specs.Refusal.{firstOf};
-ghost use Rattle.block.specs.Block.{subjectsIn, decode};
-ghost use Rattle.block.specs.WellFormed.{wellFormed};
 ghost use Rattle.refusals.specs.Early.{wrongLength, notWellFormed, refusalOn};
 ghost use Rattle.refusals.specs.Joined.{orElse};
 use block::layout;
@@ -49,18 +47,9 @@ pub fn early(block: &[u8], number: u32) -> u32
     0
 }
 
-// The reach of one pair, by document 01's own step table.
-pub fn reach_of(block: &[u8], giver: usize, receiver: usize) -> i16
-    requires { ⌜ (wellFormed (now block) ≡ true) × (giver < subjectsIn (now block)) × (receiver < subjectsIn (now block)) ⌝ }
-    ensures { λ r. ⌜ r ≡ reach steps (decode (now (block .entry))) giver receiver ⌝ }
-{
-    let table = rules::steps();
-    search::reach_of(block, &table, giver, receiver)
-}
-
-// The whole refusal of an enrolment on a block of any length and content, without making it.
+// The whole refusal of an enrolment on a block of any length and content, without making it. Only a grant looks at the step table: the others promise theirs for every table.
 pub fn enrol_refusal(block: &[u8], marks: u32) -> u32
-    ensures { λ r. ⌜ r ≡ refusalOn steps (now (block .entry)) (enrol marks) ⌝ }
+    ensures { λ r. ⌜ ((t : List ℤ) → r ≡ refusalOn t (now (block .entry)) (enrol marks)) ⌝ }
 {
     let n = early(block, passed::enrol_passed(marks));
     if n != 0 {
@@ -71,7 +60,7 @@ pub fn enrol_refusal(block: &[u8], marks: u32) -> u32
 
 // Of a use.
 pub fn use_refusal(block: &[u8], receiver: u32) -> u32
-    ensures { λ r. ⌜ r ≡ refusalOn steps (now (block .entry)) (askUse receiver) ⌝ }
+    ensures { λ r. ⌜ ((t : List ℤ) → r ≡ refusalOn t (now (block .entry)) (askUse receiver)) ⌝ }
 {
     let n = early(block, passed::use_passed(receiver));
     if n != 0 {
@@ -82,7 +71,7 @@ pub fn use_refusal(block: &[u8], receiver: u32) -> u32
 
 // Of a reach.
 pub fn reach_refusal(block: &[u8], giver: u32, receiver: u32) -> u32
-    ensures { λ r. ⌜ r ≡ refusalOn steps (now (block .entry)) (askReach giver receiver) ⌝ }
+    ensures { λ r. ⌜ ((t : List ℤ) → r ≡ refusalOn t (now (block .entry)) (askReach giver receiver)) ⌝ }
 {
     let n = early(block, passed::pair_passed(giver, receiver));
     if n != 0 {
@@ -91,16 +80,18 @@ pub fn reach_refusal(block: &[u8], giver: u32, receiver: u32) -> u32
     held::reach_held(block, giver, receiver)
 }
 
-// Of a grant.
+// Of a grant, by a step table.
 pub fn grant_refusal(
     block: &[u8],
+    table: &[i16],
     giver: u32,
     receiver: u32,
     weight: u32,
     need: u32,
     bar: u32,
 ) -> u32
-    ensures { λ r. ⌜ r ≡ refusalOn steps (now (block .entry)) (grant giver receiver weight need bar) ⌝ }
+    requires { ⌜ TableRule (now table) ⌝ }
+    ensures { λ r. ⌜ r ≡ refusalOn (now (table .entry)) (now (block .entry)) (grant (granted giver receiver weight need bar)) ⌝ }
 {
     let n = early(
         block,
@@ -109,12 +100,12 @@ pub fn grant_refusal(
     if n != 0 {
         return n;
     }
-    held::grant_held(block, giver, receiver, weight, need, bar)
+    held::grant_held(block, table, giver, receiver, weight, need, bar)
 }
 
 // Of a revocation.
 pub fn revoke_refusal(block: &[u8], by: u32, giver: u32, receiver: u32) -> u32
-    ensures { λ r. ⌜ r ≡ refusalOn steps (now (block .entry)) (revoke by giver receiver) ⌝ }
+    ensures { λ r. ⌜ ((t : List ℤ) → r ≡ refusalOn t (now (block .entry)) (revoke by giver receiver)) ⌝ }
 {
     let n = early(block, passed::revoke_passed(by, giver, receiver));
     if n != 0 {
@@ -125,7 +116,7 @@ pub fn revoke_refusal(block: &[u8], by: u32, giver: u32, receiver: u32) -> u32
 
 // Of a downgrade.
 pub fn downgrade_refusal(block: &[u8], by: u32, giver: u32, receiver: u32, weight: u32) -> u32
-    ensures { λ r. ⌜ r ≡ refusalOn steps (now (block .entry)) (downgrade by giver receiver weight) ⌝ }
+    ensures { λ r. ⌜ ((t : List ℤ) → r ≡ refusalOn t (now (block .entry)) (downgrade by giver receiver weight)) ⌝ }
 {
     let n = early(block, passed::downgrade_passed(by, giver, receiver, weight));
     if n != 0 {

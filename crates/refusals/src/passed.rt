@@ -1,6 +1,7 @@
 // Refusals by what was passed: the number of the first that applies, or 0. Each test has one number and is joined to those before it.
 ghost use mathlib.Core.Path.{_≡_};
 ghost use mathlib.Core.List.{[], _∷_};
+ghost use Rattle.rules.specs.Register.{granted};
 ghost use Rattle.rules.specs.Call.{enrol, grant, revoke, downgrade, askReach, askUse};
 ghost use Rattle.rules.specs.Refusal.{firstOf, noSubject, noWeight, noMarks, noCondition, equalPair, toOwner, passed};
 ghost use Rattle.refusals.specs.Joined.{orElse};
@@ -78,7 +79,7 @@ pub fn pair_passed(giver: u32, receiver: u32) -> u32
 
 // Of a grant.
 pub fn grant_passed(giver: u32, receiver: u32, weight: u32, need: u32, bar: u32) -> u32
-    ensures { λ r. ⌜ r ≡ firstOf (passed (grant giver receiver weight need bar)) ⌝ }
+    ensures { λ r. ⌜ r ≡ firstOf (passed (grant (granted giver receiver weight need bar))) ⌝ }
 {
     let n = no_subject(0, giver);
     let n = no_subject(n, receiver);

@@ -3,5 +3,5 @@ pub mod Through
 pub mod OnBytes
 pub mod Enrolling
 pub mod Using
-pub mod Granting
+pub mod GrantWays
 pub mod CutWays

@@ -7,7 +7,6 @@ use lib.Dec.{eqb}
 use lib.IntN.{ℤ, pos}
 use Rattle.rules.specs.Pair.{receives}
 use Rattle.rules.specs.Call.{askUse}
-use Rattle.rules.specs.Refusal.{held}
 use Rattle.rules.specs.CallStep.{accepted}
 use Rattle.block.specs.Bytes.{IsBytes}
 use Rattle.block.specs.Block.{countIn, decode}

@@ -1,24 +1,24 @@
--- What the cuts promise besides `Made` (document 01, 'Calls'): an accepted one leaves the best remainder of its named change on the block that it was handed. Assumes nothing.
-use mathlib.Core.Path.{_≡_}
+-- What the cuts promise (document 01, 'Calls'): an accepted one leaves the best remainder of its named change on the block that it was handed. Assumes nothing.
 use mathlib.Core.List.{List}
-use Prim.Native.Nat.{ℕ, suc}
-use lib.IntN.{ℤ, pos}
-use Rattle.rules.specs.Register.{Register}
-use Rattle.rules.specs.Round.{SettlesIn}
-use Rattle.rules.specs.Cut.{Cut, named, dropped, lowered}
-use Rattle.rules.specs.Remainder.{Best}
+use Prim.Native.Nat.{ℕ}
+use lib.IntN.{ℤ}
 use Rattle.rules.specs.Call.{Call}
+use Rattle.rules.specs.CallStep.{Outcome}
+use Rattle.rules.specs.Trace.{PlaceRight}
+use Rattle.rules.specs.History.{CutsRight}
 use Rattle.block.specs.Block.{decode}
-use Rattle.register.specs.Made.{Made}
+use Rattle.register.specs.CallOn.{Result, callOn}
+use Rattle.register.specs.Made.{result}
 use Rattle.register.specs.declared.Answer.{Answer}
 
--- what an accepted cut answers and leaves: C is the register after its named change
-pub record CutLeft (t : List ℤ) (C : Register) (o : Answer) (after : List ℕ) : Type 0 where
-  pub best : Best t C (decode after)
-  pub dropped : o .first ≡ pos (dropped C (decode after))
-  pub lowered : o .second ≡ pos (lowered C (decode after))
-  pub rounds : (n : ℕ) × (o .third ≡ pos (suc n)) × SettlesIn t n C (decode after)
+-- a result as an outcome: what is left is the register that the bytes hold
+abbrev pub onRegister : Result → Outcome
+onRegister r = record { refusal = r .refusal; first = r .first; second = r .second; third = r .third; left = decode (r .bytes) }
 
--- of a call c that is the cut k
-abbrev pub CutMade : List ℤ → Call → Cut → List ℕ → Answer → List ℕ → Type 0
-CutMade t c k before o after = Made t c before o after × (o .refusal ≡ 0 → CutLeft t (named (decode before) k) o after)
+-- of a call on the block b: where it makes a change and is accepted, its result is right for that change of the register that b holds
+abbrev pub CutsLeft : List ℤ → List ℕ → Call → Result → Type 0
+CutsLeft t b c r = CutsRight t (decode b) c (onRegister r)
+
+-- `Made`, and that: what demand 3 claims of a place, at the block that the call was handed
+abbrev pub CutMade : List ℤ → Call → List ℕ → Answer → List ℕ → Type 0
+CutMade t c before o after = PlaceRight (callOn t) (CutsLeft t) before c (result o after)

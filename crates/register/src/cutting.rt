@@ -1,24 +1,58 @@
-// What a cut does after its named change.
+// The cuts by a lent step table.
 ghost use mathlib.Core.Path.{_≡_};
 ghost use mathlib.Core.Bool.{true};
-ghost use Rattle.rules.specs.Table.{steps};
+ghost use Rattle.rules.specs.Table.{TableRule};
+ghost use Rattle.rules.specs.Cut.{removal, lowering};
+ghost use Rattle.rules.specs.Call.{revoke, downgrade};
 ghost use Rattle.rules.specs.CallStep.{cut};
 ghost use Rattle.block.specs.Block.{decode};
 ghost use Rattle.block.specs.WellFormed.{wellFormed};
 ghost use Rattle.register.specs.CallOn.{written};
 ghost use Rattle.register.specs.Made.{result};
+ghost use Rattle.register.specs.Cuts.{CutMade};
 use crate::Answer;
 use crate::answered;
+use crate::refused;
 
-// Rounds until one changes nothing; answers dropped, lowered and rounds.
-pub fn settle(block: &mut [u8]) -> Answer
-    requires { ⌜ wellFormed (now block) ≡ true ⌝ }
-    ensures { λ r. ⌜ result r (now (block .exit)) ≡ written (now (block .entry)) (cut steps (decode (now (block .entry)))) ⌝ }
+// What a cut does after its named change: rounds until one changes nothing; answers dropped, lowered and rounds.
+fn settle(block: &mut [u8], table: &[i16]) -> Answer
+    requires { ⌜ (wellFormed (now block) ≡ true) × TableRule (now table) ⌝ }
+    ensures { λ r. ⌜ result r (now (block .exit)) ≡ written (now (block .entry)) (cut (now (table .entry)) (decode (now (block .entry)))) ⌝ }
 {
-    let table = rules::steps();
-    let o = rounds::settled(block, &table);
+    let o = rounds::settled(block, table);
     let dropped = o.dropped as i32;
     let lowered = o.lowered as i32;
     let made = o.rounds as i32;
     answered(dropped, lowered, made)
+}
+
+pub fn revoke_by(block: &mut [u8], table: &[i16], by: u32, giver: u32, receiver: u32) -> Answer
+    requires { ⌜ TableRule (now table) ⌝ }
+    ensures { λ r. ⌜ CutMade (now (table .entry)) (revoke by giver receiver) (removal giver receiver) (now (block .entry)) r (now (block .exit)) ⌝ }
+{
+    let n = refusals::revoke_refusal(block, by, giver, receiver);
+    if n != 0 {
+        return refused(n);
+    }
+    change::remove(block, giver as u8, receiver as u8);
+    settle(block, table)
+}
+
+pub fn downgrade_by(
+    block: &mut [u8],
+    table: &[i16],
+    by: u32,
+    giver: u32,
+    receiver: u32,
+    weight: u32,
+) -> Answer
+    requires { ⌜ TableRule (now table) ⌝ }
+    ensures { λ r. ⌜ CutMade (now (table .entry)) (downgrade by giver receiver weight) (lowering giver receiver weight) (now (block .entry)) r (now (block .exit)) ⌝ }
+{
+    let n = refusals::downgrade_refusal(block, by, giver, receiver, weight);
+    if n != 0 {
+        return refused(n);
+    }
+    change::set_weight(block, giver as u8, receiver as u8, weight as u8);
+    settle(block, table)
 }

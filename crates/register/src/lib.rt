@@ -1,9 +1,10 @@
-// The public calls of the register, on plain numbers and a lent block of any length and content.
+// The public calls of the register, on plain numbers and a lent block of any length and content, by document 01's own step table.
 mod cutting;
+mod granting;
 
 ghost use mathlib.Core.Path.{_≡_};
 ghost use Rattle.rules.specs.Table.{steps};
-ghost use Rattle.rules.specs.Cut.{removal, lowering};
+ghost use Rattle.rules.specs.Register.{granted};
 ghost use Rattle.rules.specs.Call.{enrol, grant, revoke, downgrade, askReach, askUse};
 ghost use Rattle.register.specs.Made.{refusedBy, answeredBy, Made, MadeOpen};
 ghost use Rattle.register.specs.Cuts.{CutMade};
@@ -85,12 +86,8 @@ pub fn use_right(block: &[u8], receiver: u32) -> Answer
 pub fn reach(block: &[u8], giver: u32, receiver: u32) -> Answer
     ensures { λ r. ⌜ Made steps (askReach giver receiver) (now (block .entry)) r (now (block .entry)) ⌝ }
 {
-    let n = refusals::reach_refusal(block, giver, receiver);
-    if n != 0 {
-        return refused(n);
-    }
-    let k = refusals::reach_of(block, giver as usize, receiver as usize);
-    answered(k as i32, 0, 0)
+    let table = rules::steps();
+    granting::reach_by(block, &table, giver, receiver)
 }
 
 // Adds a delegation; answers the delegations now standing.
@@ -102,44 +99,24 @@ pub fn grant(
     need: u32,
     bar: u32,
 ) -> Answer
-    ensures { λ r. ⌜ Made steps (grant giver receiver weight need bar) (now (block .entry)) r (now (block .exit)) ⌝ }
+    ensures { λ r. ⌜ Made steps (grant (granted giver receiver weight need bar)) (now (block .entry)) r (now (block .exit)) ⌝ }
 {
-    let n = refusals::grant_refusal(block, giver, receiver, weight, need, bar);
-    if n != 0 {
-        return refused(n);
-    }
-    let standing = block::count(block);
-    change::insert(
-        block,
-        giver as u8,
-        receiver as u8,
-        weight as u8,
-        need as u16,
-        bar as u16,
-    );
-    answered((standing + 1) as i32, 0, 0)
+    let table = rules::steps();
+    granting::grant_by(block, &table, giver, receiver, weight, need, bar)
 }
 
 // Removes a delegation, then lowers or removes what it no longer supports; answers dropped, lowered and rounds.
 pub fn revoke(block: &mut [u8], by: u32, giver: u32, receiver: u32) -> Answer
-    ensures { λ r. ⌜ CutMade steps (revoke by giver receiver) (removal giver receiver) (now (block .entry)) r (now (block .exit)) ⌝ }
+    ensures { λ r. ⌜ CutMade steps (revoke by giver receiver) (now (block .entry)) r (now (block .exit)) ⌝ }
 {
-    let n = refusals::revoke_refusal(block, by, giver, receiver);
-    if n != 0 {
-        return refused(n);
-    }
-    change::remove(block, giver as u8, receiver as u8);
-    cutting::settle(block)
+    let table = rules::steps();
+    cutting::revoke_by(block, &table, by, giver, receiver)
 }
 
 // Sets a delegation to a smaller weight, then as revoke.
 pub fn downgrade(block: &mut [u8], by: u32, giver: u32, receiver: u32, weight: u32) -> Answer
-    ensures { λ r. ⌜ CutMade steps (downgrade by giver receiver weight) (lowering giver receiver weight) (now (block .entry)) r (now (block .exit)) ⌝ }
+    ensures { λ r. ⌜ CutMade steps (downgrade by giver receiver weight) (now (block .entry)) r (now (block .exit)) ⌝ }
 {
-    let n = refusals::downgrade_refusal(block, by, giver, receiver, weight);
-    if n != 0 {
-        return refused(n);
-    }
-    change::set_weight(block, giver as u8, receiver as u8, weight as u8);
-    cutting::settle(block)
+    let table = rules::steps();
+    cutting::downgrade_by(block, &table, by, giver, receiver, weight)
 }

@@ -15,13 +15,15 @@ use Rattle.rules.specs.List.{At, tabulate}
 use Rattle.rules.specs.Table.{steps}
 use Rattle.rules.specs.Call.{Call, fresh}
 use Rattle.rules.specs.Refusal.{firstOf}
+use Rattle.rules.specs.Trace.{Entry, History, stateFrom, PlaceRight}
 use Rattle.rules.proofs.Lists.{either}
 use Rattle.block.specs.Layout.{blockSize}
 use Rattle.block.specs.Block.{encode}
 use Rattle.block.proofs.Bytes.{length-tabulate}
 use Rattle.register.specs.CallOn.{Result, callOn, openOn}
 use Rattle.register.specs.Made.{result, Made, MadeOpen}
-use Rattle.demands.specs.History.{Entry, History, blockFrom, blockAt, PlaceRight}
+use Rattle.register.specs.Cuts.{CutsLeft}
+use Rattle.demands.specs.History.{bytesLeft, blockAt}
 use Rattle.register.specs.declared.Answer.{Answer}
 use Rattle.demands.proofs.History.{demand3-steps}
 use Rattle.replay.specs.Replay.{answersPerCall, callCount, callsIn, callAt, slot, returnedAt, entryIn, entriesIn, isSized, allCalls, replayRefusal, Replayed, ReplayMade}
@@ -122,14 +124,14 @@ module _ (calls blocks refusals : List ℕ) (answers : List ℤ) where
   abbrev MadeFrom : ℕ → ℕ → Type 0
   MadeFrom i n = (j : ℕ) → i ≤ j → j < i + n → MadeAt calls blocks refusals answers j
 
-  history-from : (i n : ℕ) (b : List ℕ) → slot blocks i ≡ b → MadeFrom i n → History steps b (tabulate (entryIn calls blocks refusals answers) i n)
+  history-from : (i n : ℕ) (b : List ℕ) → slot blocks i ≡ b → MadeFrom i n → History (callOn steps) bytesLeft b (tabulate (entryIn calls blocks refusals answers) i n)
   history-from i zero b e h = tt
   history-from i (suc n) b e h = (
     subst (λ (z : List ℕ). Made steps (callAt calls i) z (returnedAt refusals answers i) (slot blocks (suc i))) e (h i (omega arith) (omega arith)),
     history-from (suc i) n (slot blocks (suc i)) refl (λ j l m. h j (omega arith) (omega arith)),
   )
 
-  slots-from : (i n k : ℕ) (b : List ℕ) → slot blocks i ≡ b → MadeFrom i n → k ≤ n → slot blocks (i + k) ≡ blockFrom steps b (tabulate (callAt calls) i n) k
+  slots-from : (i n k : ℕ) (b : List ℕ) → slot blocks i ≡ b → MadeFrom i n → k ≤ n → slot blocks (i + k) ≡ stateFrom (callOn steps) bytesLeft b (tabulate (callAt calls) i n) k
   slots-from i n zero b e h l = ap (slot blocks) (add-zero i) ∙ e
   slots-from i zero (suc k) b e h l = absurd (not-suc-le-zero l)
   slots-from i (suc n) (suc k) b e h l =
@@ -152,9 +154,9 @@ module _ (calls blocks refusals : List ℕ) (answers : List ℤ) where
           let q : i ≡ 0 + i = omega arith in
           ap (slot blocks) q ∙ slots-from 0 (callCount calls) i (encode fresh) (h .first) made (subst (λ (k : ℕ). i ≤ k) size l)
 
-      places : (i : ℕ) (x : Entry) → At (entriesIn calls blocks refusals answers) i x → PlaceRight steps (blockAt steps (callsIn calls) i) x
+      places : (i : ℕ) (x : Entry Call Result) → At (entriesIn calls blocks refusals answers) i x → PlaceRight (callOn steps) (CutsLeft steps) (blockAt steps (callsIn calls) i) (x .asked) (x .outcome)
       places i x a =
-          subst (λ (cs : List Call). PlaceRight steps (blockAt steps cs i) x) (map-tabulate (λ (y : Entry). y .call) (entryIn calls blocks refusals answers) 0 (callCount calls))
+          subst (λ (cs : List Call). PlaceRight (callOn steps) (CutsLeft steps) (blockAt steps cs i) (x .asked) (x .outcome)) (map-tabulate (λ (y : Entry Call Result). y .asked) (entryIn calls blocks refusals answers) 0 (callCount calls))
           (demand3-steps .places (entriesIn calls blocks refusals answers) (history-from 0 (callCount calls) (encode fresh) (h .first) made) i x a)
 
 -- ── what is returned ──

@@ -9,13 +9,17 @@ use lib.ListN.{length, getD, take, drop}
 use lib.IntN.{ℤ, pos}
 use Rattle.rules.specs.List.{At, tabulate}
 use Rattle.rules.specs.Table.{steps}
+use Rattle.rules.specs.Register.{granted}
 use Rattle.rules.specs.Call.{Call, enrol, grant, revoke, downgrade, askReach, askUse, fresh}
 use Rattle.rules.specs.Refusal.{firstOf}
+use Rattle.rules.specs.Trace.{Entry, PlaceRight}
 use Rattle.block.specs.Layout.{blockSize}
 use Rattle.block.specs.Bytes.{readAll, allFrom}
 use Rattle.block.specs.Block.{encode}
-use Rattle.register.specs.Made.{refusedBy, Made}
-use Rattle.demands.specs.History.{Entry, blockAt, PlaceRight}
+use Rattle.register.specs.CallOn.{Result, callOn}
+use Rattle.register.specs.Made.{refusedBy, result, Made}
+use Rattle.register.specs.Cuts.{CutsLeft}
+use Rattle.demands.specs.History.{blockAt}
 use Rattle.register.specs.declared.Answer.{Answer}
 
 -- ── one call ──
@@ -28,7 +32,7 @@ isCall n = leb n 5
 unfoldable pub callOf : (number by giver receiver weight need bar : ℕ) → Call
 callOf number by giver receiver weight need bar =
     cond (eqb number 0) (enrol need)
-    (cond (eqb number 1) (grant giver receiver weight need bar)
+    (cond (eqb number 1) (grant (granted giver receiver weight need bar))
     (cond (eqb number 2) (revoke by giver receiver)
     (cond (eqb number 3) (downgrade by giver receiver weight)
     (cond (eqb number 4) (askReach giver receiver) (askUse receiver)))))
@@ -75,10 +79,10 @@ returnedAt refusals answers i =
     record { refusal = getD refusals i 0; first = getD answers (answersPerCall * i) (pos 0); second = getD answers (answersPerCall * i + 1) (pos 0); third = getD answers (answersPerCall * i + 2) (pos 0) }
 
 -- every call with what it returned and the block that it left
-abbrev pub entryIn : List ℕ → List ℕ → List ℕ → List ℤ → ℕ → Entry
-entryIn calls blocks refusals answers i = record { call = callAt calls i; answer = returnedAt refusals answers i; after = slot blocks (suc i) }
+abbrev pub entryIn : List ℕ → List ℕ → List ℕ → List ℤ → ℕ → Entry Call Result
+entryIn calls blocks refusals answers i = record { asked = callAt calls i; outcome = result (returnedAt refusals answers i) (slot blocks (suc i)) }
 
-abbrev pub entriesIn : List ℕ → List ℕ → List ℕ → List ℤ → List Entry
+abbrev pub entriesIn : List ℕ → List ℕ → List ℕ → List ℤ → List (Entry Call Result)
 entriesIn calls blocks refusals answers = tabulate (entryIn calls blocks refusals answers) 0 (callCount calls)
 
 -- ── refusals ──
@@ -103,7 +107,7 @@ replayRefusal calls blocks refusals answers = firstOf ((1, not (isSized (length 
 pub record Replayed (t : List ℤ) (calls blocks refusals : List ℕ) (answers : List ℤ) : Type 0 where
   pub first : slot blocks 0 ≡ encode fresh
   pub slots : (i : ℕ) → i ≤ length (callsIn calls) → slot blocks i ≡ blockAt t (callsIn calls) i
-  pub places : (i : ℕ) (e : Entry) → At (entriesIn calls blocks refusals answers) i e → PlaceRight t (blockAt t (callsIn calls) i) e
+  pub places : (i : ℕ) (e : Entry Call Result) → At (entriesIn calls blocks refusals answers) i e → PlaceRight (callOn t) (CutsLeft t) (blockAt t (callsIn calls) i) (e .asked) (e .outcome)
 
 -- r is returned; the buffers held blocks, refusals, answers and hold blocks', refusals', answers'
 pub record ReplayMade (calls blocks refusals : List ℕ) (answers : List ℤ) (r : ℕ) (blocks' refusals' : List ℕ) (answers' : List ℤ) : Type 0 where

@@ -18,10 +18,9 @@ use lib.ListN.{length, getD, take, drop, replicate, length-append, length-drop, 
 use lib.Seq.{sets, sets-eq, length-take-le, take-at, drop-drop, drop-append-add}
 use Rattle.rules.specs.List.{concatMap}
 use Rattle.rules.specs.Limit.{code}
-use Rattle.rules.specs.Register.{Delegation, Register, reweigh, withDelegations}
+use Rattle.rules.specs.Register.{Delegation, Register, reweigh, withDelegations, granted}
 use Rattle.rules.specs.WellFormed.{WellFormed}
 use Rattle.rules.specs.Round.{placed}
-use Rattle.rules.specs.Call.{granted}
 use Rattle.rules.proofs.Lists.{clash}
 use Rattle.block.specs.Bytes.{IsBytes, twoBytes}
 use Rattle.block.specs.Block.{delegationIn, recordBytes, countIn, decode, encode}

@@ -12,7 +12,7 @@ use Rattle.rules.specs.Round.{settle}
 use Rattle.rules.specs.Cut.{named}
 use Rattle.rules.specs.Refusal.{passed, held, refusalOf}
 use Rattle.rules.specs.Call.{Call}
-use Rattle.rules.specs.Trace.{registerAt}
+use Rattle.rules.specs.History.{registerAt}
 use Rattle.rules.specs.CallStep.{cut, accepted, callStep}
 use Rattle.rules.specs.Examples.{computed, said, examples, P2, orders}
 

@@ -12,25 +12,26 @@ use lib.IntN.{pos}
 use Rattle.rules.specs.List.{_∈_, any}
 use Rattle.rules.specs.Limit.{none, code, _≼_, larger}
 use Rattle.rules.specs.Table.{next, step, steps}
-use Rattle.rules.specs.Register.{Delegation, Register}
+use Rattle.rules.specs.Register.{Delegation, Register, granted}
 use Rattle.rules.specs.Condition.{meets}
 use Rattle.rules.specs.Chain.{limitFrom, IsChain}
 use Rattle.rules.specs.Reach.{IsReach, goesOn, chains, reach}
-use Rattle.rules.specs.Support.{allowed, Carried}
+use Rattle.rules.specs.Support.{allowed}
 use Rattle.rules.specs.Round.{round, settle, SettlesIn}
 use Rattle.rules.specs.Cut.{removal, lowering, named}
 use Rattle.rules.specs.Remainder.{AtMost, Within, Remainder, Best}
 use Rattle.rules.specs.Call.{grant}
 use Rattle.rules.specs.Refusal.{passed, held, refusalOf}
 use Rattle.rules.specs.CallStep.{Outcome, answered, refused, cut, accepted, callStep}
-use Rattle.rules.specs.Trace.{registerAt}
-use Rattle.rules.specs.History.{CutRight, PlaceRight}
+use Rattle.rules.specs.Trace.{PlaceRight}
+use Rattle.rules.specs.History.{registerAt, CutRight, CutsRight}
 use Rattle.rules.specs.Examples.{P1, P2, P3-with, P4, P5, P6, entry, needing}
 use Rattle.rules.proofs.Lists.{T-both, eq→eqb, any-mem}
 use Rattle.rules.proofs.Table.{steps-rule}
+use Rattle.rules.proofs.AtMost.{AtMost-refl, AtMost-reweigh, at-giver, at-receiver}
 use Rattle.rules.proofs.Chains.{chain-owner}
 use Rattle.rules.proofs.Reach.{reach-only}
-use Rattle.rules.proofs.Support.{carried-allowed, allowed-carried}
+use Rattle.rules.proofs.Support.{carried-chain, carried-allowed, allowed-carried}
 
 zero-one : _≡_ {A = ℕ} 0 1 → ⊥
 zero-one e = omega arith
@@ -50,8 +51,7 @@ no-chain [] c = zero-one (c .linked)
 no-chain (d ∷ ds) c = from-owner (c .standing d (List·Memᴰ·head refl)) (c .linked .0)
 
 pub not-named-only : Remainder steps P1-cut P1-cut → ⊥
-unfolding Carried
-not-named-only r = let (ds, c, h) = r .supported (entry 1 2 255) (List·Memᴰ·head refl) in no-chain ds c
+not-named-only r = let (ds, c, h) = carried-chain steps P1-cut (entry 1 2 255) (r .supported (entry 1 2 255) (List·Memᴰ·head refl)) in no-chain ds c
 
 -- ── a cut that stops after one round: P5 keeps 5-4 at 3 ──
 abbrev P5-left : List Delegation → Register
@@ -90,18 +90,14 @@ P2-cut = P2-left (entry 0 2 3 ∷ entry 1 3 4 ∷ entry 2 3 2 ∷ entry 3 4 3 �
 abbrev P2-best : Register
 P2-best = P2-left (P2 .standing)
 
-module _ {d e : Delegation} (g : d .giver ≡ e .giver) (r : d .receiver ≡ e .receiver) (n : d .need ≡ e .need) (b : d .bar ≡ e .bar) (w : d .weight ≤ e .weight) where
-  atMost : AtMost d e
-  atMost = record { giver = g; receiver = r; need = n; bar = b; weight = w }
-
 P2-within : Within P2-best P2-cut
 P2-within = record { subjects = refl; marks = refl; held = at }
   where
     at : (d : Delegation) → d ∈ P2-best .delegations → (e : Delegation) × (e ∈ P2-cut .delegations) × AtMost d e
-    at d (List·Memᴰ·head q) = (entry 0 2 3, List·Memᴰ·head refl, subst (λ (x : Delegation). AtMost x (entry 0 2 3)) (sym q) (atMost refl refl refl refl (le-refl 3)))
-    at d (List·Memᴰ·tail (List·Memᴰ·head q)) = (entry 2 3 2, List·Memᴰ·tail (List·Memᴰ·tail (List·Memᴰ·head refl)), subst (λ (x : Delegation). AtMost x (entry 2 3 2)) (sym q) (atMost refl refl refl refl (le-refl 2)))
+    at d (List·Memᴰ·head q) = (entry 0 2 3, List·Memᴰ·head refl, subst (λ (x : Delegation). AtMost x (entry 0 2 3)) (sym q) (AtMost-refl (entry 0 2 3)))
+    at d (List·Memᴰ·tail (List·Memᴰ·head q)) = (entry 2 3 2, List·Memᴰ·tail (List·Memᴰ·tail (List·Memᴰ·head refl)), subst (λ (x : Delegation). AtMost x (entry 2 3 2)) (sym q) (AtMost-refl (entry 2 3 2)))
     at d (List·Memᴰ·tail (List·Memᴰ·tail (List·Memᴰ·head q))) =
-        (entry 3 4 3, List·Memᴰ·tail (List·Memᴰ·tail (List·Memᴰ·tail (List·Memᴰ·head refl))), subst (λ (x : Delegation). AtMost x (entry 3 4 3)) (sym q) (atMost refl refl refl refl (leb→le 1 3 tt)))
+        (entry 3 4 3, List·Memᴰ·tail (List·Memᴰ·tail (List·Memᴰ·tail (List·Memᴰ·head refl))), subst (λ (x : Delegation). AtMost x (entry 3 4 3)) (sym q) (AtMost-reweigh (entry 3 4 3) 1 (leb→le 1 3 tt)))
     at d (List·Memᴰ·tail (List·Memᴰ·tail (List·Memᴰ·tail m))) = absurd (List·Memᴰ·not-nil m)
 
 P2-supported : (d : Delegation) → d ∈ P2-best .delegations → pos (d .weight) ≼ allowed steps P2-best d
@@ -122,7 +118,7 @@ found : (d : Delegation) {e : Delegation} {es : List Delegation} → e ∈ es �
 found d {e} m a =
     any-mem (λ x. eqb (d .giver) (x .giver) && eqb (d .receiver) (x .receiver) && leb (d .weight) (x .weight)) m
     (T-both (eqb (d .giver) (e .giver) && eqb (d .receiver) (e .receiver)) (leb (d .weight) (e .weight))
-    (T-both (eqb (d .giver) (e .giver)) (eqb (d .receiver) (e .receiver)) (eq→eqb (a .giver)) (eq→eqb (a .receiver)))
+    (T-both (eqb (d .giver) (e .giver)) (eqb (d .receiver) (e .receiver)) (eq→eqb (at-giver a)) (eq→eqb (at-receiver a)))
     (le→leb (d .weight) (e .weight) (a .weight)))
 
 -- a best remainder holds what document 01 says is left
@@ -180,7 +176,7 @@ unfolding limitFrom
 not-none r = let h = r .bounds [] (chain-owner steps P6-register 1) in omega arith
 
 -- grant returns 16 before looking for a chain: P6
-pub not-sixteen : PlaceRight steps P6-register record { call = grant 0 1 255 0 0; outcome = refused 16 P6-register } → ⊥
+pub not-sixteen : PlaceRight (callStep steps) (CutsRight steps) P6-register (grant (granted 0 1 255 0 0)) (refused 16 P6-register) → ⊥
 unfolding larger next step steps meets limitFrom goesOn chains reach allowed passed held refusalOf accepted callStep
 not-sixteen r = let e : _≡_ {A = ℕ} 16 0 = ap (λ (o : Outcome). o .refusal) (r .outcome) in omega arith
 

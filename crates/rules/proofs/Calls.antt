@@ -14,22 +14,21 @@ use Rattle.rules.specs.List.{_∈_}
 use Rattle.rules.specs.Limit.{code, _≼_}
 use Rattle.rules.specs.Table.{TableRule}
 use Rattle.rules.specs.Register.{Delegation, Register, reweigh, withDelegations}
-use Rattle.rules.specs.Condition.{meets}
-use Rattle.rules.specs.Chain.{IsChain}
 use Rattle.rules.specs.Support.{allowed, Carried, Supported}
 use Rattle.rules.specs.Pair.{isPair}
 use Rattle.rules.specs.Round.{settle}
 use Rattle.rules.specs.Remainder.{Within}
 use Rattle.rules.specs.Cut.{removal, lowering, named}
 use Rattle.rules.specs.WellFormed.{DelegationFormed, WellFormed}
-use Rattle.rules.specs.Call.{Call, enrol, grant, revoke, downgrade, askReach, askUse, fresh, granted, enrolled}
+use Rattle.rules.specs.Call.{Call, enrol, grant, revoke, downgrade, askReach, askUse, fresh, enrolled}
 use Rattle.rules.specs.Refusal.{passed, held, refusalOf}
 use Rattle.rules.specs.CallStep.{Outcome, insert, cut, accepted, refused, callStep}
 use Rattle.rules.proofs.Lists.{filter-mem, filter-length, map-mem, eq→eqb, not-or-left, not-or-right, not-not, test-ne}
 use Rattle.rules.proofs.Chains.{mem-snoc}
-use Rattle.rules.proofs.Support.{allowed-carried, carried-mono}
-use Rattle.rules.proofs.Rounds.{AtMost-refl, settle-right, settle-best}
-use Rattle.rules.proofs.WellFormed.{settles-formed}
+use Rattle.rules.proofs.Support.{carried-on, allowed-carried, carried-mono}
+use Rattle.rules.proofs.AtMost.{AtMost-refl}
+use Rattle.rules.proofs.Rounds.{settle-right, settle-best}
+use Rattle.rules.proofs.WellFormed.{formed-reweigh, settles-formed}
 use Rattle.rules.proofs.Refusals.{Passes, passes}
 use Rattle.rules.proofs.Pairs.{IsPair, none-stands, insert-mem, mem-insert, insert-length, insert-rising, rising-filter, rising-map}
 
@@ -70,7 +69,7 @@ lowered-formed R g r w h f = record {
     pair d false = (refl, refl)
 
     formed : (d : Delegation) (b : Bool) → DelegationFormed (R .subjects) d → DelegationFormed (R .subjects) (cond b (reweigh d w) d)
-    formed d true k = record { giver = k .giver; receiver = k .receiver; differ = k .differ; notOwner = k .notOwner; weight = h; need = k .need; bar = k .bar; disjoint = k .disjoint }
+    formed d true k = formed-reweigh h k
     formed d false k = k
 
 -- ── each call ──
@@ -130,21 +129,23 @@ cut-formed t C f = settles-formed t (settle t C .changed) C (settle t C .left) (
 accepted-formed : (t : List ℤ) (R : Register) (c : Call) → Passes (passed c ++ held t R c) → WellFormed R → WellFormed (accepted t R c .left)
 unfolding accepted passed held
 accepted-formed t R (enrol m) p f = enrol-formed R m (nltb→le 65535 m (p 4)) (nleb→lt 64 (R .subjects) (p 10)) f
-accepted-formed t R (grant g r w n b) p f =
-    insert-formed R (granted g r w n b) record {
+accepted-formed t R (grant d) p f =
+    let g = d .giver in
+    let r = d .receiver in
+    let n = d .need in
+    let b = d .bar in
+    let masks = not-or-left (ltb 65535 n || ltb 65535 b) (not (eqb (bitAnd n b) 0)) (p 4) in
+    insert-formed R d record {
       giver = nleb→lt (R .subjects) g (not-or-left (leb (R .subjects) g) (leb (R .subjects) r || false) (p 9));
       receiver = nleb→lt (R .subjects) r (not-or-left (leb (R .subjects) r) false (not-or-right (leb (R .subjects) g) (leb (R .subjects) r || false) (p 9)));
       differ = test-ne g r (p 5);
       notOwner = test-ne r 0 (p 6);
-      weight = nltb→le 255 w (p 3);
+      weight = nltb→le 255 (d .weight) (p 3);
       need = nltb→le 65535 n (not-or-left (ltb 65535 n) (ltb 65535 b) masks);
       bar = nltb→le 65535 b (not-or-right (ltb 65535 n) (ltb 65535 b) masks);
       disjoint = eqb→eq (bitAnd n b) 0 (not-not (eqb (bitAnd n b) 0) (not-or-right (ltb 65535 n || ltb 65535 b) (not (eqb (bitAnd n b) 0)) (p 4)));
     }
     (nleb→lt 256 (length (R .delegations)) (p 12)) (none-stands R g r (p 11)) f
-  where
-    masks : T (not (ltb 65535 n || ltb 65535 b))
-    masks = not-or-left (ltb 65535 n || ltb 65535 b) (not (eqb (bitAnd n b) 0)) (p 4)
 accepted-formed t R (revoke y g r) p f = cut-formed t (named R (removal g r)) (removed-formed R g r f)
 accepted-formed t R (downgrade y g r w) p f = cut-formed t (named R (lowering g r w)) (lowered-formed R g r w (nltb→le 255 w (p 3)) f)
 accepted-formed t R (askReach g r) p f = f
@@ -152,22 +153,9 @@ accepted-formed t R (askUse r) p f = f
 
 -- ── supported ──
 module _ (t : List ℤ) (rule : TableRule t) where
-  -- a chain of an enrolled receiver is one after another subject is enrolled
-  enrol-chain : (R : Register) (m u v : ℕ) (ds : List Delegation) → v < length (R .marks) → IsChain t R u v ds
-      → IsChain t (enrolled R m) u v ds
-  enrol-chain R m u v ds l c = record {
-    standing = c .standing;
-    linked = c .linked;
-    distinct = c .distinct;
-    met = λ d i. subst (λ (x : ℕ). T (meets x (d .need) (d .bar))) (sym (List·getD-append (R .marks) (m ∷ []) 0 v l)) (c .met d i);
-    live = c .live;
-  }
-
   enrol-supported : (R : Register) (m : ℕ) → WellFormed R → Supported t R → Supported t (enrolled R m)
-  unfolding Carried
   enrol-supported R m f s d i =
-      let (ds, c, h) = s d i in
-      (ds, enrol-chain R m (d .giver) (d .receiver) ds (omega (arith, f .marked, f .each d i .receiver)) c, h)
+      carried-on t R (enrolled R m) d (sym (List·getD-append (R .marks) (m ∷ []) 0 (d .receiver) (omega (arith, f .marked, f .each d i .receiver)))) (λ ds c h. c .standing) (s d i)
 
   insert-supported : (R : Register) (d : Delegation) → pos (d .weight) ≼ allowed t R d → Supported t R → Supported t (withDelegations R (insert d (R .delegations)))
   insert-supported R d h s e m = carried-mono t rule R (withDelegations R (insert d (R .delegations))) e within (old (insert-mem d (R .delegations) m))
@@ -186,9 +174,7 @@ module _ (t : List ℤ) (rule : TableRule t) where
   accepted-supported : (R : Register) (c : Call) → Passes (passed c ++ held t R c) → WellFormed R → Supported t R → Supported t (accepted t R c .left)
   unfolding accepted passed held
   accepted-supported R (enrol m) p f s = enrol-supported R m f s
-  accepted-supported R (grant g r w n b) p f s =
-      let d = granted g r w n b in
-      insert-supported R d (nltb→le (code (allowed t R d)) (suc w) (not-or-left (ltb (code (allowed t R d)) (suc w)) false (p 16))) s
+  accepted-supported R (grant d) p f s = insert-supported R d (nltb→le (code (allowed t R d)) (suc (d .weight)) (not-or-left (ltb (code (allowed t R d)) (suc (d .weight))) false (p 16))) s
   accepted-supported R (revoke y g r) p f s = cut-supported (named R (removal g r))
   accepted-supported R (downgrade y g r w) p f s = cut-supported (named R (lowering g r w))
   accepted-supported R (askReach g r) p f s = s
@@ -203,7 +189,7 @@ cut-refusal t C = refl
 pub accepted-refusal : (t : List ℤ) (R : Register) (c : Call) → accepted t R c .refusal ≡ 0
 unfolding accepted
 accepted-refusal t R (enrol m) = refl
-accepted-refusal t R (grant g r w n b) = refl
+accepted-refusal t R (grant d) = refl
 accepted-refusal t R (revoke y g r) = cut-refusal t (named R (removal g r))
 accepted-refusal t R (downgrade y g r w) = cut-refusal t (named R (lowering g r w))
 accepted-refusal t R (askReach g r) = refl

@@ -1,5 +1,5 @@
 -- A delegation is firm where a round leaves its weight: where those of weight 255 are firm, each round makes one weight more firm, so at most 255 rounds change something. Assumes nothing.
-use mathlib.Core.Path.{_≡_, refl, sym, ap, subst}
+use mathlib.Core.Path.{_≡_, refl, sym, ap, subst, _∙_}
 use mathlib.Core.Logic.{_⊎_, inl, inr}
 use mathlib.Core.Bool.{not}
 use mathlib.Core.List.{List, [], _∷_, List·Memᴰ·head, List·Memᴰ·tail, List·Memᴰ·not-nil}
@@ -12,13 +12,13 @@ use Rattle.rules.specs.List.{_∈_}
 use Rattle.rules.specs.Limit.{code, _≼_}
 use Rattle.rules.specs.Table.{next, TableRule}
 use Rattle.rules.specs.Register.{Delegation, Register, reweigh}
-use Rattle.rules.specs.Chain.{limitFrom}
-use Rattle.rules.specs.Support.{allowed, Carried}
+use Rattle.rules.specs.Chain.{limitFrom, limit, IsChain}
+use Rattle.rules.specs.Support.{allowed}
 use Rattle.rules.specs.Round.{capped, round, SettlesIn}
 use Rattle.rules.proofs.Lists.{either, test-ne, mem-concatMap, concatMap-mem}
 use Rattle.rules.proofs.Limits.{next-top}
 use Rattle.rules.proofs.Chains.{limitFrom-below}
-use Rattle.rules.proofs.Support.{allowed-carried, carried-allowed}
+use Rattle.rules.proofs.Support.{allowed-reweigh, carried-on, allowed-carried, carried-allowed}
 use Rattle.rules.proofs.Rounds.{round-stays}
 
 -- ── a chain that carries j goes over weights above j, or unlimited ones ──
@@ -56,13 +56,12 @@ module _ (t : List ℤ) where
 
   -- each weight left was allowed as the round began
   round-under : (R : Register) (e : Delegation) → e ∈ round t R .delegations → pos (e .weight) ≼ allowed t R e
-  unfolding allowed
   round-under R e m =
       let (d, m′, q) = concatMap-mem (λ x. capped x (allowed t R x)) (R .delegations) m in
       go d (allowed t R d) refl q
     where
       go : (d : Delegation) (l : ℤ) → allowed t R d ≡ l → e ∈ capped d l → pos (e .weight) ≼ allowed t R e
-      go d (pos r) a (List·Memᴰ·head q) = subst (λ (x : Delegation). pos (x .weight) ≼ allowed t R x) (sym q) (omega (arith, ap code a))
+      go d (pos r) a (List·Memᴰ·head q) = subst (λ (x : Delegation). pos (x .weight) ≼ allowed t R x) (sym q) (omega (arith, ap code (allowed-reweigh t R d (min (d .weight) r) ∙ a)))
       go d (pos r) a (List·Memᴰ·tail q) = absurd (List·Memᴰ·not-nil q)
       go d (negsuc n) a q = absurd (List·Memᴰ·not-nil q)
 
@@ -73,22 +72,13 @@ module _ (t : List ℤ) where
   module _ (rule : TableRule t) where
     -- where the weights above j are firm, or the unlimited ones for j of 254 or 255, j is firm a round later
     pub firm-round : (j : ℕ) (R : Register) → Firm (min (suc j) 255) R → Firm j (round t R)
-    unfolding Carried
-    firm-round j R f e m h =
-        let (ds, c, k) = allowed-carried t rule R e (round-under R e m) in
-        carried-allowed t rule (round t R) e (
-          ds,
-          record {
-            standing = λ d i.
-                let at = c .standing d i in
-                round-holds R d at (f d at (limit-takes t rule j (pos 255) ds (le-refl 256) (le-trans (suc-le-suc h) k) d i));
-            linked = c .linked;
-            distinct = c .distinct;
-            met = c .met;
-            live = c .live;
-          },
-          k,
-        )
+    firm-round j R f e m h = carried-allowed t rule (round t R) e (carried-on t R (round t R) e refl stays (allowed-carried t rule R e (round-under R e m)))
+      where
+        -- a chain that carries e goes over firm weights
+        stays : (ds : List Delegation) → IsChain t R (e .giver) (e .receiver) ds → pos (e .weight) ≼ limit t ds → (d : Delegation) → d ∈ ds → d ∈ round t R .delegations
+        stays ds c k d i =
+            let at = c .standing d i in
+            round-holds R d at (f d at (limit-takes t rule j (pos 255) ds (le-refl 256) (le-trans (suc-le-suc h) k) d i))
 
     -- from a register whose weights from k on are firm, at most k rounds change something
     pub firm-most : (k n : ℕ) (R F : Register) → k ≤ 255 → Firm k R → SettlesIn t n R F → n ≤ k

@@ -1,24 +1,21 @@
 -- Demand 3 in its register form: at every place of every list of calls the outcome is that of the definitions followed down the list, and each accepted cut leaves the best
 -- remainder. Assumes nothing.
-use mathlib.Core.Path.{_≡_, refl, sym, ap, subst, _∙_}
-use mathlib.Core.List.{List, [], _∷_}
-use Prim.Native.Nat.{ℕ, zero, suc}
+use mathlib.Core.Path.{_≡_, refl, sym, subst}
+use mathlib.Core.List.{List, List·Memᴰ·not-nil}
 use lib.IntN.{ℤ}
-use mathlib.Core.List.{List·Memᴰ·not-nil}
-use Rattle.rules.specs.List.{At}
 use Rattle.rules.specs.Table.{TableRule, steps}
 use Rattle.rules.specs.Register.{Register}
 use Rattle.rules.specs.Support.{Supported}
 use Rattle.rules.specs.Round.{settle}
-use Rattle.rules.specs.Cut.{Cut, removal, lowering, named}
+use Rattle.rules.specs.Cut.{Change, cutting, removal, lowering, changed}
 use Rattle.rules.specs.WellFormed.{WellFormed}
-use Rattle.rules.specs.Call.{Call, enrol, grant, revoke, downgrade, askReach, askUse, fresh, IsCut}
+use Rattle.rules.specs.Call.{Call, enrol, grant, revoke, downgrade, askReach, askUse, fresh, Makes}
 use Rattle.rules.specs.CallStep.{Outcome, cut, accepted, callStep}
-use Rattle.rules.specs.Trace.{registerFrom}
-use Rattle.rules.specs.History.{Entry, calls, History, CutRight, PlaceRight, Demand3}
+use Rattle.rules.specs.History.{leftBy, CutRight, CutsRight, Demand3}
 use Rattle.rules.proofs.Table.{steps-rule}
 use Rattle.rules.proofs.Rounds.{settle-right, settle-best}
 use Rattle.rules.proofs.Calls.{fresh-formed, callStep-cases, callStep-formed, callStep-supported}
+use Rattle.rules.proofs.Trace.{stays, places}
 
 module _ (t : List ℤ) (rule : TableRule t) where
   cut-right : (C : Register) → CutRight t C (cut t C)
@@ -30,50 +27,38 @@ module _ (t : List ℤ) (rule : TableRule t) where
     rounds = (settle t C .changed, refl, settle-right t C);
   }
 
-  accepted-cut : (R : Register) (c : Call) (k : Cut) → IsCut c k → CutRight t (named R k) (accepted t R c)
+  change-right : (R : Register) (k k′ : Change) → k ≡ k′ → CutRight t (changed R k) (cut t (changed R k′))
+  change-right R k k′ e = subst (λ (x : Change). CutRight t (changed R x) (cut t (changed R k′))) (sym e) (cut-right (changed R k′))
+
+  accepted-cut : (R : Register) (c : Call) (k : Change) → Makes c k → CutRight t (changed R k) (accepted t R c)
   unfolding accepted
   accepted-cut R (enrol m) k e = absurd e
-  accepted-cut R (grant g r w n b) k e = absurd e
-  accepted-cut R (revoke y g r) k e = subst (λ (x : Cut). CutRight t (named R x) (cut t (named R (removal g r)))) (sym e) (cut-right (named R (removal g r)))
-  accepted-cut R (downgrade y g r w) k e = subst (λ (x : Cut). CutRight t (named R x) (cut t (named R (lowering g r w)))) (sym e) (cut-right (named R (lowering g r w)))
+  accepted-cut R (grant d) k e = absurd e
+  accepted-cut R (revoke y g r) k e = change-right R k (cutting (removal g r)) e
+  accepted-cut R (downgrade y g r w) k e = change-right R k (cutting (lowering g r w)) e
   accepted-cut R (askReach g r) k e = absurd e
   accepted-cut R (askUse r) k e = absurd e
 
   -- one call, on any register, supported or not: an accepted cut leaves the best remainder
-  pub callStep-cut : (R : Register) (c : Call) (k : Cut) → IsCut c k → callStep t R c .refusal ≡ 0 → CutRight t (named R k) (callStep t R c)
-  callStep-cut R c k i = callStep-cases t R c (λ (o : Outcome). o .refusal ≡ 0 → CutRight t (named R k) o) (λ z p e. accepted-cut R c k i) (λ n e. absurd (n e))
+  pub callStep-cut : (R : Register) (c : Call) → CutsRight t R c (callStep t R c)
+  callStep-cut R c k i = callStep-cases t R c (λ (o : Outcome). o .refusal ≡ 0 → CutRight t (changed R k) o) (λ z p e. accepted-cut R c k i) (λ n e. absurd (n e))
 
-  placeRight : (R : Register) (e : Entry) → e .outcome ≡ callStep t R (e .call) → PlaceRight t R e
-  placeRight R e q = record {
-    outcome = q;
-    cut = λ k i z. subst (λ (o : Outcome). CutRight t (named R k) o) (sym q) (callStep-cut R (e .call) k i (ap (λ (o : Outcome). o .refusal) (sym q) ∙ z));
-  }
+  -- every call leaves a well-formed and supported register so
+  abbrev Sound : Register → Type 0
+  Sound R = WellFormed R × Supported t R
 
-  history-places : (R : Register) (es : List Entry) → History t R es → (i : ℕ) (e : Entry) → At es i e → PlaceRight t (registerFrom t R (calls es) i) e
-  history-places R [] h i e a = absurd a
-  history-places R (x ∷ xs) h zero e a = subst (λ (y : Entry). PlaceRight t R y) a (placeRight R x (h .0))
-  history-places R (x ∷ xs) h (suc i) e a =
-      subst (λ (S : Register). PlaceRight t (registerFrom t S (calls xs) i) e) (ap (λ (o : Outcome). o .left) (h .0)) (history-places (x .outcome .left) xs (h .1) i e a)
+  sound : (R : Register) (c : Call) → Sound R → Sound (callStep t R c .left)
+  sound R c s = (callStep-formed t R c (s .0), callStep-supported t rule R c (s .0) (s .1))
 
-  registerFrom-formed : (R : Register) (cs : List Call) (i : ℕ) → WellFormed R → WellFormed (registerFrom t R cs i)
-  registerFrom-formed R cs zero f = f
-  registerFrom-formed R [] (suc i) f = f
-  registerFrom-formed R (c ∷ cs) (suc i) f = registerFrom-formed (callStep t R c .left) cs i (callStep-formed t R c f)
-
-  registerFrom-supported : (R : Register) (cs : List Call) (i : ℕ) → WellFormed R → Supported t R → Supported t (registerFrom t R cs i)
-  registerFrom-supported R cs zero f s = s
-  registerFrom-supported R [] (suc i) f s = s
-  registerFrom-supported R (c ∷ cs) (suc i) f s = registerFrom-supported (callStep t R c .left) cs i (callStep-formed t R c f) (callStep-supported t rule R c f s)
-
-  fresh-supported : Supported t fresh
-  fresh-supported d m = absurd (List·Memᴰ·not-nil m)
+  fresh-sound : Sound fresh
+  fresh-sound = (fresh-formed, λ d m. absurd (List·Memᴰ·not-nil m))
 
   -- THE WHOLE LIST
   pub demand3 : Demand3 t
   demand3 = record {
-    places = λ es h i e a. history-places fresh es h i e a;
-    wellFormed = λ cs i. registerFrom-formed fresh cs i fresh-formed;
-    supported = λ cs i. registerFrom-supported fresh cs i fresh-formed fresh-supported;
+    places = places (callStep t) leftBy Sound sound (CutsRight t) (λ R c s. callStep-cut R c) fresh fresh-sound;
+    wellFormed = λ cs i. stays (callStep t) leftBy Sound sound fresh cs i fresh-sound .0;
+    supported = λ cs i. stays (callStep t) leftBy Sound sound fresh cs i fresh-sound .1;
   }
 
 -- and for document 01's own table

@@ -4,6 +4,7 @@ pub mod Table
 pub mod Signed
 pub mod Chains
 pub mod Reach
+pub mod AtMost
 pub mod Support
 pub mod Rounds
 pub mod WellFormed
@@ -13,6 +14,7 @@ pub mod Calls
 pub mod Firm
 pub mod Bound
 pub mod Ranges
+pub mod Trace
 pub mod History
 pub mod Certificate
 pub mod Search

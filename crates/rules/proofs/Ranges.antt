@@ -19,7 +19,7 @@ use Rattle.rules.specs.Pair.{weightAt, stands, receives}
 use Rattle.rules.specs.Round.{total, settle, rounds}
 use Rattle.rules.specs.Cut.{removal, lowering, named, isDropped, isLowered, dropped, lowered}
 use Rattle.rules.specs.WellFormed.{WellFormed}
-use Rattle.rules.specs.Call.{Call, enrol, grant, revoke, downgrade, askReach, askUse, granted}
+use Rattle.rules.specs.Call.{Call, enrol, grant, revoke, downgrade, askReach, askUse}
 use Rattle.rules.specs.Refusal.{passed, held}
 use Rattle.rules.specs.CallStep.{Outcome, cut, accepted, callStep}
 use Rattle.rules.specs.Ranges.{FromTo, CutInRange, InRange}
@@ -89,8 +89,8 @@ use-range false = (0, refl, zero-le, zero-le)
 accepted-range : (t : List ℤ) → TableRule t → (R : Register) (c : Call) → Passes (passed c ++ held t R c) → WellFormed R → let o = accepted t R c in InRange c (o .first) (o .second) (o .third)
 unfolding accepted passed held
 accepted-range t rule R (enrol m) p f = ((R .subjects, refl, f .some, omega (arith, nleb→lt 64 (R .subjects) (p 10))), refl, refl)
-accepted-range t rule R (grant g r w n b) p f =
-    let e = insert-length (granted g r w n b) (R .delegations) in
+accepted-range t rule R (grant d) p f =
+    let e = insert-length d (R .delegations) in
     ((_, refl, omega (arith, e), omega (arith, e, nleb→lt 256 (length (R .delegations)) (p 12))), refl, refl)
 accepted-range t rule R (revoke y g r) p f = cut-range t (named R (removal g r)) (removed-formed R g r f) (rounds-below t rule R (removal g r) f (not-not (stands R g r) (p 13)))
 accepted-range t rule R (downgrade y g r w) p f =

@@ -1,6 +1,6 @@
 -- The first refusal that applies of a list; a call that is not refused passed every test of its two lists. Assumes nothing.
-use mathlib.Core.Path.{_≡_, refl, _∙_}
-use mathlib.Core.Logic.{_≢_}
+use mathlib.Core.Path.{_≡_, refl, sym, _∙_}
+use mathlib.Core.Logic.{_≢_, _⊎_, inl, inr}
 use mathlib.Core.Bool.{Bool, true, false, not, cond, _&&_}
 use mathlib.Core.List.{List, [], _∷_, _++_}
 use Prim.Native.Nat.{ℕ}
@@ -11,7 +11,7 @@ use lib.IntN.{ℤ}
 use Rattle.rules.specs.Register.{Register}
 use Rattle.rules.specs.Call.{Call, enrol, grant, revoke, downgrade, askReach, askUse}
 use Rattle.rules.specs.Refusal.{firstOf, passed, held, refusalOf}
-use Rattle.rules.proofs.Lists.{T-left, T-right}
+use Rattle.rules.proofs.Lists.{T-left, T-right, eqOr}
 
 -- the test that has the number n, the first of them if there are several; false if there is none
 abbrev pub testOf : ℕ → List (ℕ × Bool) → Bool
@@ -46,6 +46,13 @@ firstOf-none ps qs h e = firstOf-append ps qs h ∙ rw (eq-eqb (firstOf ps) 0 e)
 pub firstOf-some : (ps qs : List (ℕ × Bool)) (n : ℕ) → T (numbered ps) → firstOf ps ≡ n → n ≢ 0 → firstOf (ps ++ qs) ≡ n
 firstOf-some ps qs n h e k = firstOf-append ps qs h ∙ rw (e, ne-eqb n 0 k)
 
+pub firstOf-left : (ps qs : List (ℕ × Bool)) → T (numbered ps) → firstOf (ps ++ qs) ≡ 0 → firstOf ps ≡ 0
+firstOf-left ps qs h e = go (eqOr (firstOf ps) 0)
+  where
+    go : (firstOf ps ≡ 0) ⊎ (firstOf ps ≢ 0) → firstOf ps ≡ 0
+    go (inl z) = z
+    go (inr k) = sym (firstOf-some ps qs (firstOf ps) h refl k) ∙ e
+
 pub passes-of : (ps : List (ℕ × Bool)) → T (numbered ps) → firstOf ps ≡ 0 → Passes ps
 passes-of [] h e n = tt
 passes-of (p ∷ ps) h e n = go (p .1) (eqb (p .0) n) (passes-of ps (T-right (ltb 0 (p .0)) (numbered ps) h)) e
@@ -58,7 +65,7 @@ passes-of (p ∷ ps) h e n = go (p .1) (eqb (p .0) n) (passes-of ps (T-right (lt
 pub passes : (t : List ℤ) (R : Register) (c : Call) → refusalOf t R c ≡ 0 → Passes (passed c ++ held t R c)
 unfolding refusalOf passed held
 passes t R (enrol m) e = passes-of (passed (enrol m) ++ held t R (enrol m)) tt e
-passes t R (grant g r w n b) e = passes-of (passed (grant g r w n b) ++ held t R (grant g r w n b)) tt e
+passes t R (grant d) e = passes-of (passed (grant d) ++ held t R (grant d)) tt e
 passes t R (revoke y g r) e = passes-of (passed (revoke y g r) ++ held t R (revoke y g r)) tt e
 passes t R (downgrade y g r w) e = passes-of (passed (downgrade y g r w) ++ held t R (downgrade y g r w)) tt e
 passes t R (askReach g r) e = passes-of (passed (askReach g r) ++ held t R (askReach g r)) tt e
@@ -67,7 +74,7 @@ passes t R (askUse r) e = passes-of (passed (askUse r) ++ held t R (askUse r)) t
 pub passed-numbered : (c : Call) → T (numbered (passed c))
 unfolding passed
 passed-numbered (enrol m) = tt
-passed-numbered (grant g r w n b) = tt
+passed-numbered (grant d) = tt
 passed-numbered (revoke y g r) = tt
 passed-numbered (downgrade y g r w) = tt
 passed-numbered (askReach g r) = tt

@@ -12,11 +12,12 @@ use lib.IntN.{ℤ, pos, negsuc}
 use Rattle.rules.specs.List.{_∈_, concatMap}
 use Rattle.rules.specs.Limit.{code, _≼_}
 use Rattle.rules.specs.Table.{TableRule}
-use Rattle.rules.specs.Register.{Delegation, Register, reweigh}
+use Rattle.rules.specs.Register.{Delegation, Register, granted, fields, reweigh}
 use Rattle.rules.specs.Support.{allowed}
-use Rattle.rules.specs.Round.{capped, round, fields, equal, same, Settled, after, settleFrom, total, settle, SettlesIn}
+use Rattle.rules.specs.Round.{capped, round, equal, same, Settled, after, settleFrom, total, settle, SettlesIn}
 use Rattle.rules.specs.Remainder.{AtMost, Within, Remainder, Best}
 use Rattle.rules.proofs.Lists.{T-left, T-right, T-both, either, mem-concatMap, concatMap-mem}
+use Rattle.rules.proofs.AtMost.{AtMost-refl, AtMost-reweigh, AtMost-trans, at-reweigh}
 use Rattle.rules.proofs.Support.{allowed-mono, allowed-carried, carried-allowed}
 
 -- ── tests for equality ──
@@ -32,7 +33,7 @@ equal→eq (x ∷ xs) (y ∷ ys) h = λ i. eqb→eq x y (T-left (eqb x y) (equal
 
 -- a delegation from its fields
 abbrev made : List ℕ → Delegation
-made l = record { giver = getD l 0 0; receiver = getD l 1 0; weight = getD l 2 0; need = getD l 3 0; bar = getD l 4 0 }
+made l = granted (getD l 0 0) (getD l 1 0) (getD l 2 0) (getD l 3 0) (getD l 4 0)
 
 fields-refl : (d : Delegation) → T (equal (fields d) (fields d))
 fields-refl d = equal-refl (fields d)
@@ -54,18 +55,6 @@ eq→same : {ds es : List Delegation} → ds ≡ es → T (same ds es)
 eq→same {ds} e = subst (λ (x : List Delegation). T (same ds x)) e (same-refl ds)
 
 -- ── orders ──
-pub AtMost-refl : (d : Delegation) → AtMost d d
-AtMost-refl d = record { giver = refl; receiver = refl; need = refl; bar = refl; weight = le-refl (d .weight) }
-
-AtMost-trans : {d e f : Delegation} → AtMost d e → AtMost e f → AtMost d f
-AtMost-trans p q = record {
-  giver = p .giver ∙ q .giver;
-  receiver = p .receiver ∙ q .receiver;
-  need = p .need ∙ q .need;
-  bar = p .bar ∙ q .bar;
-  weight = le-trans (p .weight) (q .weight);
-}
-
 Within-refl : (F : Register) → Within F F
 Within-refl F = record { subjects = refl; marks = refl; held = λ d m. (d, m, AtMost-refl d) }
 
@@ -81,12 +70,12 @@ Within-trans p q = record {
 
 -- ── one delegation in a round ──
 pub capped-within : (d : Delegation) (l : ℤ) {e : Delegation} → e ∈ capped d l → AtMost e d
-capped-within d (pos r) (List·Memᴰ·head q) = subst (λ (x : Delegation). AtMost x d) (sym q) record { giver = refl; receiver = refl; need = refl; bar = refl; weight = min-le-left (d .weight) r }
+capped-within d (pos r) (List·Memᴰ·head q) = subst (λ (x : Delegation). AtMost x d) (sym q) (AtMost-reweigh d (min (d .weight) r) (min-le-left (d .weight) r))
 capped-within d (pos r) (List·Memᴰ·tail q) = absurd (List·Memᴰ·not-nil q)
 capped-within d (negsuc n) q = absurd (List·Memᴰ·not-nil q)
 
 capped-keeps : (f d : Delegation) (l : ℤ) → AtMost f d → pos (f .weight) ≼ l → (e : Delegation) × (e ∈ capped d l) × AtMost f e
-capped-keeps f d (pos r) a h = (reweigh d (min (d .weight) r), List·Memᴰ·head refl, record { giver = a .giver; receiver = a .receiver; need = a .need; bar = a .bar; weight = omega (arith, a .weight) })
+capped-keeps f d (pos r) a h = (reweigh d (min (d .weight) r), List·Memᴰ·head refl, at-reweigh a (min (d .weight) r) (omega (arith, a .weight)))
 capped-keeps f d (negsuc n) a h = absurd (omega arith)
 
 capped-total : (d : Delegation) (l : ℤ) (xs ys : List Delegation) → total xs ≤ total ys → total (capped d l ++ xs) ≤ total (d ∷ ys)

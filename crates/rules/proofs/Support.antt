@@ -1,4 +1,5 @@
--- Support: reach and what a delegation is allowed rise with the register, and a weight is allowed exactly where a chain carries it. Assumes nothing.
+-- Support: reach and what a delegation is allowed rise with the register, and a weight is allowed exactly where a chain carries it. No other proof but a computed example rests on the
+-- text of `allowed` and `Carried`. Assumes nothing.
 use mathlib.Core.Path.{_≡_, refl, sym, ap, subst, _∙_}
 use mathlib.Core.Logic.{_⊎_, inl, inr}
 use mathlib.Core.List.{List, [], _∷_, List·Memᴰ·head, List·Memᴰ·tail, List·Memᴰ·not-nil}
@@ -11,14 +12,46 @@ use lib.IntN.{ℤ, pos}
 use Rattle.rules.specs.List.{_∈_, Distinct}
 use Rattle.rules.specs.Limit.{none, code, _≼_}
 use Rattle.rules.specs.Table.{next, TableRule}
-use Rattle.rules.specs.Register.{Delegation, Register, marksOf}
+use Rattle.rules.specs.Register.{Delegation, Register, marksOf, reweigh}
 use Rattle.rules.specs.Condition.{meets}
 use Rattle.rules.specs.Chain.{Linked, receivers, limitFrom, limit, IsChain}
 use Rattle.rules.specs.Reach.{reach}
 use Rattle.rules.specs.Support.{allowed, Carried}
 use Rattle.rules.specs.Remainder.{AtMost, Within}
+use Rattle.rules.proofs.AtMost.{at-giver, at-receiver, at-meets}
 use Rattle.rules.proofs.Limits.{next-mono, next-top}
 use Rattle.rules.proofs.Reach.{reach-bound, reach-attained}
+
+module _ (t : List ℤ) where
+  -- what counts for a delegation is the reach of its pair
+  pub allowed-reach : (R : Register) (d : Delegation) → allowed t R d ≡ reach t R (d .giver) (d .receiver)
+  unfolding allowed
+  allowed-reach R d = refl
+
+  -- whatever its weight
+  pub allowed-reweigh : (R : Register) (d : Delegation) (w : ℕ) → allowed t R (reweigh d w) ≡ allowed t R d
+  unfolding allowed
+  allowed-reweigh R d w = refl
+
+  pub carried-chain : (R : Register) (d : Delegation) → Carried t R d → (ds : List Delegation) × IsChain t R (d .giver) (d .receiver) ds × (pos (d .weight) ≼ limit t ds)
+  unfolding Carried
+  carried-chain R d c = c
+
+  -- what is carried within R is carried within S, where the receiver has the same marks and each chain that carries the weight stands
+  pub carried-on : (R S : Register) (d : Delegation) → marksOf R (d .receiver) ≡ marksOf S (d .receiver)
+      → ((ds : List Delegation) → IsChain t R (d .giver) (d .receiver) ds → pos (d .weight) ≼ limit t ds → (e : Delegation) → e ∈ ds → e ∈ S .delegations) → Carried t R d → Carried t S d
+  unfolding Carried
+  carried-on R S d marks stand (ds, c, h) = (
+    ds,
+    record {
+      standing = stand ds c h;
+      linked = c .linked;
+      distinct = c .distinct;
+      met = λ e i. subst (λ (x : ℕ). T (meets x (e .need) (e .bar))) marks (c .met e i);
+      live = c .live;
+    },
+    h,
+  )
 
 module _ (t : List ℤ) (rule : TableRule t) where
   -- the list ds, taken over delegations that G holds at least as heavy
@@ -33,8 +66,8 @@ module _ (t : List ℤ) (rule : TableRule t) where
   unfolding limitFrom
   lift-cons G m d e ds es at a h s = record {
     standing = stands;
-    ends = λ i. a .receiver i ∷ s .ends i;
-    linked = λ x u p. (sym (a .giver) ∙ p .0, s .linked (e .receiver) u (subst (λ (y : ℕ). Linked y ds u) (a .receiver) (p .1)));
+    ends = λ i. at-receiver a i ∷ s .ends i;
+    linked = λ x u p. (sym (at-giver a) ∙ p .0, s .linked (e .receiver) u (subst (λ (y : ℕ). Linked y ds u) (at-receiver a) (p .1)));
     met = meet;
     carries = λ k l p q. s .carries (next t k (d .weight)) (next t l (e .weight)) (next-mono t rule k l (d .weight) (e .weight) p q (a .weight)) (next-top t rule l (e .weight) q);
   }
@@ -43,11 +76,8 @@ module _ (t : List ℤ) (rule : TableRule t) where
       stands x (List·Memᴰ·head i) = subst (λ (y : Delegation). y ∈ G .delegations) (sym i) at
       stands x (List·Memᴰ·tail i) = s .standing x i
 
-      here : T (meets m (e .need) (e .bar))
-      here = subst (λ (y : ℕ). T (meets m (e .need) y)) (a .bar) (subst (λ (y : ℕ). T (meets m y (d .bar))) (a .need) h)
-
       meet : (x : Delegation) → x ∈ (e ∷ es) → T (meets m (x .need) (x .bar))
-      meet x (List·Memᴰ·head i) = subst (λ (y : Delegation). T (meets m (y .need) (y .bar))) (sym i) here
+      meet x (List·Memᴰ·head i) = subst (λ (y : Delegation). T (meets m (y .need) (y .bar))) (sym i) (at-meets a m h)
       meet x (List·Memᴰ·tail i) = s .met x i
 
   lift : (F G : Register) (m : ℕ) → Within F G → (ds : List Delegation) → ((d : Delegation) → d ∈ ds → d ∈ F .delegations)
@@ -99,8 +129,8 @@ module _ (t : List ℤ) (rule : TableRule t) where
   pub allowed-mono : (F G : Register) (d e : Delegation) → Within F G → AtMost d e → allowed t F d ≼ allowed t G e
   unfolding allowed
   allowed-mono F G d e within a =
-      subst (λ (x : ℕ). reach t F (d .giver) (d .receiver) ≼ reach t G x (e .receiver)) (a .giver)
-      (subst (λ (x : ℕ). reach t F (d .giver) (d .receiver) ≼ reach t G (d .giver) x) (a .receiver) (reach-mono F G (d .giver) (d .receiver) within))
+      subst (λ (x : ℕ). reach t F (d .giver) (d .receiver) ≼ reach t G x (e .receiver)) (at-giver a)
+      (subst (λ (x : ℕ). reach t F (d .giver) (d .receiver) ≼ reach t G (d .giver) x) (at-receiver a) (reach-mono F G (d .giver) (d .receiver) within))
 
   -- a weight is allowed exactly where some chain carries it
   pub allowed-carried : (R : Register) (d : Delegation) → pos (d .weight) ≼ allowed t R d → Carried t R d

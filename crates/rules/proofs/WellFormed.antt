@@ -5,17 +5,17 @@ use mathlib.Core.List.{List, [], _∷_, _++_, List·Memᴰ·head, List·Memᴰ·
 use Prim.Native.Nat.{ℕ, zero, suc, _+_, _≤_, zero-le, suc-le-suc}
 use native.Mathlib.Nat.{le-trans, le-refl}
 use native.Mathlib.Omega.{arith}
-use lib.Bits.{bitAnd}
 use lib.ListN.{length}
 use lib.IntN.{ℤ, pos, negsuc}
 use Rattle.rules.specs.List.{_∈_, concatMap}
 use Rattle.rules.specs.Table.{TableRule}
-use Rattle.rules.specs.Register.{Delegation, Register}
+use Rattle.rules.specs.Register.{Delegation, Register, reweigh}
 use Rattle.rules.specs.Support.{allowed}
 use Rattle.rules.specs.Round.{capped, round, settle, SettlesIn}
 use Rattle.rules.specs.Remainder.{AtMost, Within, Best}
 use Rattle.rules.specs.WellFormed.{Before, Rising, DelegationFormed, WellFormed}
 use Rattle.rules.proofs.Lists.{concatMap-mem}
+use Rattle.rules.proofs.AtMost.{AtMost-antisym, at-giver, at-receiver}
 use Rattle.rules.proofs.Rounds.{capped-within, settle-right, settle-best}
 
 -- ── the order ──
@@ -35,17 +35,11 @@ Before-irrefl d e a b (inl p) = omega arith
 Before-irrefl d e a b (inr p) = omega arith
 
 -- ── rounds keep a register well formed ──
+pub formed-reweigh : {n w : ℕ} {d : Delegation} → w ≤ 255 → DelegationFormed n d → DelegationFormed n (reweigh d w)
+formed-reweigh h f = record { giver = f .giver; receiver = f .receiver; differ = f .differ; notOwner = f .notOwner; weight = h; need = f .need; bar = f .bar; disjoint = f .disjoint }
+
 formed-lighter : {n : ℕ} {d e : Delegation} → AtMost e d → DelegationFormed n d → DelegationFormed n e
-formed-lighter {n} {d} {e} a f = record {
-  giver = omega (arith, a .giver, f .giver);
-  receiver = omega (arith, a .receiver, f .receiver);
-  differ = λ q. f .differ (sym (a .giver) ∙ q ∙ a .receiver);
-  notOwner = λ q. f .notOwner (sym (a .receiver) ∙ q);
-  weight = le-trans (a .weight) (f .weight);
-  need = omega (arith, a .need, f .need);
-  bar = omega (arith, a .bar, f .bar);
-  disjoint = subst (λ (x : ℕ). bitAnd x (e .bar) ≡ 0) (sym (a .need)) (subst (λ (x : ℕ). bitAnd (d .need) x ≡ 0) (sym (a .bar)) (f .disjoint));
-}
+formed-lighter {n} a f = subst (λ (x : Delegation). DelegationFormed n x) (sym (a .same)) (formed-reweigh (le-trans (a .weight) (f .weight)) f)
 
 rising-capped : (d : Delegation) (l : ℤ) (ds : List Delegation) → ((e : Delegation) → e ∈ ds → Before d e) → Rising ds → Rising (capped d l ++ ds)
 rising-capped d (pos r) ds h k = (h, k)
@@ -64,7 +58,7 @@ module _ (f : Delegation → ℤ) where
   rising-cappedAll (d ∷ ds) k = rising-capped d (f d) (concatMap (λ d. capped d (f d)) ds) below (rising-cappedAll ds (k .1))
     where
       below : (e : Delegation) → e ∈ concatMap (λ d. capped d (f d)) ds → Before d e
-      below e m = let (x, m′, a) = cappedAll-from ds m in Before-pairs d x d e refl refl (sym (a .giver)) (sym (a .receiver)) (k .0 x m′)
+      below e m = let (x, m′, a) = cappedAll-from ds m in Before-pairs d x d e refl refl (sym (at-giver a)) (sym (at-receiver a)) (k .0 x m′)
 
   length-cappedAll : (ds : List Delegation) → length (concatMap (λ d. capped d (f d)) ds) ≤ length ds
   length-cappedAll [] = zero-le
@@ -88,12 +82,6 @@ module _ (t : List ℤ) where
   settles-formed (suc n) C F s f = settles-formed n (round t C) F (s .1) (round-formed C f)
 
 -- ── two registers, each within the other ──
-AtMost-antisym : {d e : Delegation} → AtMost d e → AtMost e d → d ≡ e
-AtMost-antisym {d} {e} a b = λ i. record { giver = a .giver i; receiver = a .receiver i; weight = w i; need = a .need i; bar = a .bar i }
-  where
-    w : d .weight ≡ e .weight
-    w = omega (arith, a .weight, b .weight)
-
 -- each of ds stands in es at least as heavy
 abbrev Held : List Delegation → List Delegation → Type 0
 Held ds es = (d : Delegation) → d ∈ ds → (e : Delegation) × (e ∈ es) × AtMost d e
@@ -106,9 +94,9 @@ first-within d e ds es r s h k = go (h d (List·Memᴰ·head refl) .1) (h d (Lis
     go (List·Memᴰ·head q) a n b = subst (λ (z : Delegation). AtMost d z) q a
     go {x} {y} (List·Memᴰ·tail m) a (List·Memᴰ·head q) b =
         let c = subst (λ (z : Delegation). AtMost e z) q b in
-        absurd (Before-irrefl e x (c .giver ∙ a .giver) (c .receiver ∙ a .receiver) (s .0 x m))
+        absurd (Before-irrefl e x (at-giver c ∙ at-giver a) (at-receiver c ∙ at-receiver a) (s .0 x m))
     go {x} {y} (List·Memᴰ·tail m) a (List·Memᴰ·tail n) b =
-        absurd (Before-irrefl d x (a .giver) (a .receiver) (Before-trans d e x (Before-pairs d y d e refl refl (sym (b .giver)) (sym (b .receiver)) (r .0 y n)) (s .0 x m)))
+        absurd (Before-irrefl d x (at-giver a) (at-receiver a) (Before-trans d e x (Before-pairs d y d e refl refl (sym (at-giver b)) (sym (at-receiver b)) (r .0 y n)) (s .0 x m)))
 
 rest-held : (d e : Delegation) (ds es : List Delegation) → Rising (d ∷ ds) → AtMost e d → Held (d ∷ ds) (e ∷ es) → Held ds es
 rest-held d e ds es r b h x m = go (h x (List·Memᴰ·tail m) .0) (h x (List·Memᴰ·tail m) .1) (h x (List·Memᴰ·tail m) .2)
@@ -117,7 +105,7 @@ rest-held d e ds es r b h x m = go (h x (List·Memᴰ·tail m) .0) (h x (List·M
     go y (List·Memᴰ·tail n) a = (y, n, a)
     go y (List·Memᴰ·head q) a =
         let c = subst (λ (z : Delegation). AtMost x z) q a in
-        absurd (Before-irrefl d x (sym (c .giver ∙ b .giver)) (sym (c .receiver ∙ b .receiver)) (r .0 x m))
+        absurd (Before-irrefl d x (sym (at-giver c ∙ at-giver b)) (sym (at-receiver c ∙ at-receiver b)) (r .0 x m))
 
 held-antisym : (ds es : List Delegation) → Rising ds → Rising es → Held ds es → Held es ds → ds ≡ es
 held-antisym [] [] r s h k = refl

@@ -3,11 +3,11 @@ use mathlib.Core.Path.{_≡_}
 use mathlib.Core.List.{[], _∷_, _++_}
 use Prim.Native.Nat.{ℕ, suc}
 use Rattle.rules.specs.Register.{Delegation, Register}
-use Rattle.rules.specs.Cut.{Cut, removal, lowering}
+use Rattle.rules.specs.Cut.{Change, cutting, removal, lowering}
 
 pub data Call : Type 0 where
   enrol : (marks : ℕ) → Call
-  grant : (giver receiver weight need bar : ℕ) → Call
+  grant : (delegation : Delegation) → Call
   revoke : (by giver receiver : ℕ) → Call
   downgrade : (by giver receiver weight : ℕ) → Call
   askReach : (giver receiver : ℕ) → Call
@@ -21,15 +21,11 @@ fresh = record { subjects = 1; marks = 0 ∷ []; delegations = [] }
 abbrev pub enrolled : Register → ℕ → Register
 enrolled R m = record { subjects = suc (R .subjects); marks = R .marks ++ (m ∷ []); delegations = R .delegations }
 
--- the delegation that a grant adds
-abbrev pub granted : ℕ → ℕ → ℕ → ℕ → ℕ → Delegation
-granted g r w n b = record { giver = g; receiver = r; weight = w; need = n; bar = b }
-
--- the call is this cut
-abbrev pub IsCut : Call → Cut → Type 0
-IsCut (enrol m) k = ⊥
-IsCut (grant g r w n b) k = ⊥
-IsCut (revoke y g r) k = k ≡ removal g r
-IsCut (downgrade y g r w) k = k ≡ lowering g r w
-IsCut (askReach g r) k = ⊥
-IsCut (askUse r) k = ⊥
+-- the call makes this change, and rounds follow
+abbrev pub Makes : Call → Change → Type 0
+Makes (enrol m) k = ⊥
+Makes (grant d) k = ⊥
+Makes (revoke y g r) k = k ≡ cutting (removal g r)
+Makes (downgrade y g r w) k = k ≡ cutting (lowering g r w)
+Makes (askReach g r) k = ⊥
+Makes (askUse r) k = ⊥

@@ -9,8 +9,8 @@ use Rattle.rules.specs.Register.{Delegation, Register, withDelegations}
 use Rattle.rules.specs.Reach.{reach}
 use Rattle.rules.specs.Pair.{receives}
 use Rattle.rules.specs.Round.{settle, rounds}
-use Rattle.rules.specs.Cut.{removal, lowering, named, dropped, lowered}
-use Rattle.rules.specs.Call.{Call, enrol, grant, revoke, downgrade, askReach, askUse, granted, enrolled}
+use Rattle.rules.specs.Cut.{removal, lowering, cutting, changed, dropped, lowered}
+use Rattle.rules.specs.Call.{Call, enrol, grant, revoke, downgrade, askReach, askUse, enrolled}
 use Rattle.rules.specs.Refusal.{refusalOf}
 
 -- the refusal number, 0 when accepted; the three answers; the register left
@@ -37,7 +37,7 @@ abbrev pub insert : Delegation → List Delegation → List Delegation
 insert d [] = d ∷ []
 insert d (e ∷ es) = cond (before d e) (d ∷ e ∷ es) (e ∷ insert d es)
 
--- a cut, from the register C after its named change
+-- what rounds answer and leave, from the register C after the change that they follow
 unfoldable pub cut : List ℤ → Register → Outcome
 cut t C =
     let s = settle t C in
@@ -46,11 +46,11 @@ cut t C =
 -- a call that is not refused
 unfoldable pub accepted : List ℤ → Register → Call → Outcome
 accepted t R (enrol m) = answered (pos (R .subjects)) (pos 0) (pos 0) (enrolled R m)
-accepted t R (grant g r w n b) =
-    let S = withDelegations R (insert (granted g r w n b) (R .delegations)) in
+accepted t R (grant d) =
+    let S = withDelegations R (insert d (R .delegations)) in
     answered (pos (length (S .delegations))) (pos 0) (pos 0) S
-accepted t R (revoke y g r) = cut t (named R (removal g r))
-accepted t R (downgrade y g r w) = cut t (named R (lowering g r w))
+accepted t R (revoke y g r) = cut t (changed R (cutting (removal g r)))
+accepted t R (downgrade y g r w) = cut t (changed R (cutting (lowering g r w)))
 accepted t R (askReach g r) = answered (reach t R g r) (pos 0) (pos 0) R
 accepted t R (askUse r) = answered (pos (cond (eqb r 0 || receives r (R .delegations)) 1 0)) (pos 0) (pos 0) R
 

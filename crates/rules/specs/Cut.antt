@@ -1,4 +1,4 @@
--- Cuts (document 01, 'Calls'): the named change, and the counts that compare the register C after it with the register F left. Assumes nothing.
+-- Cuts (document 01, 'Calls'): the named change, what rounds follow, and the counts that compare the register C after it with the register F left. Assumes nothing.
 use mathlib.Core.Bool.{Bool, cond, not, _&&_}
 use mathlib.Core.List.{map}
 use Prim.Native.Nat.{ℕ}
@@ -18,6 +18,13 @@ pub data Cut : Type 0 where
 unfoldable pub named : Register → Cut → Register
 named R (removal g r) = withDelegations R (filter (λ d. not (isPair g r d)) (R .delegations))
 named R (lowering g r w) = withDelegations R (map (λ d. cond (isPair g r d) (reweigh d w) d) (R .delegations))
+
+-- what a call changes before its rounds: a cut, its named change
+pub data Change : Type 0 where
+  cutting : Cut → Change
+
+abbrev pub changed : Register → Change → Register
+changed R (cutting k) = named R k
 
 abbrev pub isDropped : Register → Delegation → Bool
 isDropped F d = not (stands F (d .giver) (d .receiver))

@@ -5,10 +5,10 @@ use lib.ListN.{length, take, drop, replicate}
 use lib.IntN.{ℤ, pos}
 use Rattle.rules.specs.Limit.{none}
 use Rattle.rules.specs.Table.{steps}
-use Rattle.rules.specs.Register.{Delegation}
-use Rattle.rules.specs.Call.{Call, enrol, grant, revoke, downgrade, askReach, askUse, granted}
+use Rattle.rules.specs.Register.{Delegation, granted}
+use Rattle.rules.specs.Call.{Call, enrol, grant, revoke, downgrade, askReach, askUse}
 use Rattle.rules.specs.CallStep.{Outcome}
-use Rattle.rules.specs.Trace.{trace}
+use Rattle.rules.specs.History.{trace}
 
 -- an outcome as the program prints it: refusal and three answers
 pub record Line : Type 0 where
@@ -56,7 +56,7 @@ said e = record { refusals = replicate (length (e .given)) 0; printed = e .print
 -- ── the examples ──
 
 abbrev pub plain : ℕ → ℕ → ℕ → Call
-plain g r w = grant g r w 0 0
+plain g r w = grant (granted g r w 0 0)
 
 abbrev pub entry : ℕ → ℕ → ℕ → Delegation
 entry g r w = granted g r w 0 0
@@ -85,7 +85,7 @@ P2 = record {
 
 -- P3 where subject 4 has the marks m
 abbrev pub P3-given : ℕ → List Call
-P3-given m = enrol 0 ∷ enrol 0 ∷ enrol 1 ∷ enrol m ∷ grant 0 1 6 1 0 ∷ plain 0 2 3 ∷ plain 1 3 5 ∷ plain 2 3 2 ∷ []
+P3-given m = enrol 0 ∷ enrol 0 ∷ enrol 1 ∷ enrol m ∷ grant (granted 0 1 6 1 0) ∷ plain 0 2 3 ∷ plain 1 3 5 ∷ plain 2 3 2 ∷ []
 
 abbrev pub P3-standing : List Delegation
 P3-standing = needing 0 1 6 1 ∷ entry 0 2 3 ∷ entry 1 3 5 ∷ entry 2 3 2 ∷ []
@@ -101,7 +101,7 @@ P4 = record { given = P3-given 0 ++ (enrol 1 ∷ plain 3 5 4 ∷ []); calls = as
 
 abbrev pub P5 : Example
 P5 = record {
-  given = enrol 0 ∷ enrol 0 ∷ enrol 1 ∷ enrol 1 ∷ enrol 0 ∷ grant 0 1 6 1 0 ∷ plain 1 3 5 ∷ plain 0 2 7 ∷ plain 2 3 6 ∷ plain 3 5 5 ∷ plain 5 4 4 ∷ [];
+  given = enrol 0 ∷ enrol 0 ∷ enrol 1 ∷ enrol 1 ∷ enrol 0 ∷ grant (granted 0 1 6 1 0) ∷ plain 1 3 5 ∷ plain 0 2 7 ∷ plain 2 3 6 ∷ plain 3 5 5 ∷ plain 5 4 4 ∷ [];
   calls = downgrade 0 0 2 2 ∷ [];
   printed = line 0 (pos 1) (pos 2) (pos 3) ∷ [];
   standing = needing 0 1 6 1 ∷ entry 0 2 2 ∷ entry 1 3 5 ∷ entry 2 3 1 ∷ entry 3 5 0 ∷ [];
@@ -131,8 +131,8 @@ abbrev pub orders : List (Call × ℕ)
 orders =
     (plain 100 100 256, 2)
     ∷ (plain 4 4 256, 3)
-    ∷ (grant 0 0 5 0 65536, 4)
-    ∷ (grant 0 0 5 3 1, 4)
+    ∷ (grant (granted 0 0 5 0 65536), 4)
+    ∷ (grant (granted 0 0 5 3 1), 4)
     ∷ (plain 0 0 5, 5)
     ∷ (plain 7 0 5, 6)
     ∷ (plain 0 7 5, 9)

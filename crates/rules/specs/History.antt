@@ -1,31 +1,31 @@
 -- Demand 3 in its register form: one claim about a whole list of calls (document 01, 'Calls'). Assumes nothing.
 use mathlib.Core.Path.{_≡_}
-use mathlib.Core.List.{List, [], _∷_, map}
+use mathlib.Core.List.{List}
 use Prim.Native.Nat.{ℕ, suc}
 use lib.IntN.{ℤ, pos}
-use Rattle.rules.specs.List.{At}
 use Rattle.rules.specs.Register.{Register}
 use Rattle.rules.specs.Support.{Supported}
 use Rattle.rules.specs.Round.{SettlesIn}
-use Rattle.rules.specs.Cut.{Cut, named, dropped, lowered}
+use Rattle.rules.specs.Cut.{Change, changed, dropped, lowered}
 use Rattle.rules.specs.Remainder.{Best}
 use Rattle.rules.specs.WellFormed.{WellFormed}
-use Rattle.rules.specs.Call.{Call, fresh, IsCut}
+use Rattle.rules.specs.Call.{Call, fresh, Makes}
 use Rattle.rules.specs.CallStep.{Outcome, callStep}
-use Rattle.rules.specs.Trace.{registerAt}
+use Rattle.rules.specs.Trace.{traceFrom, stateFrom, AtEveryPlace, PlaceRight}
 
--- a call, and what was returned and left
-pub record Entry : Type 0 where
-  pub call : Call
-  pub outcome : Outcome
+-- ── the definitions followed down a list of calls from the fresh register ──
 
-abbrev pub calls : List Entry → List Call
-calls es = map (λ e. e .call) es
+abbrev pub leftBy : Outcome → Register
+leftBy o = o .left
 
--- each call was made on the register that the one before it left, the first on R
-abbrev pub History : List ℤ → Register → List Entry → Type 0
-History t R [] = Unit {0}
-History t R (e ∷ es) = (e .outcome ≡ callStep t R (e .call)) × History t (e .outcome .left) es
+abbrev pub trace : List ℤ → List Call → List Outcome
+trace t cs = traceFrom (callStep t) leftBy fresh cs
+
+-- S i: the register before call i, by the calls alone
+abbrev pub registerAt : List ℤ → List Call → ℕ → Register
+registerAt t cs i = stateFrom (callStep t) leftBy fresh cs i
+
+-- ── the demand ──
 
 -- what an accepted cut answers and leaves, from the register C after its named change: the best remainder; dropped and lowered, counted against it; the rounds, as many as change
 -- something and the one that changes nothing
@@ -35,13 +35,12 @@ pub record CutRight (t : List ℤ) (C : Register) (o : Outcome) : Type 0 where
   pub lowered : o .second ≡ pos (lowered C (o .left))
   pub rounds : (n : ℕ) × (o .third ≡ pos (suc n)) × SettlesIn t n C (o .left)
 
--- what holds of a call with its outcome at a place where the definitions lead to the register S
-pub record PlaceRight (t : List ℤ) (S : Register) (e : Entry) : Type 0 where
-  pub outcome : e .outcome ≡ callStep t S (e .call)
-  pub cut : (k : Cut) → IsCut (e .call) k → e .outcome .refusal ≡ 0 → CutRight t (named S k) (e .outcome)
+-- of a call on the register S: where it makes a change and is accepted, its outcome is right for that change
+abbrev pub CutsRight : List ℤ → Register → Call → Outcome → Type 0
+CutsRight t S c o = (k : Change) → Makes c k → o .refusal ≡ 0 → CutRight t (changed S k) o
 
 -- demand 3: at every place of every history; and every register that the definitions lead to is well formed and supported
 pub record Demand3 (t : List ℤ) : Type 0 where
-  pub places : (es : List Entry) → History t fresh es → (i : ℕ) (e : Entry) → At es i e → PlaceRight t (registerAt t (calls es) i) e
+  pub places : AtEveryPlace (callStep t) leftBy fresh (PlaceRight (callStep t) (CutsRight t))
   pub wellFormed : (cs : List Call) (i : ℕ) → WellFormed (registerAt t cs i)
   pub supported : (cs : List Call) (i : ℕ) → Supported t (registerAt t cs i)

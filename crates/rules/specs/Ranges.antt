@@ -21,7 +21,7 @@ CutInRange a b c = ((m : ℕ) × (n : ℕ) × (a ≡ pos m) × (b ≡ pos n) × 
 -- the first, second and third answer
 abbrev pub InRange : Call → ℤ → ℤ → ℤ → Type 0
 InRange (enrol m) a b c = FromTo 1 63 a × Unused b × Unused c
-InRange (grant g r w n bar) a b c = FromTo 1 256 a × Unused b × Unused c
+InRange (grant d) a b c = FromTo 1 256 a × Unused b × Unused c
 InRange (revoke y g r) a b c = CutInRange a b c
 InRange (downgrade y g r w) a b c = CutInRange a b c
 InRange (askReach g r) a b c = T (fromNone a) × (a ≼ pos 255) × Unused b × Unused c

@@ -12,7 +12,7 @@ use Rattle.rules.specs.Limit.{code}
 use Rattle.rules.specs.Register.{Delegation, Register}
 use Rattle.rules.specs.Support.{allowed}
 use Rattle.rules.specs.Pair.{isPair, weightAt, stands}
-use Rattle.rules.specs.Call.{Call, enrol, grant, revoke, downgrade, askReach, askUse, granted}
+use Rattle.rules.specs.Call.{Call, enrol, grant, revoke, downgrade, askReach, askUse}
 
 -- the number of the first that applies, or 0
 abbrev pub firstOf : List (ℕ × Bool) → ℕ
@@ -82,7 +82,8 @@ overweight t R ds = (16, any (λ d. ltb (code (allowed t R d)) (suc (d .weight))
 -- ── the lists of each call ──
 unfoldable pub passed : Call → List (ℕ × Bool)
 passed (enrol m) = noMarks m ∷ []
-passed (grant g r w n b) = noSubject (g ∷ r ∷ []) ∷ noWeight w ∷ noCondition n b ∷ equalPair g r ∷ toOwner r ∷ []
+passed (grant d) =
+    noSubject (d .giver ∷ d .receiver ∷ []) ∷ noWeight (d .weight) ∷ noCondition (d .need) (d .bar) ∷ equalPair (d .giver) (d .receiver) ∷ toOwner (d .receiver) ∷ []
 passed (revoke y g r) = noSubject (y ∷ g ∷ r ∷ []) ∷ equalPair g r ∷ toOwner r ∷ []
 passed (downgrade y g r w) = noSubject (y ∷ g ∷ r ∷ []) ∷ noWeight w ∷ equalPair g r ∷ toOwner r ∷ []
 passed (askReach g r) = noSubject (g ∷ r ∷ []) ∷ equalPair g r ∷ toOwner r ∷ []
@@ -90,7 +91,7 @@ passed (askUse r) = noSubject (r ∷ []) ∷ []
 
 unfoldable pub held : List ℤ → Register → Call → List (ℕ × Bool)
 held t R (enrol m) = allEnrolled R ∷ []
-held t R (grant g r w n b) = notEnrolled R (g ∷ r ∷ []) ∷ pairStands R g r ∷ allStand R ∷ overweight t R (granted g r w n b ∷ []) ∷ []
+held t R (grant d) = notEnrolled R (d .giver ∷ d .receiver ∷ []) ∷ pairStands R (d .giver) (d .receiver) ∷ allStand R ∷ overweight t R (d ∷ []) ∷ []
 held t R (revoke y g r) = notEnrolled R (y ∷ g ∷ r ∷ []) ∷ noPair R g r ∷ mayNot y g ∷ []
 held t R (downgrade y g r w) = notEnrolled R (y ∷ g ∷ r ∷ []) ∷ noPair R g r ∷ mayNot y g ∷ notBelow R g r w ∷ []
 held t R (askReach g r) = notEnrolled R (g ∷ r ∷ []) ∷ []

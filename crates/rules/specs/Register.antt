@@ -1,5 +1,5 @@
 -- Registers (document 01, 'Subjects, marks, weights'; source 004, section 3): one right of one owner, who is subject 0. Assumes nothing.
-use mathlib.Core.List.{List}
+use mathlib.Core.List.{List, [], _∷_}
 use Prim.Native.Nat.{ℕ}
 use lib.ListN.{getD}
 
@@ -20,6 +20,14 @@ pub record Register : Type 0 where
 abbrev pub marksOf : Register → ℕ → ℕ
 marksOf R v = getD (R .marks) v 0
 
+-- the delegation with these numbers
+abbrev pub granted : (giver receiver weight need bar : ℕ) → Delegation
+granted g r w n b = record { giver = g; receiver = r; weight = w; need = n; bar = b }
+
+-- its numbers
+abbrev pub fields : Delegation → List ℕ
+fields d = d .giver ∷ d .receiver ∷ d .weight ∷ d .need ∷ d .bar ∷ []
+
 -- the delegation at another weight
 abbrev pub reweigh : Delegation → ℕ → Delegation
 reweigh d w = record { giver = d .giver; receiver = d .receiver; weight = w; need = d .need; bar = d .bar }
@@ -30,4 +38,4 @@ withDelegations R ds = record { subjects = R .subjects; marks = R .marks; delega
 
 -- what is read where no delegation is
 abbrev pub noDelegation : Delegation
-noDelegation = record { giver = 0; receiver = 0; weight = 0; need = 0; bar = 0 }
+noDelegation = granted 0 0 0 0 0

@@ -4,15 +4,12 @@ use mathlib.Core.List.{List}
 use Prim.Native.Nat.{_≤_}
 use lib.IntN.{ℤ}
 use Rattle.rules.specs.List.{_∈_}
-use Rattle.rules.specs.Register.{Delegation, Register}
+use Rattle.rules.specs.Register.{Delegation, Register, reweigh}
 use Rattle.rules.specs.Support.{Carried}
 
 -- d is e but for the weight, which is at most as there
 pub record AtMost (d e : Delegation) : Type 0 where
-  pub giver : d .giver ≡ e .giver
-  pub receiver : d .receiver ≡ e .receiver
-  pub need : d .need ≡ e .need
-  pub bar : d .bar ≡ e .bar
+  pub same : d ≡ reweigh e (d .weight)
   pub weight : d .weight ≤ e .weight
 
 -- the same subjects and marks, and G holds each delegation of F at least as heavy

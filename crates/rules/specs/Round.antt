@@ -8,7 +8,7 @@ use lib.Dec.{eqb}
 use lib.IntN.{ℤ, pos, negsuc}
 use Rattle.rules.specs.List.{concatMap}
 use Rattle.rules.specs.Limit.{smaller}
-use Rattle.rules.specs.Register.{Delegation, Register, reweigh, withDelegations}
+use Rattle.rules.specs.Register.{Delegation, Register, fields, reweigh, withDelegations}
 use Rattle.rules.specs.Support.{allowed}
 
 -- the delegation at a weight; -1 removes it
@@ -37,9 +37,6 @@ equal [] [] = true
 equal [] (y ∷ ys) = false
 equal (x ∷ xs) [] = false
 equal (x ∷ xs) (y ∷ ys) = eqb x y && equal xs ys
-
-abbrev pub fields : Delegation → List ℕ
-fields d = d .giver ∷ d .receiver ∷ d .weight ∷ d .need ∷ d .bar ∷ []
 
 -- two lists of delegations are equal, as a test
 abbrev pub same : List Delegation → List Delegation → Bool

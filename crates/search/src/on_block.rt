@@ -18,9 +18,7 @@ pub fn starts_of(block: &[u8], starts: &mut [u16])
     requires { ⌜ (wellFormed (now block) ≡ true) × (length (now starts) ≡ startCount) ⌝ }
     ensures { λ _. ⌜ Starts (recordsIn (now (block .entry))) (now (starts .exit)) ⌝ }
 {
-    let n = block::count(block);
-    let end = layout::RECORDS_AT + layout::RECORD_SIZE * n;
-    runs::fill_starts(&block[layout::RECORDS_AT..end], starts);
+    runs::fill_starts(block::records(block), starts);
 }
 
 // The reach of every subject for a receiver, and the parents by which each is reached.
@@ -35,17 +33,8 @@ pub fn limits_for(
     requires { ⌜ Prepared (now table) (now block) (now starts) × (receiver < subjectsIn (now block)) × SubjectLists (now limits) (now parents) ⌝ }
     ensures { λ _. ⌜ Searched (now (table .entry)) (recordsIn (now (block .entry))) (marksOf (decode (now (block .entry))) receiver) (now (limits .exit)) (now (parents .exit)) ⌝ }
 {
-    let n = block::count(block);
     let marks = block::marks(block, receiver);
-    let end = layout::RECORDS_AT + layout::RECORD_SIZE * n;
-    search(
-        &block[layout::RECORDS_AT..end],
-        starts,
-        table,
-        marks,
-        limits,
-        parents,
-    );
+    search(block::records(block), starts, table, marks, limits, parents);
 }
 
 // The reach of one pair.

@@ -1,5 +1,5 @@
 -- The ways of an entry point: an answers buffer of another length, a call accepted, a call refused. Assumes nothing.
-use mathlib.Core.Path.{_≡_, refl, sym, ap, _∙_}
+use mathlib.Core.Path.{_≡_, refl, sym, ap, subst, _∙_}
 use mathlib.Core.Logic.{_≢_}
 use mathlib.Core.Bool.{Bool, cond}
 use mathlib.Core.List.{List}
@@ -9,15 +9,16 @@ use borrow.Author.Tests.{eq-eqb, ne-eqb}
 use lib.ListN.{length}
 use lib.IntN.{ℤ}
 use Rattle.rules.specs.Register.{Register}
-use Rattle.rules.specs.Cut.{Cut, named}
+use Rattle.rules.specs.Cut.{changed}
 use Rattle.rules.specs.Call.{Call}
+use Rattle.rules.specs.History.{CutRight}
 use Rattle.block.specs.Block.{decode}
 use Rattle.register.specs.CallOn.{Result, callOn, openOn}
 use Rattle.register.specs.Made.{result, Made, MadeOpen}
-use Rattle.register.specs.Cuts.{CutLeft, CutMade}
+use Rattle.register.specs.Cuts.{onRegister, CutMade}
 use Rattle.register.specs.declared.Answer.{Answer}
 use Rattle.seatreg.specs.Answers.{answerBytes}
-use Rattle.seatreg.specs.Entry.{handedOut, wrongAnswers, entryOf, entryOn, entryOpen, EntryMade, EntryOpened, EntryCutLeft, EntryCutMade, AnswersPut}
+use Rattle.seatreg.specs.Entry.{handedOut, wrongAnswers, entryOf, entryOn, entryOpen, EntryMade, EntryOpened, EntryCutRight, EntryCutMade, AnswersPut}
 
 -- ── what is handed out ──
 module _ (o : Answer) (a : List ℕ) where
@@ -32,8 +33,15 @@ module _ (o : Answer) (a : List ℕ) where
   accepted-bytes n a' h z = h .1 ∙ ap (λ (x : Bool). cond x (answerBytes (o .first) (o .second) (o .third)) a) (eq-eqb (o .refusal) 0 (sym (h .0) ∙ z))
 
 -- an accepted cut's answers as bytes
-pub cut-left : (t : List ℤ) (C : Register) (o : Answer) (b' a' : List ℕ) → CutLeft t C o b' → a' ≡ answerBytes (o .first) (o .second) (o .third) → EntryCutLeft t C b' a'
-cut-left t C o b' a' d e = record { best = d .best; counts = (d .rounds .0, d .rounds .2, e ∙ (λ i. answerBytes (d .dropped i) (d .lowered i) (d .rounds .1 i))) }
+cut-left : (t : List ℤ) (C : Register) (o : Answer) (n : ℕ) (b' a' : List ℕ) → o .refusal ≡ 0 → CutRight t C (onRegister (result o b')) → a' ≡ answerBytes (o .first) (o .second) (o .third)
+    → EntryCutRight t C record { refusal = n; block = b'; answers = a' }
+cut-left t C o n b' a' z d e = record {
+  first = o .first;
+  second = o .second;
+  third = o .third;
+  bytes = e;
+  right = subst (λ (x : ℕ). CutRight t C record { refusal = x; first = o .first; second = o .second; third = o .third; left = decode b' }) z d;
+}
 
 -- ── of any library call with the result r ──
 module _ (r : Result) (b a : List ℕ) where
@@ -60,12 +68,14 @@ module _ (b a : List ℕ) where
     unfolding entryOn
     made l o b' e n a' h = made-of (callOn t b c) b a l o b' e n a' h
 
-    module _ (k : Cut) where
-      pub cut-short : length a ≢ 12 → EntryCutMade t c k b a 1 b a
-      cut-short n = (short n, λ z. absurd (omega arith))
+    pub cut-short : length a ≢ 12 → EntryCutMade t c b a 1 b a
+    cut-short n = record { outcome = short n; cut = λ k i z. absurd (omega arith) }
 
-      pub cut-made : length a ≡ 12 → (o : Answer) (b' : List ℕ) → CutMade t c k b o b' → (n : ℕ) (a' : List ℕ) → AnswersPut o a n a' → EntryCutMade t c k b a n b' a'
-      cut-made l o b' m n a' h = (made l o b' (m .0) n a' h, λ z. cut-left t (named (decode b) k) o b' a' (m .1 (sym (h .0) ∙ z)) (accepted-bytes o a n a' h z))
+    pub cut-made : length a ≡ 12 → (o : Answer) (b' : List ℕ) → CutMade t c b o b' → (n : ℕ) (a' : List ℕ) → AnswersPut o a n a' → EntryCutMade t c b a n b' a'
+    cut-made l o b' m n a' h = record {
+      outcome = made l o b' (m .outcome) n a' h;
+      cut = λ k i z. let y = sym (h .0) ∙ z in cut-left t (changed (decode b) k) o n b' a' y (m .cut k i y) (accepted-bytes o a n a' h z);
+    }
 
   pub open-short : length a ≢ 12 → EntryOpened b a 1 b a
   unfolding entryOpen

@@ -52,7 +52,7 @@ cut-fits a b c ((m, n, x, y, h), r) = (rw x (omega arith), rw y (omega arith), r
 
 all-fit : (d : Call) (a b c : ℤ) → InRange d a b c → AllFit32 a b c
 all-fit (enrol m) a b c (r, y, z) = (range-fits (omega arith) r, unused-fits y, unused-fits z)
-all-fit (grant g r w n bar) a b c (k, y, z) = (range-fits (omega arith) k, unused-fits y, unused-fits z)
+all-fit (grant d) a b c (k, y, z) = (range-fits (omega arith) k, unused-fits y, unused-fits z)
 all-fit (revoke y g r) a b c h = cut-fits a b c h
 all-fit (downgrade y g r w) a b c h = cut-fits a b c h
 all-fit (askReach g r) a b c (f, h, y, z) = (reach-fits a f h, unused-fits y, unused-fits z)

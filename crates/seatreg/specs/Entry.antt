@@ -2,15 +2,16 @@
 use mathlib.Core.Path.{_≡_}
 use mathlib.Core.Bool.{cond}
 use mathlib.Core.List.{List}
-use Prim.Native.Nat.{ℕ, suc}
+use Prim.Native.Nat.{ℕ}
 use lib.Dec.{eqb}
 use lib.ListN.{length}
-use lib.IntN.{ℤ, pos}
+use lib.IntN.{ℤ}
 use Rattle.rules.specs.Register.{Register}
-use Rattle.rules.specs.Round.{SettlesIn}
-use Rattle.rules.specs.Cut.{Cut, named, dropped, lowered}
-use Rattle.rules.specs.Remainder.{Best}
-use Rattle.rules.specs.Call.{Call}
+use Rattle.rules.specs.Cut.{Change, changed}
+use Rattle.rules.specs.Call.{Call, Makes}
+use Rattle.rules.specs.CallStep.{answered}
+use Rattle.rules.specs.Trace.{PlaceRight}
+use Rattle.rules.specs.History.{CutRight}
 use Rattle.block.specs.Block.{decode}
 use Rattle.register.specs.CallOn.{Result, callOn, openOn}
 use Rattle.register.specs.declared.Answer.{Answer}
@@ -54,14 +55,29 @@ EntryMade t c b a n b' a' = record { refusal = n; block = b'; answers = a' } ≡
 abbrev pub EntryOpened : List ℕ → List ℕ → ℕ → List ℕ → List ℕ → Type 0
 EntryOpened b a n b' a' = record { refusal = n; block = b'; answers = a' } ≡ entryOpen b a
 
--- what an accepted cut leaves in both buffers: C is the register after its named change, and n rounds change something
-pub record EntryCutLeft (t : List ℤ) (C : Register) (b' a' : List ℕ) : Type 0 where
-  pub best : Best t C (decode b')
-  pub counts : (n : ℕ) × SettlesIn t n C (decode b') × (a' ≡ answerBytes (pos (dropped C (decode b'))) (pos (lowered C (decode b'))) (pos (suc n)))
+-- what an accepted cut leaves in both buffers: C is the register after its named change, and the bytes are those of three answers that are right for it
+pub record EntryCutRight (t : List ℤ) (C : Register) (r : Returned) : Type 0 where
+  pub first : ℤ
+  pub second : ℤ
+  pub third : ℤ
+  pub bytes : r .answers ≡ answerBytes first second third
+  pub right : CutRight t C (answered first second third (decode (r .block)))
 
--- of a call c that is the cut k
-abbrev pub EntryCutMade : List ℤ → Call → Cut → List ℕ → List ℕ → ℕ → List ℕ → List ℕ → Type 0
-EntryCutMade t c k b a n b' a' = EntryMade t c b a n b' a' × (n ≡ 0 → EntryCutLeft t (named (decode b) k) b' a')
+-- what an entry point is passed besides the block: its call, and the answers buffer
+pub record EntryCall : Type 0 where
+  pub call : Call
+  pub answers : List ℕ
+
+abbrev pub entryStep : List ℤ → List ℕ → EntryCall → Returned
+entryStep t b e = entryOn t b (e .answers) (e .call)
+
+-- of a call on the block b: where it makes a change and is accepted, both buffers are right for that change of the register that b holds
+abbrev pub EntryCutsRight : List ℤ → List ℕ → EntryCall → Returned → Type 0
+EntryCutsRight t b e r = (k : Change) → Makes (e .call) k → r .refusal ≡ 0 → EntryCutRight t (changed (decode b) k) r
+
+-- `EntryMade`, and that: what demand 3 claims of a place, at the block that the call was handed
+abbrev pub EntryCutMade : List ℤ → Call → List ℕ → List ℕ → ℕ → List ℕ → List ℕ → Type 0
+EntryCutMade t c b a n b' a' = PlaceRight (entryStep t) (EntryCutsRight t) b record { call = c; answers = a } record { refusal = n; block = b'; answers = a' }
 
 -- what the function that hands out an answer promises: its number is returned, its answers are put into the buffer when it is accepted
 abbrev pub AnswersPut : Answer → List ℕ → ℕ → List ℕ → Type 0

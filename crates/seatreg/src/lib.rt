@@ -2,7 +2,7 @@
 mod answers;
 
 ghost use Rattle.rules.specs.Table.{steps};
-ghost use Rattle.rules.specs.Cut.{removal, lowering};
+ghost use Rattle.rules.specs.Register.{granted};
 ghost use Rattle.rules.specs.Call.{enrol, grant, revoke, downgrade, askReach, askUse};
 ghost use Rattle.seatreg.specs.Entry.{EntryMade, EntryOpened, EntryCutMade};
 use rules::refusal;
@@ -42,7 +42,7 @@ pub extern "C" fn seatreg_grant(
     bar: u32,
     answers: &mut [u8],
 ) -> u32
-    ensures { λ r. ⌜ EntryMade steps (grant giver receiver weight need bar) (now (block .entry)) (now (answers .entry)) r (now (block .exit)) (now (answers .exit)) ⌝ }
+    ensures { λ r. ⌜ EntryMade steps (grant (granted giver receiver weight need bar)) (now (block .entry)) (now (answers .entry)) r (now (block .exit)) (now (answers .exit)) ⌝ }
 {
     if answers.len() != answers::ANSWERS_SIZE {
         return refusal::WRONG_LENGTH;
@@ -60,7 +60,7 @@ pub extern "C" fn seatreg_revoke(
     receiver: u32,
     answers: &mut [u8],
 ) -> u32
-    ensures { λ r. ⌜ EntryCutMade steps (revoke by giver receiver) (removal giver receiver) (now (block .entry)) (now (answers .entry)) r (now (block .exit)) (now (answers .exit)) ⌝ }
+    ensures { λ r. ⌜ EntryCutMade steps (revoke by giver receiver) (now (block .entry)) (now (answers .entry)) r (now (block .exit)) (now (answers .exit)) ⌝ }
 {
     if answers.len() != answers::ANSWERS_SIZE {
         return refusal::WRONG_LENGTH;
@@ -79,7 +79,7 @@ pub extern "C" fn seatreg_downgrade(
     weight: u32,
     answers: &mut [u8],
 ) -> u32
-    ensures { λ r. ⌜ EntryCutMade steps (downgrade by giver receiver weight) (lowering giver receiver weight) (now (block .entry)) (now (answers .entry)) r (now (block .exit)) (now (answers .exit)) ⌝ }
+    ensures { λ r. ⌜ EntryCutMade steps (downgrade by giver receiver weight) (now (block .entry)) (now (answers .entry)) r (now (block .exit)) (now (answers .exit)) ⌝ }
 {
     if answers.len() != answers::ANSWERS_SIZE {
         return refusal::WRONG_LENGTH;

@@ -1,6 +1,6 @@
 -- `callfile::write_answer` makes a call and writes its answers. Assumes nothing.
 use native.Mathlib.Omega.{arith}
-use Rattle.callfile.specs.Row.{callOfRow}
+use Rattle.callfile.specs.Row.{madeOfRow}
 use Rattle.callfile.proofs.Answers.{wide, answer-room, answered}
 use borrow.Author.Needs.{needs}
 use Rattle.callfile.proofs.write_answer.Statement.{statement}
@@ -43,7 +43,7 @@ returns c =
     let o = c .before .before .before .before .before .before .before .before .before .before .before .before .before .before .call in
     let w = c .before .before .write-line in
     let t = c .before .before .before .before .before .struct-told3 .given in
-    answered (o .result) (omega (arith, t)) record { sfits = omega (arith, t) } record { sfits = omega (arith, t) } record { sfits = omega (arith, t) } (callOfRow (s .args .r)) (s .args .block .now) (s .args .out .now) (s .args .at) (w .result) (o .last .0) (w .last .0) (o .ensures .made (s .pre .0)) (w .ensures)
+    answered (o .result) (omega (arith, t)) record { sfits = omega (arith, t) } record { sfits = omega (arith, t) } record { sfits = omega (arith, t) } (madeOfRow (s .args .r)) (s .args .block .now) (s .args .out .now) (s .args .at) (w .result) (o .last .0) (w .last .0) (o .ensures .made (s .pre .0)) (w .ensures)
 
 pub write-answer-spec : {M : Type 1} → statement M
 write-answer-spec =

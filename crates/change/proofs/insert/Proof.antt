@@ -1,134 +1,63 @@
 -- `change::insert` adds the delegation at its place. Assumes nothing.
+use borrow.Author.Needs.{needs}
 use mathlib.Core.Bool.{not}
-use Prim.Native.Nat.{_≤_}
 use native.Mathlib.Omega.{arith}
-use lib.ListN.{drop}
-use Rattle.rules.specs.Call.{granted}
+use Rattle.rules.specs.Register.{granted}
 use Rattle.rules.specs.CallStep.{before}
-use Rattle.block.specs.Block.{delegationIn}
+use Rattle.block.specs.Bytes.{IsBytes}
 use Rattle.block.proofs.Bytes.{fits-bytes}
-use Rattle.block.proofs.Held.{leading-read, size-held, count-most}
-use Rattle.change.proofs.Changing.{insert-held}
+use Rattle.block.proofs.Held.{has-head, has-records}
+use Rattle.change.proofs.Changing.{Among, among, insert-held}
 use Rattle.change.proofs.insert.Statement.{statement}
 use Rattle.change.proofs.insert.Tie as tie
 
+bytes : (c : tie.After-slice-known) → IsBytes (c .before .args .b .now)
+bytes c = fits-bytes (c .before .args .b .now) (c .slice-known .given)
+
+-- the place among the records that stand
+known : (c : tie.After-place) → Among (c .before .before .before .before .before .args .b .now) (c .before .before .count .result) (c .place .result)
+known c =
+    let s = c .before .before .before .before .before in
+    among (s .args .b .now) (bytes (c .before .before .before .before)) (s .pre .0) (λ d. not (before (granted (s .args .giver) (s .args .receiver) 0 0 0) d)) (c .before .before .count .result) (c .place .result) (c .before .before .count .ensures) (c .place .ensures)
+
 count-requires : tie.Need-count-requires
-count-requires c κs = omega (arith, size-held (c .before .before .args .b .now) (fits-bytes (c .before .before .args .b .now) (c .before .slice-known .given)) (c .before .before .pre .0))
+count-requires c κs = has-head (c .before .before .args .b .now) (bytes (c .before)) (c .before .before .pre .0)
 
 place-requires : tie.Need-place-requires
-place-requires c κs =
-    let s = c .before .before .before .before in
-    let a = s .args in
-    let b = a .b .now in
-    let bytes = fits-bytes b (c .before .before .before .slice-known .given) in
-    omega (arith, size-held b bytes (s .pre .0), count-most b bytes (s .pre .0), c .before .count .ensures)
+place-requires c κs = rw (c .before .count .ensures) (has-records (c .before .before .before .before .args .b .now) (bytes (c .before .before .before)) (c .before .before .before .before .pre .0))
 
-mul-at : tie.Need-mul-at
-mul-at c =
-    let s = c .before .before .before .before .before in
-    let a = s .args in
-    let b = a .b .now in
-    let bytes = fits-bytes b (c .before .before .before .before .slice-known .given) in
-    let at-count = c .before .before .count in
-    let at-place = c .place in
-    let k : at-place .result ≤ at-count .result = rw (at-place .ensures) (leading-read (λ e. not (before (granted (a .giver) (a .receiver) 0 0 0) e)) delegationIn 8 (drop 132 b) (at-count .result)) in
-    omega (arith, count-most b bytes (s .pre .0), at-count .ensures)
+record-place-requires : tie.Need-record-place-requires
+record-place-requires c κs = let p = known c in omega arith
 
-add-at : tie.Need-add-at
-add-at c =
-    let s = c .before .before .before .before .before in
-    let a = s .args in
-    let b = a .b .now in
-    let bytes = fits-bytes b (c .before .before .before .before .slice-known .given) in
-    let at-count = c .before .before .count in
-    let at-place = c .place in
-    let k : at-place .result ≤ at-count .result = rw (at-place .ensures) (leading-read (λ e. not (before (granted (a .giver) (a .receiver) 0 0 0) e)) delegationIn 8 (drop 132 b) (at-count .result)) in
-    omega (arith, count-most b bytes (s .pre .0), at-count .ensures)
-
-mul-shift-up : tie.Need-mul-shift-up
-mul-shift-up c =
-    let s = c .before .before .before .before .before .before in
-    let a = s .args in
-    let b = a .b .now in
-    let bytes = fits-bytes b (c .before .before .before .before .before .slice-known .given) in
-    let at-count = c .before .before .before .count in
-    omega (arith, count-most b bytes (s .pre .0), at-count .ensures)
-
-add-shift-up : tie.Need-add-shift-up
-add-shift-up c =
-    let s = c .before .before .before .before .before .before in
-    let a = s .args in
-    let b = a .b .now in
-    let bytes = fits-bytes b (c .before .before .before .before .before .slice-known .given) in
-    let at-count = c .before .before .before .count in
-    omega (arith, count-most b bytes (s .pre .0), at-count .ensures)
+record-place-requires-2 : tie.Need-record-place-requires-2
+record-place-requires-2 c κs = search needs
 
 shift-up-requires : tie.Need-shift-up-requires
-shift-up-requires c κs =
-    let s = c .before .before .before .before .before .before in
-    let a = s .args in
-    let b = a .b .now in
-    let bytes = fits-bytes b (c .before .before .before .before .before .slice-known .given) in
-    let at-count = c .before .before .before .count in
-    let at-place = c .before .place in
-    let k : at-place .result ≤ at-count .result = rw (at-place .ensures) (leading-read (λ e. not (before (granted (a .giver) (a .receiver) 0 0 0) e)) delegationIn 8 (drop 132 b) (at-count .result)) in
-    omega (arith, size-held b bytes (s .pre .0), count-most b bytes (s .pre .0), at-count .ensures)
+shift-up-requires c κs = let p = known (c .before .before .before) in omega (arith, c .record-place2 .ensures, c .before .before .record-place .ensures)
 
 put-record-requires : tie.Need-put-record-requires
-put-record-requires c κs =
-    let s = c .before .before .before .before .before .before .before .before .before .before in
-    let a = s .args in
-    let b = a .b .now in
-    let bytes = fits-bytes b (c .before .before .before .before .before .before .before .before .before .slice-known .given) in
-    let at-count = c .before .before .before .before .before .before .before .count in
-    let at-place = c .before .before .before .before .before .place in
-    let at-shift-up = c .before .before .before .shift-up in
-    let k : at-place .result ≤ at-count .result = rw (at-place .ensures) (leading-read (λ e. not (before (granted (a .giver) (a .receiver) 0 0 0) e)) delegationIn 8 (drop 132 b) (at-count .result)) in
-    omega (arith, size-held b bytes (s .pre .0), count-most b bytes (s .pre .0), at-count .ensures, at-shift-up .kept .0)
+put-record-requires c κs = let p = known (c .before .before .before .before .before .before .before) in omega (arith, c .before .before .before .before .before .before .record-place .ensures, c .before .before .before .shift-up .kept .0)
 
 add-put-two : tie.Need-add-put-two
-add-put-two c =
-    let s = c .before .before .before .before .before .before .before .before .before .before .before .before .before .before in
-    let a = s .args in
-    let b = a .b .now in
-    let bytes = fits-bytes b (c .before .before .before .before .before .before .before .before .before .before .before .before .before .slice-known .given) in
-    let at-count = c .before .before .before .before .before .before .before .before .before .before .before .count in
-    omega (arith, count-most b bytes (s .pre .0), at-count .ensures)
+add-put-two c = search needs
 
 cast-put-two : tie.Need-cast-put-two
-cast-put-two c =
-    let s = c .before .before .before .before .before .before .before .before .before .before .before .before .before .before in
-    let a = s .args in
-    let b = a .b .now in
-    let bytes = fits-bytes b (c .before .before .before .before .before .before .before .before .before .before .before .before .before .slice-known .given) in
-    let at-count = c .before .before .before .before .before .before .before .before .before .before .before .count in
-    omega (arith, count-most b bytes (s .pre .0), at-count .ensures)
+cast-put-two c = search needs
 
 put-two-requires : tie.Need-put-two-requires
-put-two-requires c κs =
-    let s = c .before .before .before .before .before .before .before .before .before .before .before .before .before .before in
-    let a = s .args in
-    let b = a .b .now in
-    let bytes = fits-bytes b (c .before .before .before .before .before .before .before .before .before .before .before .before .before .slice-known .given) in
-    let at-shift-up = c .before .before .before .before .before .before .before .shift-up in
-    let at-put-record = c .before .before .before .put-record in
-    omega (arith, size-held b bytes (s .pre .0), at-put-record .kept .0, at-shift-up .kept .0)
+put-two-requires c κs = let p = known (c .before .before .before .before .before .before .before .before .before .before .before) in omega (arith, c .before .before .before .put-record .kept .0, c .before .before .before .before .before .before .before .shift-up .kept .0)
 
 same-length : tie.Need-same-length
-same-length c = omega (arith, c .before .before .put-two .kept .0, c .before .before .before .before .before .before .put-record .kept .0, c .before .before .before .before .before .before .before .before .before .before .shift-up .kept .0)
+same-length c = search needs
 
 returns : tie.Need-returns
 returns c =
-    let s = c .before .before .before .before .before .before .before .before .before .before .before .before .before .before .before .before .before in
+    let p = c .before .before .before .before .before .before .before .before .before .before .before .before .before .before in
+    let n = p .before .before .count in
+    let s = p .before .before .before .before .before in
     let a = s .args in
-    let b = a .b .now in
-    let bytes = fits-bytes b (c .before .before .before .before .before .before .before .before .before .before .before .before .before .before .before .before .slice-known .given) in
-    let at-count = c .before .before .before .before .before .before .before .before .before .before .before .before .before .before .count in
-    let at-place = c .before .before .before .before .before .before .before .before .before .before .before .before .place in
-    let at-shift-up = c .before .before .before .before .before .before .before .before .before .before .shift-up in
-    let at-put-record = c .before .before .before .before .before .before .put-record in
-    let at-put-two = c .before .before .put-two in
-    rw (at-put-two .ensures, at-put-record .ensures, at-shift-up .ensures, at-count .ensures) (insert-held b bytes (s .pre .0) (granted (a .giver) (a .receiver) (a .weight) (a .need) (a .bar)) (at-place .result) (s .pre .1) (rw (← at-count .ensures) (at-place .ensures)))
+    rw (c .before .before .put-two .ensures, c .before .before .before .before .before .before .put-record .ensures, c .before .before .before .before .before .before .before .before .before .before .shift-up .ensures, c .before .before .before .before .before .before .before .before .before .before .before .record-place2 .ensures, c .before .before .before .before .before .before .before .before .before .before .before .before .before .record-place .ensures)
+    (insert-held (a .b .now) (bytes (p .before .before .before .before)) (s .pre .0) (n .result) (n .ensures) (granted (a .giver) (a .receiver) (a .weight) (a .need) (a .bar)) (p .place .result) (rw (n .ensures) (s .pre .1)) (p .place .ensures))
 
 pub insert-spec : {M : Type 1} → statement M
 insert-spec =
@@ -136,10 +65,8 @@ insert-spec =
     (tie.spec
     count-requires
     place-requires
-    mul-at
-    add-at
-    mul-shift-up
-    add-shift-up
+    record-place-requires
+    record-place-requires-2
     shift-up-requires
     put-record-requires
     add-put-two

@@ -1,85 +1,57 @@
 -- `change::set_weight` sets the weight of the pair's delegation. Assumes nothing.
-use mathlib.Core.Path.{_≡_, refl}
-use Prim.Native.Nat.{_+_, _*_, _<_}
+use borrow.Author.Needs.{needs}
+use mathlib.Core.Bool.{not}
+use Prim.Native.Nat.{_<_}
 use native.Mathlib.Omega.{arith}
-use lib.ListN.{length-set}
-use Rattle.rules.specs.CallStep.{before}
+use Rattle.rules.specs.Pair.{isPair}
+use Rattle.block.specs.Bytes.{IsBytes}
 use Rattle.block.proofs.Bytes.{fits-bytes}
-use Rattle.block.proofs.Held.{size-held, count-most, found-stands}
-use Rattle.change.proofs.Changing.{lower-held}
+use Rattle.block.proofs.Held.{has-head, has-records}
+use Rattle.change.proofs.Changing.{Among, among, place-below, lower-held}
 use Rattle.change.proofs.set_weight.Statement.{statement}
 use Rattle.change.proofs.set_weight.Tie as tie
 
+bytes : (c : tie.After-slice-known) → IsBytes (c .before .args .b .now)
+bytes c = fits-bytes (c .before .args .b .now) (c .slice-known .given)
+
+-- the place among the records that stand
+known : (c : tie.After-find) → Among (c .before .before .before .before .before .args .b .now) (c .before .before .count .result) (c .find .result)
+known c =
+    let s = c .before .before .before .before .before in
+    among (s .args .b .now) (bytes (c .before .before .before .before)) (s .pre .0) (λ d. not (isPair (s .args .giver) (s .args .receiver) d)) (c .before .before .count .result) (c .find .result) (c .before .before .count .ensures) (c .find .ensures)
+
+below : (c : tie.After-find) → c .find .result < c .before .before .count .result
+below c =
+    let s = c .before .before .before .before .before in
+    place-below (s .args .b .now) (bytes (c .before .before .before .before)) (s .pre .0) (c .before .before .count .result) (c .before .before .count .ensures) (s .args .giver) (s .args .receiver) (c .find .result) (c .find .ensures) (s .pre .1)
+
 count-requires : tie.Need-count-requires
-count-requires c κs = omega (arith, size-held (c .before .before .args .b .now) (fits-bytes (c .before .before .args .b .now) (c .before .slice-known .given)) (c .before .before .pre .0))
+count-requires c κs = has-head (c .before .before .args .b .now) (bytes (c .before)) (c .before .before .pre .0)
 
 find-requires : tie.Need-find-requires
-find-requires c κs =
-    let s = c .before .before .before .before in
-    let a = s .args in
-    let b = a .b .now in
-    let bytes = fits-bytes b (c .before .before .before .slice-known .given) in
-    omega (arith, size-held b bytes (s .pre .0), count-most b bytes (s .pre .0), c .before .count .ensures)
+find-requires c κs = rw (c .before .count .ensures) (has-records (c .before .before .before .before .args .b .now) (bytes (c .before .before .before)) (c .before .before .before .before .pre .0))
 
-mul-b : tie.Need-mul-b
-mul-b c =
-    let s = c .before .before .before .before .before in
-    let a = s .args in
-    let b = a .b .now in
-    let bytes = fits-bytes b (c .before .before .before .before .slice-known .given) in
-    let at-count = c .before .before .count in
-    let at-find = c .find in
-    let k : at-find .result < at-count .result = rw (at-count .ensures) (found-stands b bytes (s .pre .0) (a .giver) (a .receiver) (at-find .result) (rw (← at-count .ensures) (at-find .ensures)) (s .pre .1)) in
-    omega (arith, count-most b bytes (s .pre .0), at-count .ensures)
+record-place-requires : tie.Need-record-place-requires
+record-place-requires c κs = let p = known c in omega arith
 
 add-b : tie.Need-add-b
-add-b c =
-    let s = c .before .before .before .before .before in
-    let a = s .args in
-    let b = a .b .now in
-    let bytes = fits-bytes b (c .before .before .before .before .slice-known .given) in
-    let at-count = c .before .before .count in
-    let at-find = c .find in
-    let k : at-find .result < at-count .result = rw (at-count .ensures) (found-stands b bytes (s .pre .0) (a .giver) (a .receiver) (at-find .result) (rw (← at-count .ensures) (at-find .ensures)) (s .pre .1)) in
-    omega (arith, count-most b bytes (s .pre .0), at-count .ensures)
-
-add-b-2 : tie.Need-add-b-2
-add-b-2 c =
-    let s = c .before .before .before .before .before in
-    let a = s .args in
-    let b = a .b .now in
-    let bytes = fits-bytes b (c .before .before .before .before .slice-known .given) in
-    let at-count = c .before .before .count in
-    let at-find = c .find in
-    let k : at-find .result < at-count .result = rw (at-count .ensures) (found-stands b bytes (s .pre .0) (a .giver) (a .receiver) (at-find .result) (rw (← at-count .ensures) (at-find .ensures)) (s .pre .1)) in
-    omega (arith, count-most b bytes (s .pre .0), at-count .ensures)
+add-b c = let p = known (c .before) in omega (arith, c .record-place .ensures)
 
 slice-write-b : tie.Need-slice-write-b
-slice-write-b c =
-    let s = c .before .before .before .before .before in
-    let a = s .args in
-    let b = a .b .now in
-    let bytes = fits-bytes b (c .before .before .before .before .slice-known .given) in
-    let at-count = c .before .before .count in
-    let at-find = c .find in
-    let k : at-find .result < at-count .result = rw (at-count .ensures) (found-stands b bytes (s .pre .0) (a .giver) (a .receiver) (at-find .result) (rw (← at-count .ensures) (at-find .ensures)) (s .pre .1)) in
-    omega (arith, size-held b bytes (s .pre .0), count-most b bytes (s .pre .0), at-count .ensures)
+slice-write-b c = let p = known (c .before) in omega (arith, below (c .before), c .record-place .ensures)
 
 same-length : tie.Need-same-length
-same-length c = simp length-set refl
+same-length c = search needs
 
 returns : tie.Need-returns
 returns c =
-    let s = c .before .before .before .before .before in
+    let p = c .before in
+    let n = p .before .before .count in
+    let s = p .before .before .before .before .before in
     let a = s .args in
-    let b = a .b .now in
-    let bytes = fits-bytes b (c .before .before .before .before .slice-known .given) in
-    let at-count = c .before .before .count in
-    let at-find = c .find in
-    let e : 132 + 8 * at-find .result + 2 ≡ 134 + 8 * at-find .result = omega arith in
-    rw e (lower-held b bytes (s .pre .0) (a .giver) (a .receiver) (at-find .result) (rw (← at-count .ensures) (at-find .ensures)) (a .weight) (s .pre .1))
+    rw (c .record-place .ensures) (lower-held (a .b .now) (bytes (p .before .before .before .before)) (s .pre .0) (n .result) (n .ensures) (a .giver) (a .receiver) (p .find .result) (p .find .ensures) (s .pre .1) (a .weight))
 
 pub set-weight-spec : {M : Type 1} → statement M
 set-weight-spec =
     tie.close
-    (tie.spec count-requires find-requires mul-b add-b add-b-2 slice-write-b same-length returns)
+    (tie.spec count-requires find-requires record-place-requires add-b slice-write-b same-length returns)

@@ -9,7 +9,6 @@ use Rattle.rules.specs.Table.{steps}
 use Rattle.block.specs.Bytes.{IsBytes}
 use Rattle.block.proofs.Bytes.{fits-bytes}
 use Rattle.refusals.proofs.EarlyTests.{Through, through}
-use Rattle.refusals.proofs.Within.{within}
 use Rattle.register.proofs.Enrolling.{enrol-done, enrol-room}
 use Rattle.register.proofs.Made.{made-refused}
 use Rattle.register.proofs.enrol.Statement.{statement}
@@ -26,7 +25,7 @@ bytes : (c : tie.Else1) → IsBytes (start c .args .block .now)
 bytes c = fits-bytes (start c .args .block .now) (c .before .before .before .slice-known .given)
 
 past : (c : tie.Else1) → Through steps (start c .args .block .now) (call (start c))
-past c = through steps (start c .args .block .now) (call (start c)) (sym (c .before .enrol-refusal .ensures) ∙ c .if1 .left)
+past c = through steps (start c .args .block .now) (call (start c)) (sym (c .before .enrol-refusal .ensures steps) ∙ c .if1 .left)
 
 -- ── the needs ──
 enrol-refusal-requires : tie.Need-enrol-refusal-requires
@@ -41,13 +40,13 @@ same-length c = search needs
 returns : tie.Need-returns
 returns c =
     let s = c .before .before .before .before .before in
-    rw (c .refused .ensures) (made-refused steps (call s) (s .args .block .now) (c .before .before .enrol-refusal .result) (c .before .before .enrol-refusal .ensures) (c .before .if1 .taken))
+    rw (c .refused .ensures) (made-refused steps (call s) (s .args .block .now) (c .before .before .enrol-refusal .result) (c .before .before .enrol-refusal .ensures steps) (c .before .if1 .taken))
 
 subjects-requires : tie.Need-subjects-requires
 subjects-requires c κs = omega (arith, past (c .before) .early .size)
 
 cast-add-subject : tie.Need-cast-add-subject
-cast-add-subject c = let e = c .before .before .before in omega (arith, within (call (start e)) (past e .early .passed))
+cast-add-subject c = let e = c .before .before .before in omega (arith, past e .numbers)
 
 add-subject-requires : tie.Need-add-subject-requires
 add-subject-requires c κs =

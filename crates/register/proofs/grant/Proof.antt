@@ -1,116 +1,23 @@
--- `register::grant` adds a delegation or refuses. Assumes nothing.
+-- `register::grant` lends document 01's own step table. Assumes nothing.
 use borrow.Author.Needs.{needs}
-use Prim.Native.Nat.{_+_, _<_}
-use mathlib.Core.Path.{sym, _∙_}
-use mir.Facts.{toZ-pos}
-use mir.Syntax.{w32}
-use native.Mathlib.Omega.{arith}
-use Rattle.rules.specs.Call.{Call, grant}
-use Rattle.rules.specs.Table.{steps}
-use Rattle.block.specs.Block.{countIn}
-use Rattle.block.specs.Bytes.{IsBytes}
-use Rattle.block.proofs.Bytes.{fits-bytes}
-use Rattle.refusals.proofs.EarlyTests.{Through, through}
-use Rattle.refusals.proofs.Holding.{grant-room}
-use Rattle.refusals.proofs.Within.{Within, within}
-use Rattle.register.proofs.Granting.{grant-done}
-use Rattle.register.proofs.Made.{made-refused}
+use Rattle.rules.proofs.Table.{steps-rule}
 use Rattle.register.proofs.grant.Statement.{statement}
 use Rattle.register.proofs.grant.Tie as tie
 
-abbrev call : tie.Start → Call
-call s = grant (s .args .giver) (s .args .receiver) (s .args .weight) (s .args .need) (s .args .bar)
+steps-requires : tie.Need-steps-requires
+steps-requires c κs = search needs
 
--- ── past the tests ──
-abbrev start : tie.Else1 → tie.Start
-start c = c .before .before .before .before
+slice-aggregate-grant-by : tie.Need-slice-aggregate-grant-by
+slice-aggregate-grant-by c = search needs
 
-bytes : (c : tie.Else1) → IsBytes (start c .args .block .now)
-bytes c = fits-bytes (start c .args .block .now) (c .before .before .before .slice-known .given)
-
-past : (c : tie.Else1) → Through steps (start c .args .block .now) (call (start c))
-past c = through steps (start c .args .block .now) (call (start c)) (sym (c .before .grant-refusal .ensures) ∙ c .if1 .left)
-
-inside : (c : tie.Else1) → Within (call (start c))
-inside c = within (call (start c)) (past c .early .passed)
-
-room : (c : tie.Else1) → countIn (start c .args .block .now) < 256
-room c = let a = start c .args in grant-room steps (a .block .now) (bytes c) (past c .early .formed) (a .giver) (a .receiver) (a .weight) (a .need) (a .bar) (past c .held)
-
--- ── the needs ──
-grant-refusal-requires : tie.Need-grant-refusal-requires
-grant-refusal-requires c κs = search needs
-
-refused-requires : tie.Need-refused-requires
-refused-requires c κs = search needs
+grant-by-requires : tie.Need-grant-by-requires
+grant-by-requires c κs = rw (c .before .before .steps .ensures) steps-rule
 
 same-length : tie.Need-same-length
 same-length c = search needs
 
 returns : tie.Need-returns
-returns c =
-    let s = c .before .before .before .before .before in
-    rw (c .refused .ensures) (made-refused steps (call s) (s .args .block .now) (c .before .before .grant-refusal .result) (c .before .before .grant-refusal .ensures) (c .before .if1 .taken))
-
-count-requires : tie.Need-count-requires
-count-requires c κs = omega (arith, past (c .before) .early .size)
-
-cast-insert : tie.Need-cast-insert
-cast-insert c = omega (arith, inside (c .before .before .before) .0 .0)
-
-cast-insert-2 : tie.Need-cast-insert-2
-cast-insert-2 c = omega (arith, inside (c .before .before .before) .0 .1 .0)
-
-cast-insert-3 : tie.Need-cast-insert-3
-cast-insert-3 c = omega (arith, inside (c .before .before .before) .1)
-
-cast-insert-4 : tie.Need-cast-insert-4
-cast-insert-4 c = omega (arith, inside (c .before .before .before) .2)
-
-cast-insert-5 : tie.Need-cast-insert-5
-cast-insert-5 c = omega (arith, inside (c .before .before .before) .3)
-
-insert-requires : tie.Need-insert-requires
-insert-requires c κs = let e = c .before .before .before in (past e .early .formed, room e)
-
-add-answered : tie.Need-add-answered
-add-answered c = let k = c .before .before .before .before in omega (arith, room (k .before .before), k .count .ensures)
-
-cast-answered : tie.Need-cast-answered
-cast-answered c = let k = c .before .before .before .before in omega (arith, room (k .before .before), k .count .ensures)
-
-answered-requires : tie.Need-answered-requires
-answered-requires c κs = search needs
-
-same-length-2 : tie.Need-same-length-2
-same-length-2 c = search needs
-
-returns-2 : tie.Need-returns-2
-returns-2 c =
-    let i = c .before .before .before .insert in
-    let k = c .before .before .before .before .before in
-    let e = k .before .before in
-    let a = start e .args in
-    rw (c .answered .ensures, toZ-pos w32 {n = k .count .result + 1} (omega (arith, room e, k .count .ensures)), k .count .ensures)
-    (grant-done steps (a .block .now) (bytes e) (a .giver) (a .receiver) (a .weight) (a .need) (a .bar) (past e) (i .last .0) (i .ensures))
+returns c = rw (c .before .before .before .before .before .steps .ensures) at (c .before .before .grant-by .ensures)
 
 pub grant-spec : {M : Type 1} → statement M
-grant-spec =
-    tie.close
-    (tie.spec
-    grant-refusal-requires
-    refused-requires
-    same-length
-    returns
-    count-requires
-    cast-insert
-    cast-insert-2
-    cast-insert-3
-    cast-insert-4
-    cast-insert-5
-    insert-requires
-    add-answered
-    cast-answered
-    answered-requires
-    same-length-2
-    returns-2)
+grant-spec = tie.close (tie.spec steps-requires slice-aggregate-grant-by grant-by-requires same-length returns)

@@ -15,7 +15,6 @@ use Rattle.block.specs.Records.{delegationsTo}
 use Rattle.block.proofs.Bytes.{fits-bytes}
 use Rattle.block.proofs.Held.{count-most}
 use Rattle.refusals.proofs.EarlyTests.{Through, through}
-use Rattle.refusals.proofs.Within.{within}
 use Rattle.register.proofs.Made.{made-refused}
 use Rattle.register.proofs.Using.{use-done}
 use Rattle.register.specs.Made.{answeredBy, Made}
@@ -33,7 +32,7 @@ bytes : (c : tie.Else1) → IsBytes (start c .args .block .now)
 bytes c = fits-bytes (start c .args .block .now) (c .before .before .shared-slice-known .given)
 
 past : (c : tie.Else1) → Through steps (start c .args .block .now) (call (start c))
-past c = through steps (start c .args .block .now) (call (start c)) (sym (c .before .use-refusal .ensures) ∙ c .if1 .left)
+past c = through steps (start c .args .block .now) (call (start c)) (sym (c .before .use-refusal .ensures steps) ∙ c .if1 .left)
 
 -- x answers whether the receiver may use the right
 done : (c : tie.Else1) (x : Bool) → let a = start c .args in x ≡ (eqb (a .receiver) 0 || receives (a .receiver) (delegationsTo (a .block .now) (countIn (a .block .now))))
@@ -50,7 +49,7 @@ refused-requires c κs = search needs
 returns : tie.Need-returns
 returns c =
     let s = c .before .before .before .before in
-    rw (c .refused .ensures) (made-refused steps (call s) (s .args .block .now) (c .before .before .use-refusal .result) (c .before .before .use-refusal .ensures) (c .before .if1 .taken))
+    rw (c .refused .ensures) (made-refused steps (call s) (s .args .block .now) (c .before .before .use-refusal .result) (c .before .before .use-refusal .ensures steps) (c .before .if1 .taken))
 
 answered-requires : tie.Need-answered-requires
 answered-requires c κs = search needs
@@ -62,7 +61,7 @@ count-requires : tie.Need-count-requires
 count-requires c κs = omega (arith, past (c .before) .early .size)
 
 cast-receives : tie.Need-cast-receives
-cast-receives c = let e = c .before .before in omega (arith, within (call (start e)) (past e .early .passed) .0)
+cast-receives c = let e = c .before .before in omega (arith, past e .numbers .0)
 
 receives-requires : tie.Need-receives-requires
 receives-requires c κs =

@@ -46,7 +46,7 @@ returns-3 : tie.Need-returns-3
 unfolding callOf
 returns-3 c =
     let s = c .before .before .before .before .before .before .before .before in
-    call-named (s .args .number) (named s) (s .args .block .now) _ _ 2 (c .before .before .before .before .if3 .taken) tt (c .before .before .revoke .ensures .0)
+    call-named (s .args .number) (named s) (s .args .block .now) _ _ 2 (c .before .before .before .before .if3 .taken) tt (c .before .before .revoke .ensures .outcome)
 
 downgrade-requires : tie.Need-downgrade-requires
 downgrade-requires c κs = search needs
@@ -58,7 +58,7 @@ returns-4 : tie.Need-returns-4
 unfolding callOf
 returns-4 c =
     let s = c .before .before .before .before .before .before .before .before .before in
-    call-named (s .args .number) (named s) (s .args .block .now) _ _ 3 (c .before .before .before .before .if4 .taken) tt (c .before .before .downgrade .ensures .0)
+    call-named (s .args .number) (named s) (s .args .block .now) _ _ 3 (c .before .before .before .before .if4 .taken) tt (c .before .before .downgrade .ensures .outcome)
 
 reach-requires : tie.Need-reach-requires
 reach-requires c κs = search needs

@@ -1,20 +1,15 @@
 -- `block::find` is the number of records before the first of a pair. Assumes nothing.
-use mathlib.Core.Path.{ap, sym, _∙_}
-use mathlib.Core.Bool.{Bool, not}
-use Prim.Native.Nat.{ℕ, _-_}
+use mathlib.Core.Bool.{not}
+use Prim.Native.Nat.{_-_}
 use native.Mathlib.Omega.{arith}
-use Rattle.rules.specs.Register.{Delegation}
 use Rattle.rules.specs.Pair.{isPair}
-use Rattle.block.proofs.Loops.{Counted, front-all, front-end, front-stop, front-on}
+use Rattle.block.proofs.Loops.{Counted, front-all, front-end, first-here, first-on}
 use Rattle.block.proofs.read.find.Statement.{statement}
 use Rattle.block.proofs.read.find.Tie as tie
 use Rattle.block.specs.Records.{delegationAt}
 
-abbrev test : ℕ → ℕ → Delegation → Bool
-test g r d = not (isPair g r d)
-
 abbrev Inv-loop : tie.InvT-loop
-Inv-loop b count giver receiver k₀ k = Counted (test giver receiver) (delegationAt b) count k
+Inv-loop b count giver receiver k₀ k = Counted (λ d. not (isPair giver receiver d)) (delegationAt b) count k
 
 abbrev μ-loop : tie.MeasureT-loop
 μ-loop b count giver receiver k₀ k = count - k
@@ -22,7 +17,7 @@ abbrev μ-loop : tie.MeasureT-loop
 loop-holds : tie.Need-loop-holds Inv-loop μ-loop
 loop-holds c =
     let a = c .before .args in
-    front-all (test (a .giver) (a .receiver)) (delegationAt (a .b .now)) (a .count)
+    front-all (λ d. not (isPair (a .giver) (a .receiver) d)) (delegationAt (a .b .now)) (a .count)
 
 is-pair-requires : tie.Need-is-pair-requires Inv-loop μ-loop
 is-pair-requires c κs = omega arith
@@ -31,7 +26,7 @@ returns : tie.Need-returns Inv-loop μ-loop
 returns c =
     let a = c .before .before .before .before .before .args in
     let l = c .before .before .before .loop in
-    front-stop (test (a .giver) (a .receiver)) (delegationAt (a .b .now)) (l .k) (a .count) (l .inv) (omega arith) (ap not (sym (c .before .is-pair .ensures) ∙ c .if1 .taken))
+    first-here (isPair (a .giver) (a .receiver)) (delegationAt (a .b .now)) (l .k) (a .count) (l .inv) (c .before .is-pair .ensures) (omega arith) (c .if1 .taken)
 
 add-k : tie.Need-add-k Inv-loop μ-loop
 add-k c = omega arith
@@ -43,13 +38,13 @@ loop-again : tie.Need-loop-again Inv-loop μ-loop
 loop-again c =
     let a = c .before .before .before .before .before .args in
     let l = c .before .before .before .loop in
-    front-on (test (a .giver) (a .receiver)) (delegationAt (a .b .now)) (l .k) (a .count) (l .inv) (omega arith) (ap not (sym (c .before .is-pair .ensures) ∙ c .if1 .left))
+    first-on (isPair (a .giver) (a .receiver)) (delegationAt (a .b .now)) (l .k) (a .count) (l .inv) (c .before .is-pair .ensures) (omega arith) (c .if1 .left)
 
 returns-2 : tie.Need-returns-2 Inv-loop μ-loop
 returns-2 c =
     let a = c .before .before .before .args in
     let l = c .before .loop in
-    front-end (test (a .giver) (a .receiver)) (delegationAt (a .b .now)) (l .k) (a .count) (l .inv) (omega arith)
+    front-end (λ d. not (isPair (a .giver) (a .receiver) d)) (delegationAt (a .b .now)) (l .k) (a .count) (l .inv) (omega arith)
 
 pub find-spec : {M : Type 1} → statement M
 find-spec =

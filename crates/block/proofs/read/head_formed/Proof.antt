@@ -1,4 +1,5 @@
 -- `block::head_formed` is the test `headFormed`. Assumes nothing.
+use mathlib.Core.Bool.{and-true}
 use borrow.Author.Tests.{eq-eqb, ne-eqb, le-leb, lt-leb}
 use borrow.Author.Needs.{needs}
 use Rattle.block.proofs.read.head_formed.Statement.{statement}
@@ -23,7 +24,7 @@ count-requires : tie.Need-count-requires
 count-requires c κs = search needs
 
 returns-4 : tie.Need-returns-4
-returns-4 c = rw (le-leb _ _ (c .before .before .before .if1 .left), le-leb _ _ (c .before .before .if2 .left), eq-eqb _ _ (c .before .if3 .left), ← c .count .ensures)
+returns-4 c = rw (le-leb _ _ (c .before .before .before .if1 .left), le-leb _ _ (c .before .before .if2 .left), eq-eqb _ _ (c .before .if3 .left), and-true, ← c .count .ensures)
 
 pub head-formed-spec : {M : Type 1} → statement M
 head-formed-spec =

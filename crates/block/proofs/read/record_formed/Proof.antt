@@ -1,11 +1,12 @@
 -- `block::record_formed` tests the record at a place. Assumes nothing.
 use mathlib.Core.Path.{_≡_}
-use mathlib.Core.Bool.{_&&_}
+use mathlib.Core.Bool.{_&&_, and-true}
 use Prim.Native.Nat.{_+_}
 use lib.Bits.{bitAnd}
 use lib.Dec.{eqb}
 use lib.ListN.{getD, drop}
 use borrow.Author.Tests.{eq-eqb, ne-eqb, lt-ltb, le-ltb}
+use Rattle.block.specs.Layout.{restByte, needByte, barByte}
 use Rattle.block.specs.Bytes.{two}
 use Rattle.block.specs.WellFormed.{recordFormed}
 use Rattle.block.proofs.Fields.{formed-at}
@@ -46,8 +47,8 @@ returns-4 c = rw (formed-at, lt-ltb _ _ (c .before .before .before .if1 .left), 
 -- past the four tests of giver and receiver, what is left
 past-pair : (c : tie.Else4)
     → let a = c .before .before .before .before .before .before .before .before .args in
-    recordFormed (a .subjects) (drop (a .at) (a .s .now)) ≡ (eqb (bitAnd (two (a .s .now) (a .at + 4)) (two (a .s .now) (a .at + 6))) 0 && eqb (getD (a .s .now) (a .at + 3) 0) 0)
-past-pair c = rw (formed-at, lt-ltb _ _ (c .before .before .before .if1 .left), lt-ltb _ _ (c .before .before .if2 .left), ne-eqb _ _ (c .before .if3 .left), ne-eqb _ _ (c .if4 .left))
+    recordFormed (a .subjects) (drop (a .at) (a .s .now)) ≡ (eqb (bitAnd (two (a .s .now) (a .at + needByte)) (two (a .s .now) (a .at + barByte))) 0 && eqb (getD (a .s .now) (a .at + restByte) 0) 0)
+past-pair c = rw (formed-at, lt-ltb _ _ (c .before .before .before .if1 .left), lt-ltb _ _ (c .before .before .if2 .left), ne-eqb _ _ (c .before .if3 .left), ne-eqb _ _ (c .if4 .left), and-true, and-true)
 
 add-read-two : tie.Need-add-read-two
 add-read-two c = search needs

@@ -1,7 +1,7 @@
 -- `block::record_two` is a two-byte number of record k. Assumes nothing.
 use mathlib.Core.Path.{_∙_}
-use Prim.Native.Nat.{_+_, _*_}
 use lib.Seq.{drop-drop}
+use Rattle.block.specs.Records.{recordPlace}
 use Rattle.block.proofs.Fields.{two-in}
 use borrow.Author.Needs.{needs}
 use Rattle.block.proofs.read.record_two.Statement.{statement}
@@ -22,7 +22,7 @@ read-two-requires c κs = search needs
 returns : tie.Need-returns
 returns c =
     let a = c .before .before .args in
-    c .read-two .ensures ∙ rw drop-drop (two-in (a .b .now) (132 + 8 * a .k) (a .j))
+    c .read-two .ensures ∙ rw drop-drop (two-in (a .b .now) (recordPlace (a .k)) (a .j))
 
 pub record-two-spec : {M : Type 1} → statement M
 record-two-spec =

@@ -1,11 +1,7 @@
--- `chain::limits_for` finds the reaches of a receiver by document 01's table. Assumes nothing.
+-- `chain::limits_for` finds the reaches of a receiver. Assumes nothing.
 use borrow.Author.Needs.{needs}
-use Rattle.rules.proofs.Table.{steps-rule}
 use Rattle.chain.proofs.held.limits_for.Statement.{statement}
 use Rattle.chain.proofs.held.limits_for.Tie as tie
-
-steps-requires : tie.Need-steps-requires
-steps-requires c κs = search needs
 
 slice-aggregate-starts-of : tie.Need-slice-aggregate-starts-of
 slice-aggregate-starts-of c = search needs
@@ -16,13 +12,11 @@ starts-of-requires c κs = search needs
 slice-aggregate-limits-for : tie.Need-slice-aggregate-limits-for
 slice-aggregate-limits-for c = search needs
 
-slice-aggregate-limits-for-2 : tie.Need-slice-aggregate-limits-for-2
-slice-aggregate-limits-for-2 c = search needs
-
 limits-for-requires : tie.Need-limits-for-requires
 limits-for-requires c κs =
-    let p = c .before .before .before .before .before .before .before .before .before .before .pre in
-    rw (c .before .before .before .before .before .before .before .steps .ensures) (record { block = record { formed = p .0; rule = steps-rule }; starts = c .before .before .before .before .before .starts-of .ensures }, p .1, record { limits = p .2; parents = p .3 })
+    let o = c .before .before .before .before in
+    let p = o .before .before .before .before .pre in
+    (record { block = record { formed = p .formed; rule = p .rule }; starts = o .starts-of .ensures }, p .receiver, record { limits = p .limits; parents = p .parents })
 
 same-length : tie.Need-same-length
 same-length c = search needs
@@ -31,17 +25,15 @@ same-length-2 : tie.Need-same-length-2
 same-length-2 c = search needs
 
 returns : tie.Need-returns
-returns c = rw (c .before .before .before .before .before .before .before .before .before .before .before .steps .ensures) at (c .before .before .before .limits-for .ensures)
+returns c = c .before .before .before .limits-for .ensures
 
 pub limits-for-spec : {M : Type 1} → statement M
 limits-for-spec =
     tie.close
     (tie.spec
-    steps-requires
     slice-aggregate-starts-of
     starts-of-requires
     slice-aggregate-limits-for
-    slice-aggregate-limits-for-2
     limits-for-requires
     same-length
     same-length-2

@@ -2,19 +2,16 @@
 use borrow.Author.Needs.{needs}
 use mathlib.Core.Path.{_≡_}
 use mathlib.Core.Bool.{true, false}
-use Prim.Native.Nat.{_+_, _*_, _-_, _≤_, _<_}
+use Prim.Native.Nat.{_<_}
 use native.Mathlib.Omega.{arith}
 use mir.Syntax.{w16}
 use mir.Facts.{toZ-ofZ, toZ-pos}
 use lib.ListN.{length, getD}
 use lib.IntN.{pos}
 use lib.Signed.{ltZ}
-use Rattle.rules.specs.Table.{steps}
-use Rattle.rules.proofs.Table.{steps-rule}
 use Rattle.block.specs.Bytes.{IsBytes}
-use Rattle.block.specs.Block.{countIn}
 use Rattle.block.proofs.Bytes.{fits-bytes}
-use Rattle.block.proofs.Held.{rules-of, size-held, count-most}
+use Rattle.block.proofs.Held.{rules-of, has-records}
 use Rattle.chain.proofs.ChainWays.{carrying-refused, carrying-traceable, carrying-done}
 use Rattle.chain.proofs.held.write_carrying.Statement.{statement}
 use Rattle.chain.proofs.held.write_carrying.Tie as tie
@@ -27,30 +24,18 @@ bytes : (c : tie.After-limits-for) → IsBytes (start c .args .block .now)
 bytes c = fits-bytes (start c .args .block .now) (c .before .before .before .before .shared-slice-known .given)
 
 inside : (c : tie.After-limits-for) → start c .args .giver < 64
-inside c = omega (arith, rules-of (start c .args .block .now) (bytes c) (start c .pre .0) .most, start c .pre .1)
+inside c = omega (arith, rules-of (start c .args .block .now) (bytes c) (start c .pre .0 .formed) .most, start c .pre .0 .giver)
 
 -- the test of 16, on numbers
-heavy : (c : tie.Then1) → let l = c .before .before .before .before in ltZ (getD (l .limits-for .last .1 .1 .0) (start l .args .giver) (pos 0)) (pos (start l .args .weight)) ≡ true
+heavy : (c : tie.Then1) → let l = c .before .before .before .before in ltZ (getD (l .limits-for .last .1 .1 .1 .0) (start l .args .giver) (pos 0)) (pos (start l .args .weight)) ≡ true
 heavy c =
     let s = start (c .before .before .before .before) in
     rw (toZ-ofZ {w = w16} record { sfits = c .before .if12 .given }, toZ-pos w16 {n = s .args .weight} (omega (arith, s .fits .weight))) at (c .if1 .taken)
 
-light : (c : tie.Else1) → let l = c .before .before .before .before in ltZ (getD (l .limits-for .last .1 .1 .0) (start l .args .giver) (pos 0)) (pos (start l .args .weight)) ≡ false
+light : (c : tie.Else1) → let l = c .before .before .before .before in ltZ (getD (l .limits-for .last .1 .1 .1 .0) (start l .args .giver) (pos 0)) (pos (start l .args .weight)) ≡ false
 light c =
     let s = start (c .before .before .before .before) in
     rw (toZ-ofZ {w = w16} record { sfits = c .before .if12 .given }, toZ-pos w16 {n = s .args .weight} (omega (arith, s .fits .weight))) at (c .if1 .left)
-
--- the part of the block that is lent
-part : (c : tie.After-count) → 132 + 8 * c .count .result - 132 ≡ 8 * countIn (start (c .before .before .before .before .before) .args .block .now)
-part c = omega (arith, c .count .ensures)
-
-most : (c : tie.After-count) → (132 + 8 * c .count .result ≤ length (start (c .before .before .before .before .before) .args .block .now)) × (c .count .result ≤ 256)
-most c =
-    let l = c .before .before .before .before .before in
-    let s = start l in
-    let b = s .args .block .now in
-    let k = count-most b (bytes l) (s .pre .0) in
-    (omega (arith, size-held b (bytes l) (s .pre .0), k, c .count .ensures), omega (arith, k, c .count .ensures))
 
 -- ── the needs ──
 slice-aggregate-limits-for : tie.Need-slice-aggregate-limits-for
@@ -79,39 +64,24 @@ returns c =
     let l = c .before .before .before .before .before in
     let s = start l in
     let a = s .args in
-    rw (c .unwritten .ensures) (carrying-refused steps (a .block .now) (bytes l) (s .pre .0) (a .giver) (a .receiver) (a .weight) (l .limits-for .last .1 .1 .0) (l .limits-for .last .1 .1 .1 .0) (l .limits-for .ensures) (inside l) (heavy (c .before)) (a .buf .now))
+    rw (c .unwritten .ensures) (carrying-refused (a .table .now) (a .block .now) (bytes l) (s .pre .0 .formed) (a .giver) (a .receiver) (a .weight) (l .limits-for .last .1 .1 .1 .0) (l .limits-for .last .1 .1 .1 .1 .0) (l .limits-for .ensures) (inside l) (heavy (c .before)) (a .buf .now))
 
-count-requires : tie.Need-count-requires
-count-requires c κs =
+records-requires : tie.Need-records-requires
+records-requires c κs =
     let l = c .before .before .before .before in
-    omega (arith, size-held (start l .args .block .now) (bytes l) (start l .pre .0))
-
-mul-end : tie.Need-mul-end
-mul-end c = omega (arith, most c .1)
-
-add-end : tie.Need-add-end
-add-end c = omega (arith, most c .1)
-
-sub-write-links : tie.Need-sub-write-links
-sub-write-links c = search needs
-
-part-write-links-start : tie.Need-part-write-links-start
-part-write-links-start c = search needs
-
-part-write-links-end : tie.Need-part-write-links-end
-part-write-links-end c = most c .0
+    has-records (start l .args .block .now) (bytes l) (start l .pre .0 .formed)
 
 slice-aggregate-write-links : tie.Need-slice-aggregate-write-links
 slice-aggregate-write-links c = search needs
 
 write-links-requires : tie.Need-write-links-requires
 write-links-requires c κs =
-    let k = c .before .before .before in
+    let k = c .before .before in
     let l = k .before .before .before .before .before in
     let s = start l in
     let a = s .args in
-    let size : length (l .limits-for .last .1 .1 .1 .0) ≡ 64 = search needs in
-    rw (part k) (carrying-traceable steps (a .block .now) (bytes l) (s .pre .0) (a .giver) (a .receiver) (a .weight) (l .limits-for .last .1 .1 .0) (l .limits-for .last .1 .1 .1 .0) (l .limits-for .ensures) (inside l) (light (k .before)) steps-rule size, s .pre .3)
+    let size : length (l .limits-for .last .1 .1 .1 .1 .0) ≡ 64 = search needs in
+    rw (k .records .ensures) (carrying-traceable (a .table .now) (a .block .now) (bytes l) (s .pre .0 .formed) (a .giver) (a .receiver) (a .weight) (l .limits-for .last .1 .1 .1 .0) (l .limits-for .last .1 .1 .1 .1 .0) (l .limits-for .ensures) (inside l) (light (k .before)) (s .pre .1) size, s .pre .2)
 
 same-length : tie.Need-same-length
 same-length c = search needs
@@ -119,12 +89,12 @@ same-length c = search needs
 returns-2 : tie.Need-returns-2
 returns-2 c =
     let w = c .before .before .write-links in
-    let k = c .before .before .before .before .before .before in
+    let k = c .before .before .before .before .before in
     let l = k .before .before .before .before .before in
     let s = start l in
     let a = s .args in
-    let (n, e) = rw (part k) at (w .ensures) in
-    carrying-done steps (a .block .now) (bytes l) (s .pre .0) (a .giver) (a .receiver) (a .weight) (l .limits-for .last .1 .1 .0) (l .limits-for .last .1 .1 .1 .0) (l .limits-for .ensures) (inside l) (light (k .before)) (w .result) (a .buf .now) (w .last .1 .1 .1 .1 .0) n e
+    let (n, e) = rw (k .records .ensures) at (w .ensures) in
+    carrying-done (a .table .now) (a .block .now) (bytes l) (s .pre .0 .formed) (a .giver) (a .receiver) (a .weight) (l .limits-for .last .1 .1 .1 .0) (l .limits-for .last .1 .1 .1 .1 .0) (l .limits-for .ensures) (inside l) (light (k .before)) (w .result) (a .buf .now) (w .last .1 .1 .1 .1 .0) n e
 
 pub write-carrying-spec : {M : Type 1} → statement M
 write-carrying-spec =
@@ -138,12 +108,7 @@ write-carrying-spec =
     cast-if1
     unwritten-requires
     returns
-    count-requires
-    mul-end
-    add-end
-    sub-write-links
-    part-write-links-start
-    part-write-links-end
+    records-requires
     slice-aggregate-write-links
     write-links-requires
     same-length

@@ -4,7 +4,6 @@ use mathlib.Core.Path.{_≡_, sym, _∙_}
 use mathlib.Core.Bool.{true, false, not, _||_}
 use native.Mathlib.Omega.{arith}
 use lib.Dec.{leb}
-use Rattle.rules.specs.Table.{steps}
 use Rattle.rules.specs.Pair.{isPair}
 use Rattle.rules.proofs.Lists.{not-true, not-false}
 use Rattle.block.specs.Bytes.{IsBytes, leading}
@@ -44,10 +43,10 @@ returns : tie.Need-returns
 returns c =
     let e = c .before .before in
     let a = start e .args in
-    rw (c .unwritten .ensures) (chain-unenrolled steps (a .block .now) (bytes e) (start e .pre .0) (a .giver) (a .receiver) (not-false (leb (subjectsIn (a .block .now)) (a .giver) || leb (subjectsIn (a .block .now)) (a .receiver)) (sym (e .both-enrolled .ensures) ∙ not-true _ (c .before .if1 .taken))) (a .buf .now))
+    rw (c .unwritten .ensures) (chain-unenrolled (a .table .now) (a .block .now) (bytes e) (start e .pre .0 .formed) (a .giver) (a .receiver) (not-false (leb (subjectsIn (a .block .now)) (a .giver) || leb (subjectsIn (a .block .now)) (a .receiver)) (sym (e .both-enrolled .ensures) ∙ not-true _ (c .before .if1 .taken))) (a .buf .now))
 
 count-requires : tie.Need-count-requires
-count-requires c κs = omega (arith, size-held (start (c .before) .args .block .now) (bytes (c .before)) (start (c .before) .pre .0))
+count-requires c κs = omega (arith, size-held (start (c .before) .args .block .now) (bytes (c .before)) (start (c .before) .pre .0 .formed))
 
 cast-find : tie.Need-cast-find
 cast-find c = search needs
@@ -59,7 +58,7 @@ find-requires : tie.Need-find-requires
 find-requires c κs =
     let e = c .before .before in
     let b = start e .args .block .now in
-    omega (arith, size-held b (bytes e) (start e .pre .0), count-most b (bytes e) (start e .pre .0), c .count .ensures)
+    omega (arith, size-held b (bytes e) (start e .pre .0 .formed), count-most b (bytes e) (start e .pre .0 .formed), c .count .ensures)
 
 unwritten-requires-2 : tie.Need-unwritten-requires-2
 unwritten-requires-2 c κs = search needs
@@ -70,21 +69,21 @@ returns-2 c =
     let k = f .before in
     let e = k .before .before in
     let a = start e .args in
-    rw (c .unwritten2 .ensures) (chain-missing steps (a .block .now) (bytes e) (start e .pre .0) (a .giver) (a .receiver) (enrolled (k .before)) (f .find .result) (place f) (rw (← k .count .ensures) (c .before .if2 .taken)) (a .buf .now))
+    rw (c .unwritten2 .ensures) (chain-missing (a .table .now) (a .block .now) (bytes e) (start e .pre .0 .formed) (a .giver) (a .receiver) (enrolled (k .before)) (f .find .result) (place f) (rw (← k .count .ensures) (c .before .if2 .taken)) (a .buf .now))
 
 weight-requires : tie.Need-weight-requires
 weight-requires c κs =
     let k = c .before .before in
     let e = k .before .before in
     let b = start e .args .block .now in
-    omega (arith, size-held b (bytes e) (start e .pre .0), count-most b (bytes e) (start e .pre .0), k .count .ensures, c .if2 .left)
+    omega (arith, size-held b (bytes e) (start e .pre .0 .formed), count-most b (bytes e) (start e .pre .0 .formed), k .count .ensures, c .if2 .left)
 
 write-carrying-requires : tie.Need-write-carrying-requires
 write-carrying-requires c κs =
     let d = c .before .before .before .before .before in
     let s = start (d .before) in
     let (p, q) = both-in (subjectsIn (s .args .block .now)) (s .args .giver) (s .args .receiver) (both d) in
-    (s .pre .0, p, q, s .pre .3)
+    (record { formed = s .pre .0 .formed; giver = p; receiver = q }, s .pre .1, s .pre .2)
 
 same-length : tie.Need-same-length
 same-length c = search needs
@@ -98,7 +97,7 @@ returns-3 c =
     let k = f .before in
     let e = k .before .before in
     let a = start e .args in
-    chain-carried steps (a .block .now) (bytes e) (start e .pre .0) (a .giver) (a .receiver) (enrolled (k .before)) (f .find .result) (place f) (rw (← k .count .ensures) (g .if2 .left)) (w .weight .result) (w .weight .ensures) (a .buf .now) (o .result) _ (o .ensures)
+    chain-carried (a .table .now) (a .block .now) (bytes e) (start e .pre .0 .formed) (a .giver) (a .receiver) (enrolled (k .before)) (f .find .result) (place f) (rw (← k .count .ensures) (g .if2 .left)) (w .weight .result) (w .weight .ensures) (a .buf .now) (o .result) _ (o .ensures)
 
 pub write-held-spec : {M : Type 1} → statement M
 write-held-spec =

@@ -4,12 +4,13 @@ use Prim.Native.Nat.{_≤_, _-_, _+_}
 use native.Mathlib.Omega.{arith}
 use lib.ListN.{length, drop, length-set}
 use lib.Seq.{paste}
+use Rattle.block.specs.Layout.{recordSize}
 use Rattle.change.proofs.Shift.{movedDown-none, movedDown-on, movedDown-end}
 use Rattle.change.proofs.write.shift_down.Statement.{statement}
 use Rattle.change.proofs.write.shift_down.Tie as tie
 
 abbrev Inv-loop : tie.InvT-loop
-Inv-loop b₀ at end i₀ b i = (at ≤ i) × (i + 8 ≤ end) × (length b ≡ length b₀) × (b ≡ paste b₀ at (drop (at + 8) b₀) (i - at))
+Inv-loop b₀ at end i₀ b i = (at ≤ i) × (i + recordSize ≤ end) × (length b ≡ length b₀) × (b ≡ paste b₀ at (drop (at + recordSize) b₀) (i - at))
 
 abbrev μ-loop : tie.MeasureT-loop
 μ-loop b₀ at end i₀ b i = end - i

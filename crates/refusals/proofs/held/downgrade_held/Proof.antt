@@ -2,7 +2,6 @@
 use borrow.Author.Needs.{needs}
 use mathlib.Core.Path.{ap, _∙_}
 use Prim.Native.Nat.{ℕ}
-use Rattle.rules.specs.Table.{steps}
 use Rattle.rules.specs.Refusal.{notBelow}
 use Rattle.block.specs.Block.{decode}
 use Rattle.refusals.specs.Joined.{orElse}
@@ -17,11 +16,11 @@ not-below-requires : tie.Need-not-below-requires
 not-below-requires c κs = search needs
 
 returns : tie.Need-returns
-returns c =
+returns c t =
     let a = c .before .before .before .args in
     c .not-below .ensures
-    ∙ ap (λ (n : ℕ). orElse n (notBelow (decode (a .block .now)) (a .giver) (a .receiver) (a .weight))) (c .before .revoke-held .ensures)
-    ∙ downgrade-joined steps (decode (a .block .now)) (a .by) (a .giver) (a .receiver) (a .weight)
+    ∙ ap (λ (n : ℕ). orElse n (notBelow (decode (a .block .now)) (a .giver) (a .receiver) (a .weight))) (c .before .revoke-held .ensures t)
+    ∙ downgrade-joined t (decode (a .block .now)) (a .by) (a .giver) (a .receiver) (a .weight)
 
 pub downgrade-held-spec : {M : Type 1} → statement M
 downgrade-held-spec = tie.close (tie.spec revoke-held-requires not-below-requires returns)

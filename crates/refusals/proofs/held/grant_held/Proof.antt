@@ -1,22 +1,17 @@
 -- `refusals::grant_held` is the first refusal of a grant by what the register holds. Assumes nothing.
 use borrow.Author.Needs.{needs}
 use mathlib.Core.Path.{_≡_, sym, ap, _∙_}
-use mathlib.Core.Bool.{Bool}
 use mathlib.Core.List.{[], _∷_}
 use Prim.Native.Nat.{ℕ}
 use lib.Dec.{leb}
-use lib.IntN.{pos}
-use lib.Signed.{ltZ}
-use Rattle.rules.specs.Table.{steps}
-use Rattle.rules.specs.Reach.{reach}
-use Rattle.rules.specs.Call.{granted}
+use Rattle.rules.specs.Register.{granted}
 use Rattle.rules.specs.Refusal.{firstOf, notEnrolled, pairStands, allStand, overweight, held}
 use Rattle.rules.proofs.Refusals.{firstOf-append, passes-of}
 use Rattle.block.specs.Block.{decode}
 use Rattle.block.proofs.Bytes.{fits-bytes}
 use Rattle.refusals.specs.Joined.{orElse}
 use Rattle.refusals.proofs.Joining.{joined-first, any-tests}
-use Rattle.refusals.proofs.Holding.{both-of, heavy-test}
+use Rattle.refusals.proofs.Holding.{both-of}
 use Rattle.refusals.proofs.held.grant_held.Statement.{statement}
 use Rattle.refusals.proofs.held.grant_held.Tie as tie
 
@@ -52,23 +47,19 @@ overweight-requires c κs =
     let a = s .args in
     let b = a .block .now in (
       s .pre .0,
-      s .pre .3,
-      λ z. both-of steps b (fits-bytes b (k .shared-slice-known .given)) (s .pre .0) (a .giver) (a .receiver)
+      s .pre .1,
+      λ z. both-of b (fits-bytes b (k .shared-slice-known .given)) (s .pre .0 .formed) (a .giver) (a .receiver)
           (passes-of (notEnrolled (decode b) (a .giver ∷ a .receiver ∷ []) ∷ pairStands (decode b) (a .giver) (a .receiver) ∷ allStand (decode b) ∷ []) tt (sym (before-reach c) ∙ z) 9),
     )
 
 returns : tie.Need-returns
 unfolding held
 returns c =
-    let k = c .before .before .before .before .before .before in
-    let s = k .before in
-    let a = s .args in
-    let b = a .block .now in
-    let tests = notEnrolled (decode b) (a .giver ∷ a .receiver ∷ []) ∷ pairStands (decode b) (a .giver) (a .receiver) ∷ allStand (decode b) ∷ [] in
-    c .overweight .ensures
-    ∙ ap (λ (n : ℕ). orElse n (16, ltZ (reach steps (decode b) (a .giver) (a .receiver)) (pos (a .weight)))) (before-reach (c .before))
-    ∙ ap (λ (x : Bool). orElse (firstOf tests) (16, x)) (sym (heavy-test steps b (fits-bytes b (k .shared-slice-known .given)) (s .pre .0) (a .giver) (a .receiver) (a .weight) (a .need) (a .bar)))
-    ∙ sym (firstOf-append tests (overweight steps (decode b) (granted (a .giver) (a .receiver) (a .weight) (a .need) (a .bar) ∷ []) ∷ []) tt)
+    let a = c .before .before .before .before .before .before .before .args in
+    let R = decode (a .block .now) in
+    let tests = notEnrolled R (a .giver ∷ a .receiver ∷ []) ∷ pairStands R (a .giver) (a .receiver) ∷ allStand R ∷ [] in
+    let last = overweight (a .table .now) R (granted (a .giver) (a .receiver) (a .weight) (a .need) (a .bar) ∷ []) in
+    c .overweight .ensures ∙ ap (λ (n : ℕ). orElse n last) (before-reach (c .before)) ∙ sym (firstOf-append tests (last ∷ []) tt)
 
 pub grant-held-spec : {M : Type 1} → statement M
 grant-held-spec =

@@ -4,6 +4,9 @@ use native.Mathlib.Omega.{arith}
 use borrow.Author.Tests.{eq-eqb, ne-eqb}
 use mir.Syntax.{w16}
 use mir.Facts.{toZ-ofZ, toZ-pos}
+use Rattle.rules.specs.Register.{granted}
+use Rattle.block.specs.Block.{decode}
+use Rattle.refusals.proofs.Holding.{heavy-test}
 use Rattle.refusals.proofs.held.overweight.Statement.{statement}
 use Rattle.refusals.proofs.held.overweight.Tie as tie
 
@@ -14,7 +17,7 @@ reach-of-requires : tie.Need-reach-of-requires
 reach-of-requires c κs =
     let s = c .before .before in
     let (p, q) = s .pre .2 (c .if1 .left) in
-    (s .pre .0, p, q)
+    (record { formed = s .pre .0 .formed; rule = s .pre .1 }, p, q)
 
 cast-tested : tie.Need-cast-tested
 cast-tested c = search needs
@@ -26,8 +29,9 @@ returns-2 : tie.Need-returns-2
 returns-2 c =
     let r = c .before .reach-of in
     let s = c .before .before .before .before in
-    rw (eq-eqb _ _ (c .before .before .if1 .left))
-    (rw (toZ-ofZ {w = w16} {z = r .result} record { sfits = omega (arith, r .ok) }, toZ-pos w16 {n = s .args .weight} (omega (arith, s .pre .1)), r .ensures) at (c .tested .ensures))
+    let a = s .args in
+    rw (eq-eqb _ _ (c .before .before .if1 .left), heavy-test (a .table .now) (decode (a .block .now)) (granted (a .giver) (a .receiver) (a .weight) (a .need) (a .bar)))
+    (rw (toZ-ofZ {w = w16} {z = r .result} record { sfits = omega (arith, r .ok) }, toZ-pos w16 {n = a .weight} (omega (arith, s .pre .0 .numbers .1)), r .ensures) at (c .tested .ensures))
 
 pub overweight-spec : {M : Type 1} → statement M
 overweight-spec =

@@ -17,7 +17,7 @@ not-enrolled-requires-2 c κs = search needs
 
 returns : tie.Need-returns
 unfolding held
-returns c =
+returns c t =
     let a = c .before .before .before .args in
     let R = decode (a .block .now) in
     rw (c .not-enrolled2 .ensures, c .before .not-enrolled .ensures)

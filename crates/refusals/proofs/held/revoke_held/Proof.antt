@@ -29,7 +29,7 @@ may-not-requires c κs = search needs
 
 returns : tie.Need-returns
 unfolding held
-returns c =
+returns c t =
     let a = c .before .before .before .before .before .before .before .args in
     let R = decode (a .block .now) in
     let rest = noPair R (a .giver) (a .receiver) ∷ mayNot (a .by) (a .giver) ∷ [] in

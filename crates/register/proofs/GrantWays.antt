@@ -5,9 +5,9 @@ use Prim.Native.Nat.{ℕ, _+_, _<_}
 use native.Mathlib.Omega.{arith}
 use lib.ListN.{length}
 use lib.IntN.{ℤ, pos}
-use Rattle.rules.specs.Register.{withDelegations}
+use Rattle.rules.specs.Register.{withDelegations, granted}
 use Rattle.rules.specs.Reach.{reach}
-use Rattle.rules.specs.Call.{grant, askReach, granted}
+use Rattle.rules.specs.Call.{grant, askReach}
 use Rattle.rules.specs.Refusal.{held}
 use Rattle.rules.specs.CallStep.{insert, accepted}
 use Rattle.rules.proofs.Refusals.{passes-of}
@@ -26,20 +26,20 @@ module _ (t : List ℤ) (b : List ℕ) (bytes : IsBytes b) (g r : ℕ) where
     -- both are enrolled
     pub reach-both : (g < subjectsIn b) × (r < subjectsIn b)
     unfolding held
-    reach-both = both-of t b bytes (h .early .formed) g r (passes-of (held t (decode b) (askReach g r)) tt (h .held) 9)
+    reach-both = both-of b bytes (h .early .formed) g r (passes-of (held t (decode b) (askReach g r)) tt (h .held) 9)
 
     pub reach-done : (k : ℤ) → k ≡ reach t (decode b) g r → Made t (askReach g r) b (answeredBy k (pos 0) (pos 0)) b
     unfolding accepted
     reach-done k q =
         made-done t (askReach g r) b (h .early) (h .held) (answeredBy k (pos 0) (pos 0)) b (λ j. record { refusal = 0; first = q j; second = pos 0; third = pos 0; bytes = held-written b bytes (h .early .formed) j })
 
-  -- ── grant ──
-  pub grant-done : (w n m : ℕ) → Through t b (grant g r w n m) → (after : List ℕ) → after ≡ encode (withDelegations (decode b) (insert (granted g r w n m) (decode b .delegations)))
-      → Made t (grant g r w n m) b (answeredBy (pos (countIn b + 1)) (pos 0) (pos 0)) after
-  unfolding accepted
-  grant-done w n m h after e =
-      made-done t (grant g r w n m) b (h .early) (h .held) (answeredBy (pos (countIn b + 1)) (pos 0) (pos 0)) after
-      (λ j. record { refusal = 0; first = pos (c j); second = pos 0; third = pos 0; bytes = e j })
-    where
-      c : countIn b + 1 ≡ length (insert (granted g r w n m) (decode b .delegations))
-      c = omega (arith, insert-length (granted g r w n m) (decode b .delegations), count-held b bytes (h .early .formed))
+-- ── grant ──
+pub grant-done : (t : List ℤ) (b : List ℕ) (bytes : IsBytes b) (d : Delegation) → Through t b (grant d) → (after : List ℕ) → after ≡ encode (withDelegations (decode b) (insert d (decode b .delegations)))
+    → Made t (grant d) b (answeredBy (pos (countIn b + 1)) (pos 0) (pos 0)) after
+unfolding accepted
+grant-done t b bytes d h after e =
+    made-done t (grant d) b (h .early) (h .held) (answeredBy (pos (countIn b + 1)) (pos 0) (pos 0)) after
+    (λ j. record { refusal = 0; first = pos (c j); second = pos 0; third = pos 0; bytes = e j })
+  where
+    c : countIn b + 1 ≡ length (insert d (decode b .delegations))
+    c = omega (arith, insert-length d (decode b .delegations), count-held b bytes (h .early .formed))

@@ -1,7 +1,7 @@
--- `callfile::zeros` is the test `zeros`. Assumes nothing.
+-- `callfile::all_zero` is the test `allZero`. Assumes nothing.
 use borrow.Author.Tests.{eq-eqb, ne-eqb}
-use Rattle.callfile.proofs.zeros.Statement.{statement}
-use Rattle.callfile.proofs.zeros.Tie as tie
+use Rattle.callfile.proofs.all_zero.Statement.{statement}
+use Rattle.callfile.proofs.all_zero.Tie as tie
 
 returns : tie.Need-returns
 returns c = rw (ne-eqb _ _ (c .if1 .taken))
@@ -18,5 +18,5 @@ returns-4 c = rw (eq-eqb _ _ (c .before .before .before .if1 .left), eq-eqb _ _ 
 returns-5 : tie.Need-returns-5
 returns-5 c = rw (eq-eqb _ _ (c .before .before .before .if1 .left), eq-eqb _ _ (c .before .before .if2 .left), eq-eqb _ _ (c .before .if3 .left), eq-eqb _ _ (c .if4 .left))
 
-pub zeros-spec : {M : Type 1} → statement M
-zeros-spec = tie.close (tie.spec returns returns-2 returns-3 returns-4 returns-5)
+pub all-zero-spec : {M : Type 1} → statement M
+all-zero-spec = tie.close (tie.spec returns returns-2 returns-3 returns-4 returns-5)

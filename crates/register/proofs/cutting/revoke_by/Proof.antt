@@ -1,0 +1,88 @@
+-- `register::revoke_by` makes a cut. Assumes nothing.
+use borrow.Author.Needs.{needs}
+use mathlib.Core.Path.{sym, _∙_}
+use native.Mathlib.Omega.{arith}
+use Rattle.rules.specs.Call.{Call, revoke}
+use Rattle.rules.specs.Cut.{Cut, removal}
+use Rattle.block.specs.Block.{decode}
+use Rattle.block.proofs.Bytes.{fits-bytes}
+use Rattle.refusals.proofs.CutHolding.{revoke-stands}
+use Rattle.refusals.proofs.EarlyTests.{through}
+use Rattle.register.proofs.CutWays.{cut-refused, CutThrough, named-block, cut-done}
+use Rattle.register.proofs.cutting.revoke_by.Statement.{statement}
+use Rattle.register.proofs.cutting.revoke_by.Tie as tie
+
+abbrev call : tie.Start → Call
+call s = revoke (s .args .by) (s .args .giver) (s .args .receiver)
+
+abbrev change : tie.Start → Cut
+change s = removal (s .args .giver) (s .args .receiver)
+
+-- ── past the tests ──
+abbrev start : tie.Else1 → tie.Start
+start c = c .before .before .before .before
+
+past : (c : tie.Else1) → let a = start c .args in CutThrough (a .table .now) (a .block .now) (a .by) (change (start c))
+past c =
+    let s = start c in
+    let b = s .args .block .now in
+    record { rule = s .pre; bytes = fits-bytes b (c .before .before .before .slice-known .given); through = through (s .args .table .now) b (call s) (sym (c .before .revoke-refusal .ensures (s .args .table .now)) ∙ c .if1 .left) }
+
+-- ── the needs ──
+revoke-refusal-requires : tie.Need-revoke-refusal-requires
+revoke-refusal-requires c κs = search needs
+
+refused-requires : tie.Need-refused-requires
+refused-requires c κs = search needs
+
+same-length : tie.Need-same-length
+same-length c = search needs
+
+returns : tie.Need-returns
+returns c =
+    let n = c .before .before .revoke-refusal in
+    let s = c .before .before .before .before .before in
+    let t = s .args .table .now in
+    rw (c .refused .ensures) (cut-refused t (call s) (change s) (s .args .block .now) (n .result) (n .ensures t) (c .before .if1 .taken))
+
+cast-remove : tie.Need-cast-remove
+cast-remove c = omega (arith, past (c .before) .through .numbers .1 .0)
+
+cast-remove-2 : tie.Need-cast-remove-2
+cast-remove-2 c = omega (arith, past (c .before) .through .numbers .1 .1 .0)
+
+remove-requires : tie.Need-remove-requires
+remove-requires c κs =
+    let e = c .before in
+    let a = start e .args in
+    (past e .through .early .formed, revoke-stands (a .table .now) (decode (a .block .now)) (a .by) (a .giver) (a .receiver) (past e .through .held))
+
+settle-requires : tie.Need-settle-requires
+settle-requires c κs =
+    let d = c .before .before .before in
+    let e = d .before .before in
+    (named-block (past e) (d .remove .ensures), start e .pre)
+
+same-length-2 : tie.Need-same-length-2
+same-length-2 c = search needs
+
+returns-2 : tie.Need-returns-2
+returns-2 c =
+    let o = c .before .before .settle in
+    let d = c .before .before .before .before .before .before in
+    cut-done (past (d .before .before)) (d .remove .ensures) (o .result) (o .last .0) (o .ensures)
+
+pub revoke-by-spec : {M : Type 1} → statement M
+revoke-by-spec =
+    tie.close
+    (tie.spec
+    revoke-refusal-requires
+    refused-requires
+    same-length
+    returns
+    cast-remove
+    cast-remove-2
+    remove-requires
+    settle-requires
+    same-length-2
+    returns-2)

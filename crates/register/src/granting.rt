@@ -1,0 +1,48 @@
+// Reach and grant by a lent step table.
+ghost use Rattle.rules.specs.Table.{TableRule};
+ghost use Rattle.rules.specs.Register.{granted};
+ghost use Rattle.rules.specs.Call.{grant, askReach};
+ghost use Rattle.register.specs.Made.{Made};
+use crate::Answer;
+use crate::answered;
+use crate::refused;
+
+pub fn reach_by(block: &[u8], table: &[i16], giver: u32, receiver: u32) -> Answer
+    requires { ⌜ TableRule (now table) ⌝ }
+    ensures { λ r. ⌜ Made (now (table .entry)) (askReach giver receiver) (now (block .entry)) r (now (block .entry)) ⌝ }
+{
+    let n = refusals::reach_refusal(block, giver, receiver);
+    if n != 0 {
+        return refused(n);
+    }
+    let k = search::reach_of(block, table, giver as usize, receiver as usize);
+    answered(k as i32, 0, 0)
+}
+
+pub fn grant_by(
+    block: &mut [u8],
+    table: &[i16],
+    giver: u32,
+    receiver: u32,
+    weight: u32,
+    need: u32,
+    bar: u32,
+) -> Answer
+    requires { ⌜ TableRule (now table) ⌝ }
+    ensures { λ r. ⌜ Made (now (table .entry)) (grant (granted giver receiver weight need bar)) (now (block .entry)) r (now (block .exit)) ⌝ }
+{
+    let n = refusals::grant_refusal(block, table, giver, receiver, weight, need, bar);
+    if n != 0 {
+        return refused(n);
+    }
+    let standing = block::count(block);
+    change::insert(
+        block,
+        giver as u8,
+        receiver as u8,
+        weight as u8,
+        need as u16,
+        bar as u16,
+    );
+    answered((standing + 1) as i32, 0, 0)
+}

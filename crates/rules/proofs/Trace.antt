@@ -1,0 +1,38 @@
+-- The one induction down a list of calls: at every place of every history the outcome is that of the definitions. Assumes nothing.
+use mathlib.Core.Path.{_≡_, refl, sym, ap, subst, _∙_}
+use mathlib.Core.List.{List, [], _∷_, map}
+use Prim.Native.Nat.{ℕ, zero, suc}
+use Rattle.rules.specs.List.{At}
+use Rattle.rules.specs.Trace.{Entry, allAsked, traceFrom, stateFrom, History, AtEveryPlace, PlaceRight}
+
+module _ {S A O : Type 0} (step : S → A → O) (left : O → S) where
+  -- what every call keeps holds of every state that the definitions lead to
+  pub stays : (P : S → Type 0) → ((s : S) (c : A) → P s → P (left (step s c))) → (s : S) (cs : List A) (i : ℕ) → P s → P (stateFrom step left s cs i)
+  stays P k s cs zero p = p
+  stays P k s [] (suc i) p = p
+  stays P k s (c ∷ cs) (suc i) p = stays P k (left (step s c)) cs i (k s c p)
+
+  followed : (s : S) → AtEveryPlace step left s (λ (r : S) (c : A) (o : O). o ≡ step r c)
+  followed s [] h i e m = absurd m
+  followed s (x ∷ xs) h zero e m = subst (λ (y : Entry A O). y .outcome ≡ step s (y .asked)) m (h .0)
+  followed s (x ∷ xs) h (suc i) e m =
+      subst (λ (r : S). e .outcome ≡ step (stateFrom step left r (allAsked xs) i) (e .asked)) (ap left (h .0)) (followed (left (x .outcome)) xs (h .1) i e m)
+
+  -- THE WHOLE LIST: what holds of every call on a state that P holds of, holds at every place
+  module _ (P : S → Type 0) (keeps : (s : S) (c : A) → P s → P (left (step s c))) (Cut : S → A → O → Type 0) (right : (s : S) (c : A) → P s → Cut s c (step s c)) where
+    pub places : (s : S) → P s → AtEveryPlace step left s (PlaceRight step Cut)
+    places s p es h i e m =
+        let r = stateFrom step left s (allAsked es) i in
+        let q = followed s es h i e m in
+        record { outcome = q; cut = subst (λ (o : O). Cut r (e .asked) o) (sym q) (right r (e .asked) (stays P keeps s (allAsked es) i p)) }
+
+  -- ── the trace is the one that the places cite ──
+  pub trace-at : (s : S) (cs : List A) (i : ℕ) (o : O) → At (traceFrom step left s cs) i o → (c : A) × At cs i c × (o ≡ step (stateFrom step left s cs i) c)
+  trace-at s [] i o m = absurd m
+  trace-at s (c ∷ cs) zero o m = (c, refl, sym m)
+  trace-at s (c ∷ cs) (suc i) o m = trace-at (left (step s c)) cs i o m
+
+  pub history-from : (s : S) (es : List (Entry A O)) → History step left s es → map (λ (e : Entry A O). e .outcome) es ≡ traceFrom step left s (allAsked es)
+  history-from s [] h = refl
+  history-from s (e ∷ es) h =
+      ap (λ (os : List O). e .outcome ∷ os) (history-from (left (e .outcome)) es (h .1)) ∙ ap (λ (o : O). o ∷ traceFrom step left (left o) (allAsked es)) (h .0)
