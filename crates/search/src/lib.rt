@@ -27,7 +27,7 @@ fn start(limits: &mut [i16], parents: &mut [u16])
 
 // The reach of every subject, and for each subject that has one the place of the record by which it is reached.
 // Subjects are settled from the largest limit down; one that was raised after it began to wait is settled at its new limit.
-pub fn search(
+fn search(
     records: &[u8],
     starts: &[u16],
     table: &[i16],
