@@ -5,7 +5,7 @@ use Prim.Native.Nat.{ℕ, _+_, _<_}
 use native.Mathlib.Omega.{arith}
 use lib.ListN.{length}
 use lib.IntN.{ℤ, pos}
-use Rattle.rules.specs.Register.{withDelegations, granted}
+use Rattle.rules.specs.Register.{Delegation, withDelegations}
 use Rattle.rules.specs.Reach.{reach}
 use Rattle.rules.specs.Call.{grant, askReach}
 use Rattle.rules.specs.Refusal.{held}

@@ -2,7 +2,6 @@
 ghost use mathlib.Core.Path.{_≡_};
 ghost use mathlib.Core.Bool.{true};
 ghost use Rattle.rules.specs.Table.{TableRule};
-ghost use Rattle.rules.specs.Cut.{removal, lowering};
 ghost use Rattle.rules.specs.Call.{revoke, downgrade};
 ghost use Rattle.rules.specs.CallStep.{cut};
 ghost use Rattle.block.specs.Block.{decode};
@@ -28,7 +27,7 @@ fn settle(block: &mut [u8], table: &[i16]) -> Answer
 
 pub fn revoke_by(block: &mut [u8], table: &[i16], by: u32, giver: u32, receiver: u32) -> Answer
     requires { ⌜ TableRule (now table) ⌝ }
-    ensures { λ r. ⌜ CutMade (now (table .entry)) (revoke by giver receiver) (removal giver receiver) (now (block .entry)) r (now (block .exit)) ⌝ }
+    ensures { λ r. ⌜ CutMade (now (table .entry)) (revoke by giver receiver) (now (block .entry)) r (now (block .exit)) ⌝ }
 {
     let n = refusals::revoke_refusal(block, by, giver, receiver);
     if n != 0 {
@@ -47,7 +46,7 @@ pub fn downgrade_by(
     weight: u32,
 ) -> Answer
     requires { ⌜ TableRule (now table) ⌝ }
-    ensures { λ r. ⌜ CutMade (now (table .entry)) (downgrade by giver receiver weight) (lowering giver receiver weight) (now (block .entry)) r (now (block .exit)) ⌝ }
+    ensures { λ r. ⌜ CutMade (now (table .entry)) (downgrade by giver receiver weight) (now (block .entry)) r (now (block .exit)) ⌝ }
 {
     let n = refusals::downgrade_refusal(block, by, giver, receiver, weight);
     if n != 0 {

@@ -12,6 +12,7 @@ use Rattle.rules.specs.Pair.{isPair, weightAt}
 use Rattle.rules.specs.Remainder.{AtMost}
 use Rattle.rules.specs.WellFormed.{Before, Rising}
 use Rattle.rules.proofs.WellFormed.{Before-trans, Before-pairs, Before-irrefl}
+use Rattle.rules.proofs.AtMost.{at-giver, at-receiver}
 use Rattle.rules.proofs.Pairs.{IsPair, pair-test, test-pair}
 
 -- ds is left of one list, es of the other, which began as fs: what stands in fs for a pair of ds is what stands in es
@@ -39,7 +40,7 @@ weight-none g r (e ∷ es) n = weight-rest g r e es (n e (List·Memᴰ·head ref
 -- what stands in a list, and is not of its first pair, stands in the rest
 held-rest : (d : Delegation) (ds : List Delegation) (e : Delegation) → (IsPair (d .giver) (d .receiver) e → ⊥) → (x : Delegation) × (x ∈ (d ∷ ds)) × AtMost e x → (x : Delegation) × (x ∈ ds) × AtMost e x
 held-rest d ds e n (x, List·Memᴰ·tail m, a) = (x, m, a)
-held-rest d ds e n (x, List·Memᴰ·head q, a) = absurd (n (a .giver ∙ ap (λ (y : Delegation). y .giver) q, a .receiver ∙ ap (λ (y : Delegation). y .receiver) q))
+held-rest d ds e n (x, List·Memᴰ·head q, a) = absurd (n (at-giver a ∙ ap (λ (y : Delegation). y .giver) q, at-receiver a ∙ ap (λ (y : Delegation). y .receiver) q))
 
 module _ (fs : List Delegation) (d : Delegation) (ds : List Delegation) where
   -- the next of es is of the pair of d

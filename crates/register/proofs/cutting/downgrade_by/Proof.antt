@@ -43,7 +43,7 @@ returns c =
     let n = c .before .before .downgrade-refusal in
     let s = c .before .before .before .before .before in
     let t = s .args .table .now in
-    rw (c .refused .ensures) (cut-refused t (call s) (change s) (s .args .block .now) (n .result) (n .ensures t) (c .before .if1 .taken))
+    rw (c .refused .ensures) (cut-refused t (call s) (s .args .block .now) (n .result) (n .ensures t) (c .before .if1 .taken))
 
 cast-set-weight : tie.Need-cast-set-weight
 cast-set-weight c = omega (arith, past (c .before) .through .numbers .0 .1 .0)

@@ -43,7 +43,7 @@ returns c =
     let n = c .before .before .revoke-refusal in
     let s = c .before .before .before .before .before in
     let t = s .args .table .now in
-    rw (c .refused .ensures) (cut-refused t (call s) (change s) (s .args .block .now) (n .result) (n .ensures t) (c .before .if1 .taken))
+    rw (c .refused .ensures) (cut-refused t (call s) (s .args .block .now) (n .result) (n .ensures t) (c .before .if1 .taken))
 
 cast-remove : tie.Need-cast-remove
 cast-remove c = omega (arith, past (c .before) .through .numbers .1 .0)
