@@ -29,7 +29,7 @@ pub record BitSet (q : List ℕ) (z y b : ℕ) (q′ : List ℕ) : Type 0 where
   pub here : waits q′ z y ≡ b
   pub others : (x w : ℕ) → (z ≢ x) ⊎ (y ≢ w) → waits q′ x w ≡ waits q x w
 
--- u is taken from level z; it is no subject's number, and nothing changes, where none waits there
+-- u is taken from level z; where none waits there it is `setBits`, which is no subject's number, and nothing changes
 abbrev pub Taken : List ℕ → ℕ → ℕ → List ℕ → Type 0
 Taken q z u q′ = ((u ≡ setBits) × ((y : ℕ) → waits q z y ≡ 0) × (q′ ≡ q)) ⊎ ((u < setBits) × (waits q z u ≡ 1) × BitSet q z u 0 q′)
 
