@@ -17,7 +17,7 @@ fn size(v: i32) -> u32 {
     if v < 0 { (-1 - v) as u32 } else { v as u32 }
 }
 
-pub fn print_signed(v: i32) {
+fn print_signed(v: i32) {
     let n = size(v) as u64;
     if v < 0 {
         print(b"-");
@@ -28,7 +28,7 @@ pub fn print_signed(v: i32) {
 }
 
 // The length, `:` and the bytes without the zeros at the end.
-pub fn print_block(block: &[u8]) {
+fn print_block(block: &[u8]) {
     print_number(block.len() as u64);
     print(b":");
     let mut space = [0u8; 2 * MOST_BLOCK];

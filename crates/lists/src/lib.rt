@@ -10,11 +10,11 @@ use casefile::reading;
 const MOST_CALLS: usize = 200;
 
 // The numbers that are read, a call more than a list may have, and what is kept of the calls: a slot more than calls.
-const NUMBERS: usize = replay::CALL_SIZE * (MOST_CALLS + 1);
+const NUMBERS: usize = replay::NUMBERS_PER_CALL * (MOST_CALLS + 1);
 
 const SLOTS_SIZE: usize = layout::BLOCK_SIZE * (MOST_CALLS + 1);
 
-const ANSWERS: usize = replay::ANSWER_SIZE * MOST_CALLS;
+const ANSWERS: usize = replay::ANSWERS_PER_CALL * MOST_CALLS;
 
 // What every place of a buffer holds before the call.
 const BYTE: u8 = 170;
@@ -105,7 +105,7 @@ fn run_list(numbers: &[u32], sizes: Sizes) {
     let refusal = make(numbers, sizes, &mut blocks, &mut refusals, &mut answers);
     print_first(refusal, &blocks);
     print_rows(
-        sizes.numbers / replay::CALL_SIZE,
+        sizes.numbers / replay::NUMBERS_PER_CALL,
         &blocks,
         &refusals,
         &answers,
@@ -173,9 +173,9 @@ fn print_row(i: usize, blocks: &[u8], refusals: &[u32], answers: &[i32]) {
     }
     out::print_outcome(
         number_at(refusals, i),
-        signed_at(answers, replay::ANSWER_SIZE * i),
-        signed_at(answers, replay::ANSWER_SIZE * i + 1),
-        signed_at(answers, replay::ANSWER_SIZE * i + 2),
+        signed_at(answers, replay::ANSWERS_PER_CALL * i),
+        signed_at(answers, replay::ANSWERS_PER_CALL * i + 1),
+        signed_at(answers, replay::ANSWERS_PER_CALL * i + 2),
         &blocks[from..to],
         &blocks[to..end],
     );

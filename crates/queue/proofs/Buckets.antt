@@ -13,7 +13,7 @@ use lib.Dec.{T, eqb, ltb, ltb→lt, nltb→le}
 use lib.ListN.{length, getD, set, replicate, length-set, length-replicate, getD-replicate, List·getD-eq-default}
 use lib.Seq.{getD-set-same, getD-set-other}
 use Rattle.rules.proofs.Lists.{either, eqOr}
-use Rattle.queue.specs.Queue.{setBits, bit, waits, Put, Taken, Lowest}
+use Rattle.queue.specs.Queue.{setBits, bit, waits, BitSet, Taken, Lowest}
 
 pub bit-zero : (y : ℕ) → bit 0 y ≡ 0
 bit-zero zero = refl
@@ -57,7 +57,7 @@ bit-off (suc x) (suc y) n = ap (λ (z : ℕ). bit z y) (shifted-half 1 x) ∙ bi
 -- ── one subject more or less at a level ──
 module _ (q : List ℕ) (z y : ℕ) (h : z < length q) where
   -- a set put at a level that differs in one subject alone
-  put-set : (v b : ℕ) → bit v y ≡ b → ((w : ℕ) → y ≢ w → bit v w ≡ waits q z w) → Put q z y b (set q z v)
+  put-set : (v b : ℕ) → bit v y ≡ b → ((w : ℕ) → y ≢ w → bit v w ≡ waits q z w) → BitSet q z y b (set q z v)
   put-set v b at off = record {
     size = length-set q z v;
     here = ap (λ (n : ℕ). bit n y) (getD-set-same q z v 0 h) ∙ at;
@@ -79,12 +79,12 @@ module _ (q : List ℕ) (z y : ℕ) (h : z < length q) where
     one-off : (w : ℕ) → y ≢ w → bit one w ≡ 0
     one-off w d = ap (λ (x : ℕ). bit x w) e ∙ bit-off y w d
 
-    pub put-in : Put q z y 1 (set q z (bitOr (getD q z 0) one))
+    pub put-in : BitSet q z y 1 (set q z (bitOr (getD q z 0) one))
     put-in =
         put-set (bitOr (getD q z 0) one) 1 (bit-or (getD q z 0) one y ∙ omega (arith, one-here, bit-small (getD q z 0) y))
         (λ w d. bit-or (getD q z 0) one w ∙ omega (arith, one-off w d))
 
-    pub put-out : waits q z y ≡ 1 → Put q z y 0 (set q z (bitXor (getD q z 0) one))
+    pub put-out : waits q z y ≡ 1 → BitSet q z y 0 (set q z (bitXor (getD q z 0) one))
     put-out f =
         put-set (bitXor (getD q z 0) one) 0 (bit-xor (getD q z 0) one y ∙ (λ i. differ (f i) (one-here i)))
         (λ w d. bit-xor (getD q z 0) one w ∙ (λ i. differ (waits q z w) (one-off w d i)) ∙ differ-none (waits q z w))
@@ -94,7 +94,7 @@ module _ (q : List ℕ) (z y : ℕ) (h : z < length q) where
         differ-none (suc x) = refl
 
 -- none waits below the lower of two levels
-pub lowest-put : (q q′ : List ℕ) (z y b low r : ℕ) → Lowest q low → Put q z y b q′ → r ≤ low → r ≤ z → Lowest q′ r
+pub lowest-put : (q q′ : List ℕ) (z y b low r : ℕ) → Lowest q low → BitSet q z y b q′ → r ≤ low → r ≤ z → Lowest q′ r
 lowest-put q q′ z y b low r w p h k x v l = p .others x v (inl (λ e. omega arith)) ∙ w x v (omega arith)
 
 -- none waits in an empty queue
@@ -168,7 +168,7 @@ members n = left (λ y. eqb (bit n y) 0) setBits
 pub members-few : (n : ℕ) → members n ≤ setBits
 members-few n = left-few (λ y. eqb (bit n y) 0) setBits
 
-pub members-fall : (q q′ : List ℕ) (z u : ℕ) → u < setBits → waits q z u ≡ 1 → Put q z u 0 q′ → members (getD q′ z 0) < members (getD q z 0)
+pub members-fall : (q q′ : List ℕ) (z u : ℕ) → u < setBits → waits q z u ≡ 1 → BitSet q z u 0 q′ → members (getD q′ z 0) < members (getD q z 0)
 members-fall q q′ z u h w put =
     left-falls (λ y. eqb (waits q z y) 0) (λ y. eqb (waits q′ z y) 0) setBits u h (ap (λ (x : ℕ). eqb x 0) w) (ap (λ (x : ℕ). eqb x 0) (put .here))
     (λ y n. ap (λ (x : ℕ). eqb x 0) (put .others z y (inr n)))
@@ -178,6 +178,6 @@ pub taken-none : (q q′ : List ℕ) (z u : ℕ) → Taken q z u q′ → u ≡ 
 taken-none q q′ z u (inl (e, w, f)) h = (w, f)
 taken-none q q′ z u (inr (l, w, f)) h = absurd (omega arith)
 
-pub taken-some : (q q′ : List ℕ) (z u : ℕ) → Taken q z u q′ → u ≢ setBits → (u < setBits) × (waits q z u ≡ 1) × Put q z u 0 q′
+pub taken-some : (q q′ : List ℕ) (z u : ℕ) → Taken q z u q′ → u ≢ setBits → (u < setBits) × (waits q z u ≡ 1) × BitSet q z u 0 q′
 taken-some q q′ z u (inl (e, w, f)) h = absurd (h e)
 taken-some q q′ z u (inr t) h = t

@@ -23,15 +23,15 @@ bit n (suc y) = bit (n / 2) y
 abbrev pub waits : List ℕ → ℕ → ℕ → ℕ
 waits q z y = bit (getD q z 0) y
 
--- q′ is q but for subject y at level z, where it has b
-pub record Put (q : List ℕ) (z y b : ℕ) (q′ : List ℕ) : Type 0 where
+-- q′ is q but for subject y at level z, which has the bit b there
+pub record BitSet (q : List ℕ) (z y b : ℕ) (q′ : List ℕ) : Type 0 where
   pub size : length q′ ≡ length q
   pub here : waits q′ z y ≡ b
   pub others : (x w : ℕ) → (z ≢ x) ⊎ (y ≢ w) → waits q′ x w ≡ waits q x w
 
--- u is taken from level z; it is no subject's number, and nothing changes, where none waits there
+-- u is taken from level z; where none waits there it is `setBits`, which is no subject's number, and nothing changes
 abbrev pub Taken : List ℕ → ℕ → ℕ → List ℕ → Type 0
-Taken q z u q′ = ((u ≡ setBits) × ((y : ℕ) → waits q z y ≡ 0) × (q′ ≡ q)) ⊎ ((u < setBits) × (waits q z u ≡ 1) × Put q z u 0 q′)
+Taken q z u q′ = ((u ≡ setBits) × ((y : ℕ) → waits q z y ≡ 0) × (q′ ≡ q)) ⊎ ((u < setBits) × (waits q z u ≡ 1) × BitSet q z u 0 q′)
 
 -- none waits below level `low`
 abbrev pub Lowest : List ℕ → ℕ → Type 0

@@ -2,7 +2,7 @@
 ghost use mathlib.Core.Path.{_≡_};
 ghost use Prim.Native.Nat.{_<_};
 ghost use lib.ListN.{length};
-ghost use Rattle.queue.specs.Queue.{levels, setBits, Put, Taken, Lowest, IsQueue};
+ghost use Rattle.queue.specs.Queue.{levels, setBits, BitSet, Taken, Lowest, IsQueue};
 
 // The levels of a queue: the limits from 0 to 255.
 pub const LEVELS: usize = 256;
@@ -13,7 +13,7 @@ pub const SET_BITS: usize = 64;
 // A subject waits at a level from now on; the lowest level at which one may wait.
 pub fn join(queue: &mut [u64], level: usize, subject: usize, low: usize) -> usize
     requires { ⌜ IsQueue (now queue) low × (level < levels) × (subject < setBits) ⌝ }
-    ensures { λ r. ⌜ Put (now (queue .entry)) level subject 1 (now (queue .exit)) × Lowest (now (queue .exit)) r ⌝ }
+    ensures { λ r. ⌜ BitSet (now (queue .entry)) level subject 1 (now (queue .exit)) × Lowest (now (queue .exit)) r ⌝ }
 {
     queue[level] = queue[level] | (1u64 << subject);
     if level < low {

@@ -11,9 +11,8 @@ use lib.Signed.{ltZ, mag}
 use mir.Syntax.{w16}
 use mir.Facts.{toZ-ofZ}
 use lib.ListN.{length, getD, set, take, drop, length-set, List·getD-eq-default}
-use lib.Seq.{getD-set-same, getD-set-other}
 use Rattle.rules.specs.Register.{Delegation}
-use Rattle.rules.proofs.Lists.{clash, eqOr}
+use Rattle.rules.proofs.Lists.{clash, eqOr, set-more}
 use Rattle.rules.proofs.Signed.{getD-within, kept}
 use Rattle.reckoning.specs.Reckoned.{noneDecoded, lesser, WeightsRead}
 use Rattle.reckoning.specs.declared.Delegation.{Delegation as DecodedDelegation}
@@ -21,11 +20,7 @@ use Rattle.reckoning.specs.declared.Delegation.{Delegation as DecodedDel
 -- ── lists ──
 -- one more place filled
 pub filled : {A : Type 0} (l : List A) (k : ℕ) (z v : A) (p : ℕ → A) → k < length l → ((j : ℕ) → j < k → getD l j z ≡ p j) → v ≡ p k → (j : ℕ) → j < k + 1 → getD (set l k v) j z ≡ p j
-filled l k z v p h f e j q = go (eqOr j k)
-  where
-    go : (j ≡ k) ⊎ (j ≢ k) → getD (set l k v) j z ≡ p j
-    go (inl s) = subst (λ (i : ℕ). getD (set l k v) i z ≡ p i) (sym s) (getD-set-same l k v z h ∙ e)
-    go (inr s) = getD-set-other l k j v z s ∙ f j (omega arith)
+filled l k z v p = set-more (λ j x. x ≡ p j) l k v z
 
 module _ {A : Type 0} (f : A → A) (d : A) where
   -- a list with f at its first n elements, as a loop makes it

@@ -9,12 +9,12 @@ ghost use Rattle.search.specs.Found.{Searchable};
 ghost use Rattle.reckoning.specs.Reckoned.{Reckoned};
 
 // A decoded delegation; a round lowers the weight of one that it removes to -1.
-pub struct Delegation {
-    pub giver: u8,
-    pub receiver: u8,
-    pub weight: i16,
-    pub need: u16,
-    pub bar: u16,
+struct Delegation {
+    giver: u8,
+    receiver: u8,
+    weight: i16,
+    need: u16,
+    bar: u16,
 }
 
 // The weights that a round leaves, all together, every reach from the block as the round began; whether one changed.

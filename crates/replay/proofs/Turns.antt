@@ -26,49 +26,49 @@ use Rattle.register.specs.Cuts.{CutsLeft}
 use Rattle.demands.specs.History.{bytesLeft, blockAt}
 use Rattle.register.specs.declared.Answer.{Answer}
 use Rattle.demands.proofs.History.{demand3-steps}
-use Rattle.replay.specs.Replay.{answerSize, callCount, callsIn, callAt, slot, returnedAt, entryIn, entriesIn, isSized, allCalls, replayRefusal, Replayed, ReplayMade}
-use Rattle.replay.specs.Turn.{SlotCopied, Stored, MadeAt, Turned}
+use Rattle.replay.specs.Replay.{answersPerCall, callCount, callsIn, callAt, slot, returnedAt, entryIn, entriesIn, isSized, allCalls, replayRefusal, Replayed, ReplayMade}
+use Rattle.replay.specs.Turn.{SlotCopied, Stored, MadeAt, TurnMade}
 use Rattle.replay.proofs.Slots.{slot-kept, slot-new, slot-part}
 
 -- ── what is stored ──
-module _ (refusals : List ℕ) (answers : List ℤ) (i : ℕ) (o : Answer) (room : i < length refusals) (space : answerSize * i + answerSize ≤ length answers) where
-  pub stored-all : Stored refusals answers i o (set refusals i (o .refusal)) (set (set (set answers (answerSize * i) (o .first)) (answerSize * i + 1) (o .second)) (answerSize * i + 2) (o .third))
+module _ (refusals : List ℕ) (answers : List ℤ) (i : ℕ) (o : Answer) (room : i < length refusals) (space : answersPerCall * i + answersPerCall ≤ length answers) where
+  pub stored-all : Stored refusals answers i o (set refusals i (o .refusal)) (set (set (set answers (answersPerCall * i) (o .first)) (answersPerCall * i + 1) (o .second)) (answersPerCall * i + 2) (o .third))
   stored-all =
-      let a : List ℤ = set answers (answerSize * i) (o .first) in
-      let b : List ℤ = set a (answerSize * i + 1) (o .second) in
-      let s : List ℤ = set b (answerSize * i + 2) (o .third) in
-      let la : length a ≡ length answers = length-set answers (answerSize * i) (o .first) in
-      let lb : length b ≡ length a = length-set a (answerSize * i + 1) (o .second) in
+      let a : List ℤ = set answers (answersPerCall * i) (o .first) in
+      let b : List ℤ = set a (answersPerCall * i + 1) (o .second) in
+      let s : List ℤ = set b (answersPerCall * i + 2) (o .third) in
+      let la : length a ≡ length answers = length-set answers (answersPerCall * i) (o .first) in
+      let lb : length b ≡ length a = length-set a (answersPerCall * i + 1) (o .second) in
       let x : getD (set refusals i (o .refusal)) i 0 ≡ o .refusal = getD-set-same refusals i (o .refusal) 0 room in
-      let f : getD s (answerSize * i) (pos 0) ≡ o .first =
-      getD-set-other b (answerSize * i + 2) (answerSize * i) (o .third) (pos 0) (λ e. omega arith)
-      ∙ getD-set-other a (answerSize * i + 1) (answerSize * i) (o .second) (pos 0) (λ e. omega arith)
-      ∙ getD-set-same answers (answerSize * i) (o .first) (pos 0) (omega arith) in
-      let g : getD s (answerSize * i + 1) (pos 0) ≡ o .second =
-      getD-set-other b (answerSize * i + 2) (answerSize * i + 1) (o .third) (pos 0) (λ e. omega arith) ∙ getD-set-same a (answerSize * i + 1) (o .second) (pos 0) (omega arith) in
-      let h : getD s (answerSize * i + 2) (pos 0) ≡ o .third = getD-set-same b (answerSize * i + 2) (o .third) (pos 0) (omega arith) in
+      let f : getD s (answersPerCall * i) (pos 0) ≡ o .first =
+      getD-set-other b (answersPerCall * i + 2) (answersPerCall * i) (o .third) (pos 0) (λ e. omega arith)
+      ∙ getD-set-other a (answersPerCall * i + 1) (answersPerCall * i) (o .second) (pos 0) (λ e. omega arith)
+      ∙ getD-set-same answers (answersPerCall * i) (o .first) (pos 0) (omega arith) in
+      let g : getD s (answersPerCall * i + 1) (pos 0) ≡ o .second =
+      getD-set-other b (answersPerCall * i + 2) (answersPerCall * i + 1) (o .third) (pos 0) (λ e. omega arith) ∙ getD-set-same a (answersPerCall * i + 1) (o .second) (pos 0) (omega arith) in
+      let h : getD s (answersPerCall * i + 2) (pos 0) ≡ o .third = getD-set-same b (answersPerCall * i + 2) (o .third) (pos 0) (omega arith) in
       record {
         here = λ p. record { refusal = x p; first = f p; second = g p; third = h p };
         kept = λ j l.
             let x = getD-set-other refusals i j (o .refusal) 0 (λ e. omega arith) in
-            let f = other (answerSize * j) (omega arith) in
-            let g = other (answerSize * j + 1) (omega arith) in
-            let h = other (answerSize * j + 2) (omega arith) in
+            let f = other (answersPerCall * j) (omega arith) in
+            let g = other (answersPerCall * j + 1) (omega arith) in
+            let h = other (answersPerCall * j + 2) (omega arith) in
             λ p. record { refusal = x p; first = f p; second = g p; third = h p };
       }
     where
-      other : (k : ℕ) → k < answerSize * i → getD (set (set (set answers (answerSize * i) (o .first)) (answerSize * i + 1) (o .second)) (answerSize * i + 2) (o .third)) k (pos 0) ≡ getD answers k (pos 0)
+      other : (k : ℕ) → k < answersPerCall * i → getD (set (set (set answers (answersPerCall * i) (o .first)) (answersPerCall * i + 1) (o .second)) (answersPerCall * i + 2) (o .third)) k (pos 0) ≡ getD answers k (pos 0)
       other k l =
-          getD-set-other (set (set answers (answerSize * i) (o .first)) (answerSize * i + 1) (o .second)) (answerSize * i + 2) k (o .third) (pos 0) (λ e. omega arith)
-          ∙ getD-set-other (set answers (answerSize * i) (o .first)) (answerSize * i + 1) k (o .second) (pos 0) (λ e. omega arith)
-          ∙ getD-set-other answers (answerSize * i) k (o .first) (pos 0) (λ e. omega arith)
+          getD-set-other (set (set answers (answersPerCall * i) (o .first)) (answersPerCall * i + 1) (o .second)) (answersPerCall * i + 2) k (o .third) (pos 0) (λ e. omega arith)
+          ∙ getD-set-other (set answers (answersPerCall * i) (o .first)) (answersPerCall * i + 1) k (o .second) (pos 0) (λ e. omega arith)
+          ∙ getD-set-other answers (answersPerCall * i) k (o .first) (pos 0) (λ e. omega arith)
 
 -- ── one turn ──
 module _ (calls blocks refusals : List ℕ) (answers : List ℤ) (i : ℕ) where
   -- b is the list of blocks after the copy; ys is what the call left in its slot, which begins at m
   pub turned : (b : List ℕ) → SlotCopied blocks i b → (m k : ℕ) → m ≡ blockSize * suc i → k ≡ blockSize → m + blockSize ≤ length b → (o : Answer) (ys R : List ℕ) → length ys ≡ length (take k (drop m b))
       → Made steps (callAt calls i) (take k (drop m b)) o ys → (refusals' : List ℕ) (answers' : List ℤ) → Stored refusals answers i o refusals' answers'
-      → Turned calls blocks refusals answers i (take m b ++ (ys ++ R)) refusals' answers'
+      → TurnMade calls blocks refusals answers i (take m b ++ (ys ++ R)) refusals' answers'
   turned b copied m k e f space o ys R w made refusals' answers' stored =
       let room : m ≤ length b = omega arith in
       let size : length ys ≡ blockSize = w ∙ length-take-le k (drop m b) (simp length-drop (omega arith)) ∙ f in
@@ -100,7 +100,7 @@ pub through-none : (calls blocks refusals : List ℕ) (answers : List ℤ) → s
 through-none calls blocks refusals answers e = record { first = e; made = λ j h. absurd (not-suc-le-zero h) }
 
 pub through-on : (calls blocks refusals : List ℕ) (answers : List ℤ) (k : ℕ) → Through calls blocks refusals answers k
-    → (blocks' refusals' : List ℕ) (answers' : List ℤ) → Turned calls blocks refusals answers k blocks' refusals' answers' → Through calls blocks' refusals' answers' (k + 1)
+    → (blocks' refusals' : List ℕ) (answers' : List ℤ) → TurnMade calls blocks refusals answers k blocks' refusals' answers' → Through calls blocks' refusals' answers' (k + 1)
 through-on calls blocks refusals answers k h blocks' refusals' answers' t = record { first = t .slots 0 (omega arith) ∙ h .first; made = λ j l. go j l (either (ltb j k)) }
   where
     go : (j : ℕ) → j < k + 1 → T (ltb j k) ⊎ T (not (ltb j k)) → MadeAt calls blocks' refusals' answers' j

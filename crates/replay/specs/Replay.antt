@@ -45,11 +45,11 @@ pub record CallMade (number : ℕ) (d : Call) (before : List ℕ) (r : Answer) (
 -- ── the buffers ──
 
 -- how many numbers a call has in a list, and how many answers
-abbrev pub callSize : ℕ
-callSize = 7
+abbrev pub numbersPerCall : ℕ
+numbersPerCall = 7
 
-abbrev pub answerSize : ℕ
-answerSize = 3
+abbrev pub answersPerCall : ℕ
+answersPerCall = 3
 
 -- the call whose numbers begin a list: the call's number, by, giver, receiver, weight, need, bar
 abbrev pub callIn : List ℕ → Call
@@ -57,17 +57,17 @@ callIn s = callOf (getD s 0 0) (getD s 1 0) (getD s 2 0) (getD s 3 0) (getD s 4 
 
 -- how many calls a list of numbers has, and which
 abbrev pub callCount : List ℕ → ℕ
-callCount s = length s / callSize
+callCount s = length s / numbersPerCall
 
 abbrev pub callsIn : List ℕ → List Call
-callsIn s = readAll callIn callSize s (callCount s)
+callsIn s = readAll callIn numbersPerCall s (callCount s)
 
 -- call i, and its number
 abbrev pub callAt : List ℕ → ℕ → Call
-callAt s i = callIn (drop (callSize * i) s)
+callAt s i = callIn (drop (numbersPerCall * i) s)
 
 abbrev pub numberAt : List ℕ → ℕ → ℕ
-numberAt s i = getD s (callSize * i) 0
+numberAt s i = getD s (numbersPerCall * i) 0
 
 -- block i: 0 is the opened one, i + 1 the one that call i left
 unfoldable pub slot : List ℕ → ℕ → List ℕ
@@ -76,7 +76,7 @@ slot blocks i = take blockSize (drop (blockSize * i) blocks)
 -- what call i returned
 abbrev pub returnedAt : List ℕ → List ℤ → ℕ → Answer
 returnedAt refusals answers i =
-    record { refusal = getD refusals i 0; first = getD answers (answerSize * i) (pos 0); second = getD answers (answerSize * i + 1) (pos 0); third = getD answers (answerSize * i + 2) (pos 0) }
+    record { refusal = getD refusals i 0; first = getD answers (answersPerCall * i) (pos 0); second = getD answers (answersPerCall * i + 1) (pos 0); third = getD answers (answersPerCall * i + 2) (pos 0) }
 
 -- every call with what it returned and the block that it left
 abbrev pub entryIn : List ℕ → List ℕ → List ℕ → List ℤ → ℕ → Entry Call Result
@@ -90,8 +90,8 @@ entriesIn calls blocks refusals answers = tabulate (entryIn calls blocks refusal
 -- the lengths are whole calls, a block more than calls, a refusal and the answers for each call
 abbrev pub isSized : (calls blocks refusals answers : ℕ) → Bool
 isSized calls blocks refusals answers =
-    let n = calls / callSize in
-    eqb (calls % callSize) 0 && eqb blocks (blockSize * suc n) && eqb refusals n && eqb answers (answerSize * n)
+    let n = calls / numbersPerCall in
+    eqb (calls % numbersPerCall) 0 && eqb blocks (blockSize * suc n) && eqb refusals n && eqb answers (answersPerCall * n)
 
 -- every call number is a call's
 abbrev pub allCalls : List ℕ → Bool

@@ -8,7 +8,7 @@ use Rattle.rules.specs.Table.{steps}
 use Rattle.block.specs.Layout.{blockSize}
 use Rattle.register.specs.Made.{Made}
 use Rattle.register.specs.declared.Answer.{Answer}
-use Rattle.replay.specs.Replay.{answerSize, callCount, callAt, slot, returnedAt}
+use Rattle.replay.specs.Replay.{answersPerCall, callCount, callAt, slot, returnedAt}
 
 -- slot i was copied to the slot after it
 pub record SlotCopied (before : List ℕ) (i : ℕ) (after : List ℕ) : Type 0 where
@@ -24,14 +24,14 @@ pub record Stored (refusals : List ℕ) (answers : List ℤ) (i : ℕ) (o : Answ
 pub record Sized (calls b r : List ℕ) (a : List ℤ) : Type 0 where
   pub blocks : length b ≡ blockSize * suc (callCount calls)
   pub refusals : length r ≡ callCount calls
-  pub answers : length a ≡ answerSize * callCount calls
+  pub answers : length a ≡ answersPerCall * callCount calls
 
 -- call i, made on slot i, returned what is stored for it and left the slot after it
 abbrev pub MadeAt : List ℕ → List ℕ → List ℕ → List ℤ → ℕ → Type 0
 MadeAt calls blocks refusals answers i = Made steps (callAt calls i) (slot blocks i) (returnedAt refusals answers i) (slot blocks (suc i))
 
 -- call i was made; the slots and answers before it were kept
-pub record Turned (calls blocks refusals : List ℕ) (answers : List ℤ) (i : ℕ) (blocks' refusals' : List ℕ) (answers' : List ℤ) : Type 0 where
+pub record TurnMade (calls blocks refusals : List ℕ) (answers : List ℤ) (i : ℕ) (blocks' refusals' : List ℕ) (answers' : List ℤ) : Type 0 where
   pub made : MadeAt calls blocks' refusals' answers' i
   pub slots : (j : ℕ) → j ≤ i → slot blocks' j ≡ slot blocks j
   pub kept : (j : ℕ) → j < i → returnedAt refusals' answers' j ≡ returnedAt refusals answers j

@@ -6,16 +6,16 @@ ghost use lib.ListN.{length, getD, drop};
 ghost use Rattle.rules.specs.Table.{steps};
 ghost use Rattle.block.specs.Layout.{blockSize};
 ghost use Rattle.register.specs.Made.{Made};
-ghost use Rattle.replay.specs.Replay.{isCall, callOf, CallMade, callSize, answerSize, callIn, callCount, numberAt, isSized, allCalls, ReplayMade};
-ghost use Rattle.replay.specs.Turn.{SlotCopied, Stored, Sized, Turned};
+ghost use Rattle.replay.specs.Replay.{isCall, callOf, CallMade, numbersPerCall, answersPerCall, callIn, callCount, numberAt, isSized, allCalls, ReplayMade};
+ghost use Rattle.replay.specs.Turn.{SlotCopied, Stored, Sized, TurnMade};
 use block::layout;
 use register::Answer;
 use rules::refusal;
 
 // How many numbers a call has in a list, and how many answers.
-pub const CALL_SIZE: usize = 7;
+pub const NUMBERS_PER_CALL: usize = 7;
 
-pub const ANSWER_SIZE: usize = 3;
+pub const ANSWERS_PER_CALL: usize = 3;
 
 // Makes the call that the numbers name: 0 enrol (marks under need), 1 grant, 2 revoke, 3 downgrade, 4 reach, 5 use.
 pub fn call(
@@ -67,10 +67,10 @@ fn is_call(number: u32) -> bool
 fn all_calls(calls: &[u32]) -> bool
     ensures { λ r. ⌜ r ≡ allCalls (now (calls .entry)) ⌝ }
 {
-    let n = calls.len() / CALL_SIZE;
+    let n = calls.len() / NUMBERS_PER_CALL;
     let mut i: usize = 0;
     while i < n {
-        if !is_call(calls[CALL_SIZE * i]) {
+        if !is_call(calls[NUMBERS_PER_CALL * i]) {
             return false;
         }
         i += 1;
@@ -82,22 +82,22 @@ fn all_calls(calls: &[u32]) -> bool
 fn is_sized(calls: usize, blocks: usize, refusals: usize, answers: usize) -> bool
     ensures { λ r. ⌜ r ≡ isSized calls blocks refusals answers ⌝ }
 {
-    if calls % CALL_SIZE != 0 {
+    if calls % NUMBERS_PER_CALL != 0 {
         return false;
     }
     if blocks % layout::BLOCK_SIZE != 0 {
         return false;
     }
-    if blocks / layout::BLOCK_SIZE != calls / CALL_SIZE + 1 {
+    if blocks / layout::BLOCK_SIZE != calls / NUMBERS_PER_CALL + 1 {
         return false;
     }
-    if refusals != calls / CALL_SIZE {
+    if refusals != calls / NUMBERS_PER_CALL {
         return false;
     }
-    if answers % ANSWER_SIZE != 0 {
+    if answers % ANSWERS_PER_CALL != 0 {
         return false;
     }
-    answers / ANSWER_SIZE == calls / CALL_SIZE
+    answers / ANSWERS_PER_CALL == calls / NUMBERS_PER_CALL
 }
 
 // Slot `i` copied to the slot after it.
@@ -116,7 +116,7 @@ fn copy_slot(blocks: &mut [u8], i: usize)
 
 // What call `i` returned.
 fn store(refusals: &mut [u32], answers: &mut [i32], i: usize, o: Answer)
-    requires { ⌜ (i < length (now refusals)) × (answerSize * i + answerSize ≤ length (now answers)) ⌝ }
+    requires { ⌜ (i < length (now refusals)) × (answersPerCall * i + answersPerCall ≤ length (now answers)) ⌝ }
     ensures { λ _. ⌜ Stored (now (refusals .entry)) (now (answers .entry)) i o (now (refusals .exit)) (now (answers .exit)) ⌝ }
 {
     let number = o.refusal;
@@ -124,14 +124,14 @@ fn store(refusals: &mut [u32], answers: &mut [i32], i: usize, o: Answer)
     let second = o.second;
     let third = o.third;
     refusals[i] = number;
-    answers[ANSWER_SIZE * i] = first;
-    answers[ANSWER_SIZE * i + 1] = second;
-    answers[ANSWER_SIZE * i + 2] = third;
+    answers[ANSWERS_PER_CALL * i] = first;
+    answers[ANSWERS_PER_CALL * i + 1] = second;
+    answers[ANSWERS_PER_CALL * i + 2] = third;
 }
 
 // The call whose numbers begin at `at`.
 fn call_at(calls: &[u32], at: usize, block: &mut [u8]) -> Answer
-    requires { ⌜ (at + callSize ≤ length (now calls)) × T (isCall (getD (now calls) at 0)) ⌝ }
+    requires { ⌜ (at + numbersPerCall ≤ length (now calls)) × T (isCall (getD (now calls) at 0)) ⌝ }
     ensures { λ r. ⌜ Made steps (callIn (drop at (now (calls .entry)))) (now (block .entry)) r (now (block .exit)) ⌝ }
 {
     call(
@@ -149,12 +149,12 @@ fn call_at(calls: &[u32], at: usize, block: &mut [u8]) -> Answer
 // Call `i`, on a copy of slot `i` in the slot after it.
 fn turn(calls: &[u32], i: usize, blocks: &mut [u8], refusals: &mut [u32], answers: &mut [i32])
     requires { ⌜ (i < callCount (now calls)) × T (isCall (numberAt (now calls) i)) × Sized (now calls) (now blocks) (now refusals) (now answers) ⌝ }
-    ensures { λ _. ⌜ Turned (now (calls .entry)) (now (blocks .entry)) (now (refusals .entry)) (now (answers .entry)) i (now (blocks .exit)) (now (refusals .exit)) (now (answers .exit)) ⌝ }
+    ensures { λ _. ⌜ TurnMade (now (calls .entry)) (now (blocks .entry)) (now (refusals .entry)) (now (answers .entry)) i (now (blocks .exit)) (now (refusals .exit)) (now (answers .exit)) ⌝ }
 {
     copy_slot(blocks, i);
     let start = layout::BLOCK_SIZE * (i + 1);
     let end = start + layout::BLOCK_SIZE;
-    let o = call_at(calls, CALL_SIZE * i, &mut blocks[start..end]);
+    let o = call_at(calls, NUMBERS_PER_CALL * i, &mut blocks[start..end]);
     store(refusals, answers, i, o);
 }
 
@@ -170,7 +170,7 @@ pub fn replay(calls: &[u32], blocks: &mut [u8], refusals: &mut [u32], answers: &
         return refusal::MALFORMED;
     }
     register::open(&mut blocks[0..layout::BLOCK_SIZE]);
-    let n = calls.len() / CALL_SIZE;
+    let n = calls.len() / NUMBERS_PER_CALL;
     let mut i: usize = 0;
     while i < n {
         turn(calls, i, blocks, refusals, answers);

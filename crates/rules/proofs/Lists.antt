@@ -6,8 +6,10 @@ use mathlib.Core.List.{List, [], _∷_, map, List·Memᴰ·head, List·Memᴰ·t
 use Prim.Native.Nat.{ℕ, zero, suc, _+_, _≤_, _<_, suc-le-suc}
 use native.Mathlib.Nat.{le-trans, le-refl, add-zero, add-suc, suc-add, le-of-suc-le-suc, not-suc-le-zero}
 use native.Mathlib.Omega.{arith}
+use borrow.Author.Count.{below-more}
 use lib.Dec.{T, eqb, eqb→eq, eqb-refl, T-not}
-use lib.ListN.{length, getD}
+use lib.ListN.{length, getD, set}
+use lib.Seq.{getD-set-same, getD-set-other}
 use Rattle.rules.specs.List.{_∈_, keep, filter, any, tabulate, concatMap}
 
 pub T-left : (a b : Bool) → T (a && b) → T a
@@ -184,3 +186,11 @@ pub getD-tabulate : {A : Type 0} (f : ℕ → A) (d : A) (i n k : ℕ) → k < n
 getD-tabulate f d i zero k l = absurd (not-suc-le-zero l)
 getD-tabulate f d i (suc n) zero l = ap f (sym (add-zero i))
 getD-tabulate f d i (suc n) (suc k) l = getD-tabulate f d (suc i) n k (le-of-suc-le-suc l) ∙ ap f (suc-add i k ∙ sym (add-suc i k))
+
+-- ── a list that is set place by place ──
+-- P holds of each of the first i places, and of one place more once it is set
+pub set-more : {A : Type 0} (P : ℕ → A → Type 0) (l : List A) (i : ℕ) (v d : A) → i < length l → ((y : ℕ) → y < i → P y (getD l y d)) → P i v → (y : ℕ) → y < i + 1 → P y (getD (set l i v) y d)
+set-more P l i v d h all new =
+    below-more (λ y. P y (getD (set l i v) y d)) i
+    (λ y b. let n : y ≢ i = λ e. omega arith in subst (P y) (sym (getD-set-other l i y v d n)) (all y b))
+    (subst (P i) (sym (getD-set-same l i v d h)) new)

@@ -1,15 +1,14 @@
 -- One giver's records: they stand together, and are handed over as a part. Assumes nothing.
 use mathlib.Core.Path.{_≡_, sym, subst}
-use mathlib.Core.Logic.{_≢_, _⊎_, inl, inr}
+use mathlib.Core.Logic.{_⊎_, inl, inr}
 use mathlib.Core.Bool.{not}
 use mathlib.Core.List.{List}
 use Prim.Native.Nat.{ℕ, _+_, _*_, _-_, _≤_, _<_}
 use native.Mathlib.Nat.{le-refl}
 use native.Mathlib.Omega.{arith}
-use borrow.Author.Count.{below-more}
 use lib.Dec.{T, ltb, ltb→lt, nltb→le}
-use lib.ListN.{length, getD, set, drop, length-drop}
-use lib.Seq.{length-take-le, getD-set-same, getD-set-other}
+use lib.ListN.{length, getD, drop, length-drop}
+use lib.Seq.{length-take-le}
 use lib.IntN.{ℤ}
 use Rattle.rules.specs.Limit.{none}
 use Rattle.rules.specs.Register.{Delegation}
@@ -29,14 +28,6 @@ module _ (s : List ℕ) (a e : ℕ) (h : a ≤ e) (l : e ≤ recordCount s) wher
   part-receivers t lent k b =
       let c : a + k < recordCount s = omega (arith, part-count) in
       subst (λ (d : Delegation). d .receiver < mostSubjects) (sym (record-part s a (recordSize * e - recordSize * a) k (omega (arith, part-count)))) (lent .receivers (recordAt s (a + k)) (delegation-mem s (recordCount s) (a + k) c))
-
--- the starts of one giver more
-pub starts-more : (s starts : List ℕ) (giver k : ℕ) → giver < length starts → ((g : ℕ) → g < giver → Sought s g (getD starts g 0)) → Sought s giver k
-    → (g : ℕ) → g < giver + 1 → Sought s g (getD (set starts giver k) g 0)
-starts-more s starts giver k h all new =
-    below-more (λ g. Sought s g (getD (set starts giver k) g 0)) giver
-    (λ g b. let n : g ≢ giver = λ e. omega arith in subst (Sought s g) (sym (getD-set-other starts giver g k 0 n)) (all g b))
-    (subst (Sought s giver) (sym (getD-set-same starts giver k 0 h)) new)
 
 -- a run does not end before it starts
 run-order : (s : List ℕ) (giver a e : ℕ) → Sought s giver a → Sought s (giver + 1) e → a ≤ e

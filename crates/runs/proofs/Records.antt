@@ -11,7 +11,7 @@ use Rattle.rules.specs.List.{_∈_}
 use Rattle.rules.specs.Register.{Delegation, noDelegation}
 use Rattle.rules.specs.WellFormed.{Before, Rising}
 use Rattle.rules.proofs.Lists.{getD-tabulate}
-use Rattle.block.specs.Layout.{recordSize}
+use Rattle.block.specs.Layout.{recordSize, receiverByte}
 use Rattle.block.specs.Block.{delegationIn}
 use Rattle.block.proofs.Bytes.{length-tabulate, tabulate-mem, getD-mem, mem-tabulate}
 use Rattle.runs.specs.Lent.{recordAt, delegationsOf}
@@ -27,8 +27,8 @@ delegation-same r s h = λ q. record {
 }
 
 -- the giver is the first byte, the receiver the one after it
-pub receiver-at : (s : List ℕ) (k : ℕ) → recordAt s k .receiver ≡ getD s (recordSize * k + 1) 0
-receiver-at s k = getD-drop (recordSize * k) s 1 0
+pub receiver-at : (s : List ℕ) (k : ℕ) → recordAt s k .receiver ≡ getD s (recordSize * k + receiverByte) 0
+receiver-at s k = getD-drop (recordSize * k) s receiverByte 0
 
 pub giver-at : (s : List ℕ) (k : ℕ) → recordAt s k .giver ≡ getD s (recordSize * k) 0
 giver-at s k = getD-drop (recordSize * k) s 0 0 ∙ ap (λ (m : ℕ). getD s m 0) (add-zero (recordSize * k))

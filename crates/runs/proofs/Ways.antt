@@ -19,7 +19,7 @@ use Rattle.rules.specs.Register.{Delegation}
 use Rattle.rules.specs.Condition.{meets}
 use Rattle.rules.proofs.Lists.{eqOr, yes, no}
 use Rattle.rules.proofs.Limits.{next-top}
-use Rattle.queue.specs.Queue.{levels, Put, Lowest}
+use Rattle.queue.specs.Queue.{levels, BitSet, Lowest}
 use Rattle.runs.specs.Steps.{Stepped, Waiting}
 use Rattle.rules.proofs.Signed.{kept, more, read-limit, live-natural}
 
@@ -55,9 +55,9 @@ module _ (t : List ℤ) (d : Delegation) (place : ℕ) (limit : ℤ) (marks : �
       pub given-level : TableRule t → limit ≼ pos 255 → T (nonNeg (kept given)) × (natAbs (kept given) < levels)
       given-level rule small = live-natural (kept given) given-live (subst (λ (z : ℤ). z ≼ pos 255) (sym gives) (next-top t rule limit (d .weight) small))
 
-      pub step-raised : m ≡ true → (q′ : List ℕ) (low′ : ℕ) → Put q (natAbs (kept given)) who 1 q′ → Lowest q′ low′ → Made (set l who (kept given)) (set p who place) q′ low′
+      pub step-raised : m ≡ true → (q′ : List ℕ) (low′ : ℕ) → BitSet q (natAbs (kept given)) who 1 q′ → Lowest q′ low′ → Made (set l who (kept given)) (set p who place) q′ low′
       step-raised y q′ low′ put lowest = (
-        inr ((subst T met (yes y), subst T test (yes k)), (λ i. set l (er i) (gives i)), (λ i. set p (er i) place), subst (λ (z : ℤ). Put q (natAbs z) (d .receiver) 1 q′) gives (subst (λ (x : ℕ). Put q (natAbs (kept given)) x 1 q′) er put)),
+        inr ((subst T met (yes y), subst T test (yes k)), (λ i. set l (er i) (gives i)), (λ i. set p (er i) place), subst (λ (z : ℤ). BitSet q (natAbs z) (d .receiver) 1 q′) gives (subst (λ (x : ℕ). BitSet q (natAbs (kept given)) x 1 q′) er put)),
         record { queue = record { size = put .size ∙ w .queue .size; lowest = lowest }; limits = λ y. go y (eqOr who y) },
       )
         where

@@ -48,7 +48,7 @@ pub record RecordLent (s : List ℕ) (at place : ℕ) : Type 0 where
   pub few : place < mostRecords
   pub receiver : delegationIn (drop at s) .receiver < mostSubjects
 
--- room for what a search finds: a limit and a parent for each subject
-pub record Room (l : List ℤ) (p : List ℕ) : Type 0 where
+-- what a search finds has a limit and a parent for each subject
+pub record SubjectLists (l : List ℤ) (p : List ℕ) : Type 0 where
   pub limits : length l ≡ mostSubjects
   pub parents : length p ≡ mostSubjects

@@ -12,8 +12,8 @@ use Rattle.rules.specs.Table.{next}
 use Rattle.rules.specs.Register.{Delegation}
 use Rattle.rules.specs.Condition.{meets}
 use Rattle.block.specs.Layout.{mostSubjects, recordSize}
-use Rattle.queue.specs.Queue.{Put, IsQueue}
-use Rattle.runs.specs.Lent.{recordCount, recordAt, Lent, Room}
+use Rattle.queue.specs.Queue.{BitSet, IsQueue}
+use Rattle.runs.specs.Lent.{recordCount, recordAt, Lent, SubjectLists}
 
 -- the marks meet the condition of d, and from a giver of this limit d gives its receiver more than it has
 abbrev pub Raises : List ℤ → ℤ → ℕ → List ℤ → Delegation → Type 0
@@ -23,7 +23,7 @@ Raises t limit marks l d = T (meets marks (d .need) (d .bar)) × T (ltZ (getD l 
 abbrev pub Stepped : List ℤ → ℤ → ℕ → Delegation → ℕ → List ℤ → List ℕ → List ℕ → List ℤ → List ℕ → List ℕ → Type 0
 Stepped t limit marks d place l p q l′ p′ q′ =
     ((Raises t limit marks l d → ⊥) × (l′ ≡ l) × (p′ ≡ p) × (q′ ≡ q))
-    ⊎ (Raises t limit marks l d × (l′ ≡ set l (d .receiver) (next t limit (d .weight))) × (p′ ≡ set p (d .receiver) place) × Put q (natAbs (next t limit (d .weight))) (d .receiver) 1 q′)
+    ⊎ (Raises t limit marks l d × (l′ ≡ set l (d .receiver) (next t limit (d .weight))) × (p′ ≡ set p (d .receiver) place) × BitSet q (natAbs (next t limit (d .weight))) (d .receiver) 1 q′)
 
 -- the first records of a run, one after another; the first of them is at the place `first`
 pub data SteppedTo (t : List ℤ) (limit : ℤ) (marks : ℕ) (run : List ℕ) (first : ℕ) (l : List ℤ) (p q : List ℕ) : ℕ → List ℤ → List ℕ → List ℕ → Type 0 where
@@ -74,5 +74,5 @@ pub record Waiting (l : List ℤ) (q : List ℕ) (low : ℕ) : Type 0 where
 -- the limit of a giver, and the lists that its records change
 pub record Ready (limit : ℤ) (l : List ℤ) (p q : List ℕ) (low : ℕ) : Type 0 where
   pub most : limit ≼ pos 255
-  pub room : Room l p
+  pub lists : SubjectLists l p
   pub waiting : Waiting l q low

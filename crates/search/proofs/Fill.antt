@@ -1,11 +1,10 @@
--- Lists that are filled with one value from the front, and the limits and places at the start. Assumes nothing.
+-- The limits and places at the start. Assumes nothing.
 use mathlib.Core.Path.{_≡_, sym, _∙_}
-use mathlib.Core.Logic.{_≢_, _⊎_, inl, inr}
+use mathlib.Core.Logic.{_⊎_, inl, inr}
 use mathlib.Core.Bool.{not}
 use mathlib.Core.List.{List}
-use Prim.Native.Nat.{ℕ, _+_, _<_}
+use Prim.Native.Nat.{ℕ, _<_}
 use native.Mathlib.Omega.{arith}
-use borrow.Author.Count.{below-more}
 use lib.Dec.{T, ltb, ltb→lt, nltb→le}
 use lib.IntN.{ℤ, pos}
 use lib.ListN.{length, getD, set, List·getD-eq-default}
@@ -13,12 +12,8 @@ use lib.Seq.{getD-set-same, getD-set-other}
 use Rattle.rules.specs.Limit.{none}
 use Rattle.rules.proofs.Lists.{either}
 use Rattle.block.specs.Layout.{mostSubjects}
-use Rattle.runs.specs.Lent.{Room}
+use Rattle.runs.specs.Lent.{SubjectLists}
 use Rattle.search.specs.Search.{Started}
-
-pub filled-more : {A : Type 0} (l : List A) (i : ℕ) (v d : A) → i < length l → ((y : ℕ) → y < i → getD l y d ≡ v) → (y : ℕ) → y < i + 1 → getD (set l i v) y d ≡ v
-filled-more l i v d h all =
-    below-more (λ y. getD (set l i v) y d ≡ v) i (λ y b. let n : y ≢ i = λ e. omega arith in getD-set-other l i y v d n ∙ all y b) (getD-set-same l i v d h)
 
 -- n values of which each is the default: so is what stands past the end
 everywhere : {A : Type 0} (l : List A) (v : A) (n : ℕ) → length l ≡ n → ((y : ℕ) → y < n → getD l y v ≡ v) → (y : ℕ) → getD l y v ≡ v
@@ -28,7 +23,7 @@ everywhere l v n h a y = go (either (ltb y n))
     go (inl q) = a y (ltb→lt y n q)
     go (inr q) = List·getD-eq-default l v (omega (arith, nltb→le y n q))
 
-pub started : (l : List ℤ) (p : List ℕ) → Room l p → ((y : ℕ) → y < mostSubjects → getD l y none ≡ none) → ((y : ℕ) → y < mostSubjects → getD p y 0 ≡ 0)
+pub started : (l : List ℤ) (p : List ℕ) → SubjectLists l p → ((y : ℕ) → y < mostSubjects → getD l y none ≡ none) → ((y : ℕ) → y < mostSubjects → getD p y 0 ≡ 0)
     → Started (set l 0 (pos 255)) p
 started l p room a b = record {
   owner = getD-set-same l 0 (pos 255) none (omega (arith, room .limits));

@@ -24,7 +24,7 @@ use Rattle.rules.proofs.Search.{Found, Search, search-skip, search-raise}
 use Rattle.block.specs.Layout.{mostSubjects, recordSize}
 use Rattle.search.specs.Search.{underMarks, parentIn}
 use Rattle.runs.specs.Steps.{Stepped, SteppedTo, stepped-none, stepped-more, part}
-use Rattle.queue.specs.Queue.{waits, Put}
+use Rattle.queue.specs.Queue.{waits, BitSet}
 use Rattle.runs.specs.Lent.{recordCount, recordAt, delegationsIn}
 use Rattle.search.specs.Found.{ParentsAmong}
 use Rattle.runs.proofs.Records.{delegation-at, record-part}
@@ -134,7 +134,7 @@ module _ (t : List ℤ) (rule : TableRule t) (s : List ℕ) (marks : ℕ) (settl
         place {y} (inr n) b = subst (λ (i : ℕ). i < recordCount s) (sym (getD-set-other p (d .receiver) y k 0 (λ e. n (sym e)))) b
 
         -- the receiver waits at its new limit, and is as open as before
-        same : (q′ : List ℕ) → Put q (natAbs given) (d .receiver) 1 q′ → (y : ℕ) → (d .receiver ≡ y) ⊎ (d .receiver ≢ y) → settled y ≡ isSettled l′ q′ y
+        same : (q′ : List ℕ) → BitSet q (natAbs given) (d .receiver) 1 q′ → (y : ℕ) → (d .receiver ≡ y) ⊎ (d .receiver ≢ y) → settled y ≡ isSettled l′ q′ y
         same q′ put y (inr n) = now .0 .same y ∙ sym (settled-same l l′ q q′ y (off y n) (λ z _. put .others z y (inr n)))
         same q′ put y (inl e) = subst (λ (i : ℕ). settled i ≡ isSettled l′ q′ i) e (still (either (settled (d .receiver))))
           where
@@ -146,7 +146,7 @@ module _ (t : List ℤ) (rule : TableRule t) (s : List ℕ) (marks : ℕ) (settl
             still (inl z) = absurd (fresh (d .receiver) z refl)
             still (inr o) = unset (settled (d .receiver)) o ∙ sym (waiting (code (limitOf l′ (d .receiver))) (ap code at ∙ code-live given (omega arith)))
 
-        raised : (q′ : List ℕ) → Put q (natAbs given) (d .receiver) 1 q′ → Kept l′ (set p (d .receiver) k) q′ rest
+        raised : (q′ : List ℕ) → BitSet q (natAbs given) (d .receiver) 1 q′ → Kept l′ (set p (d .receiver) k) q′ rest
         raised q′ put = (
           record {
             limits = simp length-set (now .0 .limits);

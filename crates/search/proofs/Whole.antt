@@ -22,9 +22,9 @@ use Rattle.rules.proofs.Links.{found-links}
 use Rattle.block.proofs.Bytes.{length-tabulate, tabulate-mem, mem-tabulate}
 use Rattle.block.specs.Layout.{mostSubjects}
 use Rattle.search.specs.Search.{underMarks, parentIn, mostLinks, Started}
-use Rattle.runs.specs.Lent.{recordCount, recordAt, Lent, Room, delegationsIn}
+use Rattle.runs.specs.Lent.{recordCount, recordAt, Lent, SubjectLists, delegationsIn}
 use Rattle.runs.specs.Steps.{Gave, Waiting}
-use Rattle.queue.specs.Queue.{levels, waits, Put, Lowest}
+use Rattle.queue.specs.Queue.{levels, setBits, waits, BitSet, Lowest}
 use Rattle.search.specs.Found.{Searched}
 use Rattle.runs.proofs.Records.{delegation-mem, mem-delegation}
 use Rattle.search.proofs.State.{limitOf, settledAt, isSettled, settled-same, State, state-limit, state-top, ran}
@@ -35,12 +35,12 @@ use Rattle.queue.proofs.Buckets.{left, left-same, left-falls, members, members-
 abbrev pub unsettled : List ℤ → List ℕ → ℕ
 unsettled l q = left (isSettled l q) mostSubjects
 
--- what falls with every turn: the open subjects, then the level, then how many wait there; at most 64 wait at a level, and there are 256 levels
+-- what falls with every turn: the open subjects, then the level, then how many wait there; at most `setBits` wait at a level, and there are `levels` of them
 abbrev pub measure : List ℤ → List ℕ → ℕ → ℕ
-measure l q past = 16705 * unsettled l q + 65 * past + members (getD q (past - 1) 0)
+measure l q past = suc setBits * suc levels * unsettled l q + suc setBits * past + members (getD q (past - 1) 0)
 
 -- a subject taken from a level that is not below the lowest
-pub waiting-taken : (l : List ℤ) (q q′ : List ℕ) (z u low : ℕ) → Waiting l q low → Put q z u 0 q′ → low ≤ z → Waiting l q′ low
+pub waiting-taken : (l : List ℤ) (q q′ : List ℕ) (z u low : ℕ) → Waiting l q low → BitSet q z u 0 q′ → low ≤ z → Waiting l q′ low
 waiting-taken l q q′ z u low w put h = record {
   queue = record { size = put .size ∙ w .queue .size; lowest = lowest-put q q′ z u 0 low low (w .queue .lowest) put (le-refl low) h };
   limits = w .limits;
@@ -48,7 +48,7 @@ waiting-taken l q q′ z u low w put h = record {
 
 module _ (t : List ℤ) (s : List ℕ) (lent : Lent t s (recordCount s)) (marks : ℕ) where
   -- ── the start ──
-  module _ (l : List ℤ) (p q₀ q : List ℕ) (room : Room l p) (st : Started l p) (put : Put q₀ 255 0 1 q) where
+  module _ (l : List ℤ) (p q₀ q : List ℕ) (room : SubjectLists l p) (st : Started l p) (put : BitSet q₀ 255 0 1 q) where
     open-all : (y : ℕ) → isSettled l q y ≡ false
     open-all y = go (eqOr 0 y)
       where
@@ -66,8 +66,8 @@ module _ (t : List ℤ) (s : List ℕ) (lent : Lent t s (recordCount s)) (marks 
       search = search-start t (lent .rule) (underMarks (delegationsIn s) marks) 0 (limitOf l) (isSettled l q) (parentIn (delegationsIn s) p) (st .owner) (st .others) (λ y. subst (λ (b : Bool). T (not b)) (sym (open-all y)) tt);
     }
       where
-        top : (y : ℕ) → (0 ≡ y) ⊎ (0 ≢ y) → code (limitOf l y) ≤ 256
-        top y (inl e) = subst (λ (i : ℕ). code (limitOf l i) ≤ 256) e (omega (arith, ap code (st .owner)))
+        top : (y : ℕ) → (0 ≡ y) ⊎ (0 ≢ y) → code (limitOf l y) ≤ levels
+        top y (inl e) = subst (λ (i : ℕ). code (limitOf l i) ≤ levels) e (omega (arith, ap code (st .owner)))
         top y (inr n) = omega (arith, ap code (st .others y n))
 
     pub waiting-start : length q₀ ≡ levels → (low : ℕ) → Lowest q low → Waiting l q low
@@ -104,7 +104,7 @@ module _ (t : List ℤ) (s : List ℕ) (lent : Lent t s (recordCount s)) (marks 
             below (inr d) = omega (arith, d)
 
     -- ── one that waits at the level is taken ──
-    module _ (u : ℕ) (q₁ : List ℕ) (put : Put q level u 0 q₁) where
+    module _ (u : ℕ) (q₁ : List ℕ) (put : BitSet q level u 0 q₁) where
       others : (y : ℕ) → u ≢ y → isSettled l q₁ y ≡ isSettled l q y
       others y n = settled-same l l q q₁ y refl (λ z _. put .others z y (inr n))
 

@@ -1,5 +1,5 @@
 // The search for reach: for one receiver's marks, the largest limit of every subject.
-ghost use Rattle.runs.specs.Lent.{Room};
+ghost use Rattle.runs.specs.Lent.{SubjectLists};
 ghost use Rattle.runs.specs.Steps.{Indexed};
 ghost use Rattle.search.specs.Search.{Started};
 ghost use Rattle.search.specs.Found.{Searched};
@@ -13,7 +13,7 @@ pub use on_block::starts_of;
 
 // 255 at the owner, none elsewhere, no parents.
 fn start(limits: &mut [i16], parents: &mut [u16])
-    requires { ⌜ Room (now limits) (now parents) ⌝ }
+    requires { ⌜ SubjectLists (now limits) (now parents) ⌝ }
     ensures { λ _. ⌜ Started (now (limits .exit)) (now (parents .exit)) ⌝ }
 {
     let mut i: usize = 0;
@@ -27,7 +27,7 @@ fn start(limits: &mut [i16], parents: &mut [u16])
 
 // The reach of every subject, and for each subject that has one the place of the record by which it is reached.
 // Subjects are settled from the largest limit down; one that was raised after it began to wait is settled at its new limit.
-pub fn search(
+fn search(
     records: &[u8],
     starts: &[u16],
     table: &[i16],
@@ -35,7 +35,7 @@ pub fn search(
     limits: &mut [i16],
     parents: &mut [u16],
 )
-    requires { ⌜ Indexed (now table) (now records) (now starts) × Room (now limits) (now parents) ⌝ }
+    requires { ⌜ Indexed (now table) (now records) (now starts) × SubjectLists (now limits) (now parents) ⌝ }
     ensures { λ _. ⌜ Searched (now (table .entry)) (now (records .entry)) marks (now (limits .exit)) (now (parents .exit)) ⌝ }
 {
     start(limits, parents);

@@ -7,7 +7,7 @@ ghost use Rattle.rules.specs.Register.{marksOf};
 ghost use Rattle.rules.specs.Reach.{reach};
 ghost use Rattle.block.specs.Block.{subjectsIn, recordsIn, decode};
 ghost use Rattle.block.specs.WellFormed.{wellFormed};
-ghost use Rattle.runs.specs.Lent.{Room};
+ghost use Rattle.runs.specs.Lent.{SubjectLists};
 ghost use Rattle.runs.specs.Steps.{startCount, Starts};
 ghost use Rattle.search.specs.Found.{Searchable, Prepared, Searched};
 use crate::search;
@@ -30,7 +30,7 @@ pub fn limits_for(
     limits: &mut [i16],
     parents: &mut [u16],
 )
-    requires { ⌜ Prepared (now table) (now block) (now starts) × (receiver < subjectsIn (now block)) × Room (now limits) (now parents) ⌝ }
+    requires { ⌜ Prepared (now table) (now block) (now starts) × (receiver < subjectsIn (now block)) × SubjectLists (now limits) (now parents) ⌝ }
     ensures { λ _. ⌜ Searched (now (table .entry)) (recordsIn (now (block .entry))) (marksOf (decode (now (block .entry))) receiver) (now (limits .exit)) (now (parents .exit)) ⌝ }
 {
     let marks = block::marks(block, receiver);

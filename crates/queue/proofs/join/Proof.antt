@@ -3,6 +3,7 @@ use native.Mathlib.Omega.{arith}
 use native.Mathlib.Nat.{le-refl}
 use borrow.Author.Needs.{needs}
 use lib.Pow.{shl-exact}
+use Rattle.queue.specs.Queue.{setBits}
 use Rattle.queue.proofs.Buckets.{put-in, lowest-put}
 use Rattle.queue.proofs.join.Statement.{statement}
 use Rattle.queue.proofs.join.Tie as tie
@@ -29,7 +30,7 @@ returns : tie.Need-returns
 returns c =
     let s = c .before .before in
     let a = s .args in
-    let put = put-in (a .queue .now) (a .level) (a .subject) (omega arith) _ (shl-exact 1 (a .subject) 64 (omega arith) (omega arith)) in
+    let put = put-in (a .queue .now) (a .level) (a .subject) (omega arith) _ (shl-exact 1 (a .subject) setBits (omega arith) (omega arith)) in
     (put, lowest-put (a .queue .now) _ (a .level) (a .subject) 1 (a .low) (a .level) (s .pre .0 .lowest) put (omega arith) (le-refl (a .level)))
 
 same-length-2 : tie.Need-same-length-2
@@ -39,7 +40,7 @@ returns-2 : tie.Need-returns-2
 returns-2 c =
     let s = c .before .before in
     let a = s .args in
-    let put = put-in (a .queue .now) (a .level) (a .subject) (omega arith) _ (shl-exact 1 (a .subject) 64 (omega arith) (omega arith)) in
+    let put = put-in (a .queue .now) (a .level) (a .subject) (omega arith) _ (shl-exact 1 (a .subject) setBits (omega arith) (omega arith)) in
     (put, lowest-put (a .queue .now) _ (a .level) (a .subject) 1 (a .low) (a .low) (s .pre .0 .lowest) put (le-refl (a .low)) (omega arith))
 
 pub join-spec : {M : Type 1} → statement M

@@ -7,7 +7,7 @@ use borrow.Author.Needs.{needs}
 use lib.Count.{trailing-le}
 use lib.Pow.{shl-exact}
 use lib.ListN.{getD}
-use Rattle.queue.specs.Queue.{bit}
+use Rattle.queue.specs.Queue.{setBits, bit}
 use Rattle.queue.proofs.Buckets.{bit-zero, trailing-few, trailing-bit, put-out}
 use Rattle.queue.proofs.take.Statement.{statement}
 use Rattle.queue.proofs.take.Tie as tie
@@ -24,12 +24,12 @@ returns c = inl (refl, (λ y. ap (λ (n : ℕ). bit n y) (c .if1 .taken) ∙ bit
 cast-subject : tie.Need-cast-subject
 cast-subject c =
     let a = c .before .before .args in
-    omega (arith, trailing-le 64 (getD (a .queue .now) (a .level) 0))
+    omega (arith, trailing-le setBits (getD (a .queue .now) (a .level) 0))
 
 shl-queue : tie.Need-shl-queue
 shl-queue c =
     let a = c .before .before .args in
-    trailing-few 64 (getD (a .queue .now) (a .level) 0) (c .if1 .left) (omega (arith, c .before .slice-known .given (a .level)))
+    trailing-few setBits (getD (a .queue .now) (a .level) 0) (c .if1 .left) (omega (arith, c .before .slice-known .given (a .level)))
 
 mul-queue : tie.Need-mul-queue
 mul-queue c = search needs
@@ -45,9 +45,9 @@ returns-2 c =
     let s = c .before .before in
     let a = s .args in
     let set = getD (a .queue .now) (a .level) 0 in
-    let few = trailing-few 64 set (c .if1 .left) (omega (arith, c .before .slice-known .given (a .level))) in
-    let waited = trailing-bit 64 set few in
-    inr (few, waited, put-out (a .queue .now) (a .level) _ (omega arith) _ (shl-exact 1 _ 64 (omega arith) (omega arith)) waited)
+    let few = trailing-few setBits set (c .if1 .left) (omega (arith, c .before .slice-known .given (a .level))) in
+    let waited = trailing-bit setBits set few in
+    inr (few, waited, put-out (a .queue .now) (a .level) _ (omega arith) _ (shl-exact 1 _ setBits (omega arith) (omega arith)) waited)
 
 pub take-spec : {M : Type 1} → statement M
 take-spec =

@@ -4,7 +4,7 @@ use mathlib.Core.Path.{_≡_}
 use Prim.Native.Nat.{suc, _*_, _/_}
 use native.Mathlib.Omega.{arith}
 use Rattle.block.specs.Layout.{blockSize}
-use Rattle.replay.specs.Replay.{callSize}
+use Rattle.replay.specs.Replay.{numbersPerCall}
 use Rattle.replay.proofs.Sizes.{calls-wrong, blocks-wrong, refusals-wrong, answers-wrong, answers-compared}
 use Rattle.replay.proofs.is_sized.Statement.{statement}
 use Rattle.replay.proofs.is_sized.Tie as tie
@@ -24,19 +24,19 @@ returns-3 c = let a = c .before .before .before .args in blocks-wrong (a .calls)
 returns-4 : tie.Need-returns-4
 returns-4 c =
     let a = c .before .before .before .before .args in
-    let b : a .blocks ≡ blockSize * suc (a .calls / callSize) = omega arith in
+    let b : a .blocks ≡ blockSize * suc (a .calls / numbersPerCall) = omega arith in
     refusals-wrong (a .calls) (a .blocks) (a .refusals) (a .answers) (c .before .before .before .if1 .left) b (c .if4 .taken)
 
 returns-5 : tie.Need-returns-5
 returns-5 c =
     let a = c .before .before .before .before .before .args in
-    let b : a .blocks ≡ blockSize * suc (a .calls / callSize) = omega arith in
+    let b : a .blocks ≡ blockSize * suc (a .calls / numbersPerCall) = omega arith in
     answers-wrong (a .calls) (a .blocks) (a .refusals) (a .answers) (c .before .before .before .before .if1 .left) b (c .before .if4 .left) (c .if5 .taken)
 
 returns-6 : tie.Need-returns-6
 returns-6 c =
     let a = c .before .before .before .before .before .args in
-    let b : a .blocks ≡ blockSize * suc (a .calls / callSize) = omega arith in
+    let b : a .blocks ≡ blockSize * suc (a .calls / numbersPerCall) = omega arith in
     answers-compared (a .calls) (a .blocks) (a .refusals) (a .answers) (c .before .before .before .before .if1 .left) b (c .before .if4 .left) (c .if5 .left)
 
 pub is-sized-spec : {M : Type 1} → statement M

@@ -4,9 +4,9 @@ use Prim.Native.Nat.{ℕ, _-_, _≤_, _<_}
 use native.Mathlib.Nat.{not-suc-le-zero}
 use native.Mathlib.Omega.{arith}
 use lib.ListN.{length, getD, length-set}
+use Rattle.rules.proofs.Lists.{set-more}
 use Rattle.runs.specs.Lent.{recordCount, recordAt}
 use Rattle.runs.specs.Steps.{Sought, startCount}
-use Rattle.runs.proofs.Givers.{starts-more}
 use Rattle.runs.proofs.fill_starts.Statement.{statement}
 use Rattle.runs.proofs.fill_starts.Tie as tie
 
@@ -42,7 +42,7 @@ loop-again : tie.Need-loop-again Inv-loop μ-loop
 loop-again c =
     let v = c .before .before .loop in
     let f = c .seek .ensures in
-    (simp length-set (v .inv .0), omega arith, f .within, (λ j h. omega (arith, f .below j h)), starts-more _ (v .starts) (v .giver) _ (omega arith) (v .inv .4) f)
+    (simp length-set (v .inv .0), omega arith, f .within, (λ j h. omega (arith, f .below j h)), set-more (Sought _) (v .starts) (v .giver) _ 0 (omega arith) (v .inv .4) f)
 
 same-length : tie.Need-same-length Inv-loop μ-loop
 same-length c = c .before .loop .inv .0 ∙ sym (c .before .before .before .before .pre .2)

@@ -3,18 +3,23 @@ use mathlib.Core.Path.{sym, _∙_}
 use native.Mathlib.Omega.{arith}
 use borrow.Author.Needs.{needs}
 use Prim.Native.Nat.{_+_, _<_}
+use lib.Dec.{T}
+use lib.IntN.{natAbs}
+use lib.Signed.{nonNeg}
 use lib.ListN.{getD, drop}
 use lib.Seq.{getD-drop}
-use Rattle.block.specs.Layout.{mostSubjects}
+use Rattle.rules.proofs.Signed.{kept}
+use Rattle.block.specs.Layout.{mostSubjects, receiverByte, weightByte, needByte, barByte}
 use Rattle.block.specs.Block.{delegationIn}
 use Rattle.block.proofs.Fields.{two-in}
+use Rattle.queue.specs.Queue.{levels}
 use Rattle.runs.proofs.Ways.{given-level, step-unmet, step-not-raised, step-raised}
 use Rattle.runs.proofs.relax_at.Statement.{statement}
 use Rattle.runs.proofs.relax_at.Tie as tie
 
 -- the receiver that is read is a subject
-subject : (s : tie.Start) → getD (s .args .run .now) (s .args .at + 1) 0 < mostSubjects
-subject s = omega (arith, getD-drop (s .args .at) (s .args .run .now) 1 0, s .pre .1 .receiver)
+subject : (s : tie.Start) → getD (s .args .run .now) (s .args .at + receiverByte) 0 < mostSubjects
+subject s = omega (arith, getD-drop (s .args .at) (s .args .run .now) receiverByte 0, s .pre .1 .receiver)
 
 add-read-two : tie.Need-add-read-two
 add-read-two c = search needs
@@ -70,29 +75,25 @@ mul-parents c = omega (arith, subject (c .before .before .before .before .before
 slice-write-parents : tie.Need-slice-write-parents
 slice-write-parents c = omega (arith, subject (c .before .before .before .before .before .before .before .before .before .before .before .before))
 
-cast-join : tie.Need-cast-join
-cast-join c =
-    let i = c .before .before in
+-- what it is given is a level
+level : (c : tie.Then2) → let given = kept (c .before .before .next .result) in T (nonNeg given) × (natAbs given < levels)
+level c =
+    let i = c .before in
     let n = i .before in
     let m = n .before .before .before .before in
     let s = m .before .before .before .before .before .before in
     let a = s .args in
-    let level = given-level (a .table .now) (delegationIn (drop (a .at) (a .run .now))) (a .place) (a .limit) (a .marks) (a .limits .now) (a .parents .now) (a .waiting .now) (a .low)
-    _ _ _ (m .before .before .read-two .ensures ∙ two-in (a .run .now) (a .at) 4) (m .before .read-two2 .ensures ∙ two-in (a .run .now) (a .at) 6) (m .meets .ensures) (s .pre .2 .waiting)
-    _ _ (sym (getD-drop (a .at) (a .run .now) 1 0)) (sym (getD-drop (a .at) (a .run .now) 2 0)) _ (s .fits .limit) (omega (arith, subject s)) (i .if22 .given) (record { sfits = n .next .ok }) (n .next .ensures) (c .before .if2 .taken) (s .pre .0) (s .pre .2 .most) in
-    (level .0, omega (arith, level .1))
+    given-level (a .table .now) (delegationIn (drop (a .at) (a .run .now))) (a .place) (a .limit) (a .marks) (a .limits .now) (a .parents .now) (a .waiting .now) (a .low)
+    _ _ _ (m .before .before .read-two .ensures ∙ two-in (a .run .now) (a .at) needByte) (m .before .read-two2 .ensures ∙ two-in (a .run .now) (a .at) barByte) (m .meets .ensures) (s .pre .2 .waiting)
+    _ _ (sym (getD-drop (a .at) (a .run .now) receiverByte 0)) (sym (getD-drop (a .at) (a .run .now) weightByte 0)) _ (s .fits .limit) (omega (arith, subject s)) (i .if22 .given) (record { sfits = n .next .ok }) (n .next .ensures) (c .if2 .taken) (s .pre .0) (s .pre .2 .most)
+
+cast-join : tie.Need-cast-join
+cast-join c = let l = level (c .before) in (l .0, omega (arith, l .1))
 
 join-requires : tie.Need-join-requires
 join-requires c κs =
-    let i = c .before .before in
-    let n = i .before in
-    let m = n .before .before .before .before in
-    let s = m .before .before .before .before .before .before in
-    let a = s .args in
-    let level = given-level (a .table .now) (delegationIn (drop (a .at) (a .run .now))) (a .place) (a .limit) (a .marks) (a .limits .now) (a .parents .now) (a .waiting .now) (a .low)
-    _ _ _ (m .before .before .read-two .ensures ∙ two-in (a .run .now) (a .at) 4) (m .before .read-two2 .ensures ∙ two-in (a .run .now) (a .at) 6) (m .meets .ensures) (s .pre .2 .waiting)
-    _ _ (sym (getD-drop (a .at) (a .run .now) 1 0)) (sym (getD-drop (a .at) (a .run .now) 2 0)) _ (s .fits .limit) (omega (arith, subject s)) (i .if22 .given) (record { sfits = n .next .ok }) (n .next .ensures) (c .before .if2 .taken) (s .pre .0) (s .pre .2 .most) in
-    (s .pre .2 .waiting .queue, level .1, subject s)
+    let s = c .before .before .before .before .before .before .before .before .before .before .before .before .before in
+    (s .pre .2 .waiting .queue, level (c .before) .1, subject s)
 
 same-length : tie.Need-same-length
 same-length c = search needs
@@ -112,8 +113,8 @@ returns c =
     let s = m .before .before .before .before .before .before in
     let a = s .args in
     step-raised (a .table .now) (delegationIn (drop (a .at) (a .run .now))) (a .place) (a .limit) (a .marks) (a .limits .now) (a .parents .now) (a .waiting .now) (a .low)
-    _ _ _ (m .before .before .read-two .ensures ∙ two-in (a .run .now) (a .at) 4) (m .before .read-two2 .ensures ∙ two-in (a .run .now) (a .at) 6) (m .meets .ensures) (s .pre .2 .waiting)
-    _ _ (sym (getD-drop (a .at) (a .run .now) 1 0)) (sym (getD-drop (a .at) (a .run .now) 2 0)) _ (s .fits .limit) (omega (arith, subject s)) (i .if22 .given) (record { sfits = n .next .ok }) (n .next .ensures) (j .before .before .if2 .taken) (n .before .before .before .if1 .taken) _ _ (j .join .ensures .0) (j .join .ensures .1)
+    _ _ _ (m .before .before .read-two .ensures ∙ two-in (a .run .now) (a .at) needByte) (m .before .read-two2 .ensures ∙ two-in (a .run .now) (a .at) barByte) (m .meets .ensures) (s .pre .2 .waiting)
+    _ _ (sym (getD-drop (a .at) (a .run .now) receiverByte 0)) (sym (getD-drop (a .at) (a .run .now) weightByte 0)) _ (s .fits .limit) (omega (arith, subject s)) (i .if22 .given) (record { sfits = n .next .ok }) (n .next .ensures) (j .before .before .if2 .taken) (n .before .before .before .if1 .taken) _ _ (j .join .ensures .0) (j .join .ensures .1)
 
 returns-2 : tie.Need-returns-2
 returns-2 c =
@@ -123,8 +124,8 @@ returns-2 c =
     let s = m .before .before .before .before .before .before in
     let a = s .args in
     step-not-raised (a .table .now) (delegationIn (drop (a .at) (a .run .now))) (a .place) (a .limit) (a .marks) (a .limits .now) (a .parents .now) (a .waiting .now) (a .low)
-    _ _ _ (m .before .before .read-two .ensures ∙ two-in (a .run .now) (a .at) 4) (m .before .read-two2 .ensures ∙ two-in (a .run .now) (a .at) 6) (m .meets .ensures) (s .pre .2 .waiting)
-    _ _ (sym (getD-drop (a .at) (a .run .now) 1 0)) (sym (getD-drop (a .at) (a .run .now) 2 0)) _ (s .fits .limit) (omega (arith, subject s)) (i .if22 .given) (record { sfits = n .next .ok }) (n .next .ensures) (c .if2 .left)
+    _ _ _ (m .before .before .read-two .ensures ∙ two-in (a .run .now) (a .at) needByte) (m .before .read-two2 .ensures ∙ two-in (a .run .now) (a .at) barByte) (m .meets .ensures) (s .pre .2 .waiting)
+    _ _ (sym (getD-drop (a .at) (a .run .now) receiverByte 0)) (sym (getD-drop (a .at) (a .run .now) weightByte 0)) _ (s .fits .limit) (omega (arith, subject s)) (i .if22 .given) (record { sfits = n .next .ok }) (n .next .ensures) (c .if2 .left)
 
 returns-3 : tie.Need-returns-3
 returns-3 c =
@@ -132,7 +133,7 @@ returns-3 c =
     let s = m .before .before .before .before .before .before in
     let a = s .args in
     step-unmet (a .table .now) (delegationIn (drop (a .at) (a .run .now))) (a .place) (a .limit) (a .marks) (a .limits .now) (a .parents .now) (a .waiting .now) (a .low)
-    _ _ _ (m .before .before .read-two .ensures ∙ two-in (a .run .now) (a .at) 4) (m .before .read-two2 .ensures ∙ two-in (a .run .now) (a .at) 6) (m .meets .ensures) (s .pre .2 .waiting) (c .if1 .left)
+    _ _ _ (m .before .before .read-two .ensures ∙ two-in (a .run .now) (a .at) needByte) (m .before .read-two2 .ensures ∙ two-in (a .run .now) (a .at) barByte) (m .meets .ensures) (s .pre .2 .waiting) (c .if1 .left)
 
 pub relax-at-spec : {M : Type 1} → statement M
 relax-at-spec =

@@ -7,9 +7,13 @@ use lib.ListN.{getD}
 use lib.IntN.{ℤ, pos}
 use Rattle.rules.specs.Limit.{_≼_}
 use Rattle.rules.proofs.Signed.{read-limit}
-use Rattle.runs.proofs.Givers.{part-count, part-receivers, run-of, gave}
+use Rattle.runs.proofs.Givers.{part-count, part-receivers, Run, run-of, gave}
 use Rattle.runs.proofs.relax_giver.Statement.{statement}
 use Rattle.runs.proofs.relax_giver.Tie as tie
+
+-- the run of the giver
+run : (s : tie.Start) → Run (s .args .records .now) (s .args .giver) (getD (s .args .starts .now) (s .args .giver) 0) (getD (s .args .starts .now) (s .args .giver + 1) 0)
+run s = run-of (s .args .table .now) (s .args .records .now) (s .args .starts .now) (s .args .giver) (s .pre .0) (s .pre .1)
 
 mul-a : tie.Need-mul-a
 mul-a c = search needs
@@ -39,34 +43,19 @@ slice-copy-out-limit : tie.Need-slice-copy-out-limit
 slice-copy-out-limit c = search needs
 
 mul-relax-run : tie.Need-mul-relax-run
-mul-relax-run c =
-    let s = c .before .before .before .before .before .before .before in
-    let r = run-of (s .args .table .now) (s .args .records .now) (s .args .starts .now) (s .args .giver) (s .pre .0) (s .pre .1) in
-    omega (arith, r .order, r .within, r .few, r .size)
+mul-relax-run c = let r = run (c .before .before .before .before .before .before .before) in omega (arith, r .order, r .within, r .few, r .size)
 
 mul-relax-run-2 : tie.Need-mul-relax-run-2
-mul-relax-run-2 c =
-    let s = c .before .before .before .before .before .before .before in
-    let r = run-of (s .args .table .now) (s .args .records .now) (s .args .starts .now) (s .args .giver) (s .pre .0) (s .pre .1) in
-    omega (arith, r .order, r .within, r .few, r .size)
+mul-relax-run-2 c = let r = run (c .before .before .before .before .before .before .before) in omega (arith, r .order, r .within, r .few, r .size)
 
 sub-relax-run : tie.Need-sub-relax-run
-sub-relax-run c =
-    let s = c .before .before .before .before .before .before .before in
-    let r = run-of (s .args .table .now) (s .args .records .now) (s .args .starts .now) (s .args .giver) (s .pre .0) (s .pre .1) in
-    omega (arith, r .order, r .within, r .few, r .size)
+sub-relax-run c = let r = run (c .before .before .before .before .before .before .before) in omega (arith, r .order, r .within, r .few, r .size)
 
 part-relax-run-start : tie.Need-part-relax-run-start
-part-relax-run-start c =
-    let s = c .before .before .before .before .before .before .before in
-    let r = run-of (s .args .table .now) (s .args .records .now) (s .args .starts .now) (s .args .giver) (s .pre .0) (s .pre .1) in
-    omega (arith, r .order, r .within, r .few, r .size)
+part-relax-run-start c = let r = run (c .before .before .before .before .before .before .before) in omega (arith, r .order, r .within, r .few, r .size)
 
 part-relax-run-end : tie.Need-part-relax-run-end
-part-relax-run-end c =
-    let s = c .before .before .before .before .before .before .before in
-    let r = run-of (s .args .table .now) (s .args .records .now) (s .args .starts .now) (s .args .giver) (s .pre .0) (s .pre .1) in
-    omega (arith, r .order, r .within, r .few, r .size)
+part-relax-run-end c = let r = run (c .before .before .before .before .before .before .before) in omega (arith, r .order, r .within, r .few, r .size)
 
 relax-run-requires : tie.Need-relax-run-requires
 relax-run-requires c κs =
@@ -76,15 +65,15 @@ relax-run-requires c κs =
     let from = getD (a .starts .now) g 0 in
     let past = getD (a .starts .now) (g + 1) 0 in
     let lent = s .pre .0 .lent in
-    let r = run-of (a .table .now) (a .records .now) (a .starts .now) g (s .pre .0) (s .pre .1) in (
+    let r = run s in (
       lent .rule,
       record {
         few = omega (arith, part-count (a .records .now) from past (r .order) (r .within), r .order, r .within, r .few);
         receivers = part-receivers (a .records .now) from past (r .order) (r .within) (a .table .now) lent;
       },
       record {
-        most = subst (λ (z : ℤ). z ≼ pos 255) (sym (read-limit (a .limits .now) g (omega (arith, s .pre .2 .room .limits)) (c .before .before .before .before .limit .given))) (s .pre .2 .most);
-        room = s .pre .2 .room;
+        most = subst (λ (z : ℤ). z ≼ pos 255) (sym (read-limit (a .limits .now) g (omega (arith, s .pre .2 .lists .limits)) (c .before .before .before .before .limit .given))) (s .pre .2 .most);
+        lists = s .pre .2 .lists;
         waiting = s .pre .2 .waiting;
       },
     )
@@ -103,9 +92,9 @@ returns c =
     let s = c .before .before .before .before .before .before .before .before .before .before .before .before .before .before .before .before .before in
     let a = s .args in
     let g = a .giver in
-    let r = run-of (a .table .now) (a .records .now) (a .starts .now) g (s .pre .0) (s .pre .1) in
+    let r = run s in
     let f = c .before .before .before .before .before .relax-run in
-    let e = read-limit (a .limits .now) g (omega (arith, s .pre .2 .room .limits)) (c .before .before .before .before .before .before .before .before .before .before .limit .given) in (
+    let e = read-limit (a .limits .now) g (omega (arith, s .pre .2 .lists .limits)) (c .before .before .before .before .before .before .before .before .before .before .limit .given) in (
       gave (a .table .now) (a .records .now) (a .marks) g (a .limits .now) (a .parents .now) (a .waiting .now) _ _ _ _ _ _ (r .low) (r .high) (r .order)
           e (f .ensures .0),
       f .ensures .1,

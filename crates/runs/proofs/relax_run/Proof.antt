@@ -6,14 +6,14 @@ use native.Mathlib.Numerals.{add-one}
 use mir.Syntax.{w16}
 use mir.Val.{toZ}
 use mir.Facts.{toZ-ofZ}
-use Rattle.runs.specs.Lent.{recordCount, Room}
+use Rattle.runs.specs.Lent.{recordCount, SubjectLists}
 use Rattle.runs.specs.Steps.{SteppedTo, stepped-none, stepped-more, Waiting}
 use Rattle.runs.proofs.relax_run.Statement.{statement}
 use Rattle.runs.proofs.relax_run.Tie as tie
 
 abbrev Inv-loop : tie.InvT-loop
 Inv-loop run first limit marks table limits₀ parents₀ waiting₀ low n lowest₀ k₀ limits parents waiting lowest k =
-    (n ≡ recordCount run) × (k ≤ n) × Room limits parents × SteppedTo table (toZ w16 limit) marks run first limits₀ parents₀ waiting₀ k limits parents waiting × Waiting limits waiting lowest
+    (n ≡ recordCount run) × (k ≤ n) × SubjectLists limits parents × SteppedTo table (toZ w16 limit) marks run first limits₀ parents₀ waiting₀ k limits parents waiting × Waiting limits waiting lowest
 
 abbrev μ-loop : tie.MeasureT-loop
 μ-loop run first limit marks table limits₀ parents₀ waiting₀ low n lowest₀ k₀ limits parents waiting lowest k = n - k
@@ -21,7 +21,7 @@ abbrev μ-loop : tie.MeasureT-loop
 loop-holds : tie.Need-loop-holds Inv-loop μ-loop
 loop-holds c =
     let s = c .before .before .before in
-    (refl, omega arith, s .pre .2 .room, stepped-none, s .pre .2 .waiting)
+    (refl, omega arith, s .pre .2 .lists, stepped-none, s .pre .2 .waiting)
 
 mul-relax-at : tie.Need-mul-relax-at Inv-loop μ-loop
 mul-relax-at c = omega arith
@@ -36,7 +36,7 @@ relax-at-requires c κs =
     let v = c .before .before .before .before .loop in (
       q .0,
       record { whole = omega arith; few = omega (arith, q .1 .few); receiver = q .1 .receivers (v .k) (omega arith) },
-      record { most = rw (toZ-ofZ {w = w16} (s .fits .limit)) (q .2 .most); room = v .inv .2; waiting = v .inv .4 },
+      record { most = rw (toZ-ofZ {w = w16} (s .fits .limit)) (q .2 .most); lists = v .inv .2; waiting = v .inv .4 },
     )
 
 add-k : tie.Need-add-k Inv-loop μ-loop
@@ -57,10 +57,10 @@ loop-again c =
     )
 
 same-length : tie.Need-same-length Inv-loop μ-loop
-same-length c = c .before .loop .inv .2 .limits ∙ sym (c .before .before .before .before .before .pre .2 .room .limits)
+same-length c = c .before .loop .inv .2 .limits ∙ sym (c .before .before .before .before .before .pre .2 .lists .limits)
 
 same-length-2 : tie.Need-same-length-2 Inv-loop μ-loop
-same-length-2 c = c .before .loop .inv .2 .parents ∙ sym (c .before .before .before .before .before .pre .2 .room .parents)
+same-length-2 c = c .before .loop .inv .2 .parents ∙ sym (c .before .before .before .before .before .pre .2 .lists .parents)
 
 same-length-3 : tie.Need-same-length-3 Inv-loop μ-loop
 same-length-3 c = c .before .loop .inv .4 .queue .size ∙ sym (c .before .before .before .before .before .pre .2 .waiting .queue .size)

@@ -11,8 +11,8 @@ use mir.Val.{ofZ, toZ}
 use mir.Facts.{toZ-ofZ}
 use Rattle.rules.specs.Limit.{none}
 use Rattle.rules.proofs.Signed.{getD-within, read-limit}
-use Rattle.queue.specs.Queue.{levels}
-use Rattle.runs.specs.Lent.{Room}
+use Rattle.queue.specs.Queue.{levels, setBits, waits, BitSet}
+use Rattle.runs.specs.Lent.{SubjectLists}
 use Rattle.runs.specs.Steps.{Waiting}
 use Rattle.queue.proofs.Buckets.{empty-waits, taken-none, taken-some}
 use Rattle.search.proofs.State.{isSettled, State, state-top}
@@ -41,7 +41,7 @@ loop-holds c =
     let s = c .before .before .before .before .before .before .before .before .before .before .before .before in
     let f = c .before .before .before .before .before .before .start in
     let j = c .before .join in
-    let room : Room _ _ = record { limits = f .kept .0 ∙ s .pre .1 .limits; parents = f .kept .1 .0 ∙ s .pre .1 .parents } in (
+    let room : SubjectLists _ _ = record { limits = f .kept .0 ∙ s .pre .1 .limits; parents = f .kept .1 .0 ∙ s .pre .1 .parents } in (
       state-start (s .args .table .now) (s .args .records .now) (s .pre .0 .lent) (s .args .marks) _ _ _ _ room (f .ensures) (j .ensures .0),
       waiting-start (s .args .table .now) (s .args .records .now) (s .pre .0 .lent) (s .args .marks) _ _ _ _ room (f .ensures) (j .ensures .0) refl _ (j .ensures .1),
       omega arith,
@@ -77,86 +77,102 @@ loop-again c =
     (λ (q : List ℕ). State (s .args .table .now) (s .args .records .now) (s .args .marks) (isSettled (v .limits) q) (v .past - 1) (v .limits) (v .parents) q [] × Waiting (v .limits) q (v .low) × (v .past - 1 ≤ levels)) (sym (n .1))
     (state-lower (s .args .table .now) (s .args .records .now) (s .pre .0 .lent) (s .args .marks) (v .limits) (v .parents) (v .waiting) (v .past) e (v .inv .0) (n .0), v .inv .1, omega (arith, v .inv .2))
 
+-- ── a turn in which one waits at the level ──
+abbrev turn : tie.Else1 Inv-loop μ-loop → tie.At-loop Inv-loop μ-loop
+turn c = c .before .before .before .before .before
+
+abbrev begun : tie.At-loop Inv-loop μ-loop → tie.Start Inv-loop μ-loop
+begun l = l .before .before .before .before .before .before .before .before .before .before .before .before .before
+
+abbrev who : tie.Else1 Inv-loop μ-loop → ℕ
+who c = c .before .before .take .result
+
+abbrev left : tie.Else1 Inv-loop μ-loop → List ℕ
+left c = c .before .before .take .last .0
+
+level : (c : tie.Else1 Inv-loop μ-loop) → 0 < turn c .loop .past
+level c = omega (arith, c .before .before .before .before .loop-test .taken)
+
+some : (c : tie.Else1 Inv-loop μ-loop) → let v = turn c .loop in (who c < setBits) × (waits (v .waiting) (v .past - 1) (who c) ≡ 1) × BitSet (v .waiting) (v .past - 1) (who c) 0 (left c)
+some c = let v = turn c .loop in taken-some (v .waiting) (left c) (v .past - 1) (who c) (c .before .before .take .ensures) (c .if1 .left)
+
+-- it waits no more
+taken : (c : tie.Else1 Inv-loop μ-loop) → let v = turn c .loop in Waiting (v .limits) (left c) (v .low)
+taken c =
+    let v = turn c .loop in
+    waiting-taken (v .limits) (v .waiting) (left c) (v .past - 1) (who c) (v .low) (v .inv .1) (some c .2) (omega (arith, c .before .before .before .before .loop-test .taken))
+
+-- it has the level for its limit
+here : (c : tie.Then2 Inv-loop μ-loop) → let v = turn (c .before .before) .loop in getD (v .limits) (who (c .before .before)) none ≡ pos (v .past - 1)
+here c =
+    let e = c .before .before in
+    let v = turn e .loop in
+    sym (read-limit (v .limits) (who e) (omega (arith, some e .0, v .inv .0 .limits)) (c .before .if22 .given)) ∙ ap (toZ w16) (c .if2 .taken) ∙ toZ-ofZ {w = w16} (record { sfits = omega (arith, v .inv .2) })
+
+-- or was raised since
+raised : (c : tie.Else2 Inv-loop μ-loop) → let v = turn (c .before .before) .loop in getD (v .limits) (who (c .before .before)) none ≢ pos (v .past - 1)
+raised c z =
+    let e = c .before .before in
+    let v = turn e .loop in
+    c .if2 .left (ap (ofZ w16) (getD-within (v .limits) (who e) (pos 0) none (omega (arith, some e .0, v .inv .0 .limits)) ∙ z))
+
 mul-if2 : tie.Need-mul-if2 Inv-loop μ-loop
-mul-if2 c =
-    let v = c .before .before .before .before .before .loop in
-    omega (arith, taken-some (v .waiting) _ (v .past - 1) _ (c .before .before .take .ensures) (c .if1 .left) .0)
+mul-if2 c = omega (arith, some c .0)
 
 slice-copy-out-if2 : tie.Need-slice-copy-out-if2 Inv-loop μ-loop
-slice-copy-out-if2 c =
-    let v = c .before .before .before .before .before .loop in
-    omega (arith, taken-some (v .waiting) _ (v .past - 1) _ (c .before .before .take .ensures) (c .if1 .left) .0, v .inv .0 .limits)
+slice-copy-out-if2 c = omega (arith, some c .0, turn c .loop .inv .0 .limits)
 
 sub-if2 : tie.Need-sub-if2 Inv-loop μ-loop
-sub-if2 c = omega (arith, c .before .before .before .before .before .loop-test .taken)
+sub-if2 c = omega (arith, level (c .before))
 
 cast-if2 : tie.Need-cast-if2 Inv-loop μ-loop
-cast-if2 c = record { sfits = omega (arith, c .before .before .before .before .before .before .loop .inv .2) }
+cast-if2 c = record { sfits = omega (arith, turn (c .before) .loop .inv .2) }
 
 slice-aggregate-relax-giver : tie.Need-slice-aggregate-relax-giver Inv-loop μ-loop
-slice-aggregate-relax-giver c =
-    let v = c .before .before .before .before .before .before .before .before .before .before .loop in
-    let some = taken-some (v .waiting) _ (v .past - 1) _ (c .before .before .before .before .before .before .before .take .ensures) (c .before .before .before .before .before .if1 .left) in
-    sym (some .2 .size ∙ v .inv .1 .queue .size)
+slice-aggregate-relax-giver c = sym (taken (c .before .before .before .before .before) .queue .size)
 
 relax-giver-requires : tie.Need-relax-giver-requires Inv-loop μ-loop
 relax-giver-requires c κs =
-    let s = c .before .before .before .before .before .before .before .before .before .before .before .before .before .before .before .before .before .before .before .before .before .before .before in
-    let v = c .before .before .before .before .before .before .before .before .before .before .loop in
-    let some = taken-some (v .waiting) _ (v .past - 1) _ (c .before .before .before .before .before .before .before .take .ensures) (c .before .before .before .before .before .if1 .left) in (
+    let e = c .before .before .before .before .before in
+    let s = begun (turn e) in
+    let v = turn e .loop in (
       s .pre .0,
-      some .0,
+      some e .0,
       record {
-        most = state-top (s .args .table .now) (s .pre .0 .lent .rule) (s .args .records .now) (s .args .marks) (isSettled (v .limits) (v .waiting)) (v .past) (v .limits) (v .parents) (v .waiting) [] (v .inv .0) (c .before .before .before .before .before .before .before .take .result);
-        room = record { limits = v .inv .0 .limits; parents = v .inv .0 .parents };
-        waiting = waiting-taken (v .limits) (v .waiting) _ (v .past - 1) _ (v .low) (v .inv .1) (some .2) (omega (arith, c .before .before .before .before .before .before .before .before .before .loop-test .taken));
+        most = state-top (s .args .table .now) (s .pre .0 .lent .rule) (s .args .records .now) (s .args .marks) (isSettled (v .limits) (v .waiting)) (v .past) (v .limits) (v .parents) (v .waiting) [] (v .inv .0) (who e);
+        lists = record { limits = v .inv .0 .limits; parents = v .inv .0 .parents };
+        waiting = taken e;
       },
     )
 
 loop-less-2 : tie.Need-loop-less-2 Inv-loop μ-loop
 loop-less-2 c =
-    let s = c .before .before .before .before .before .before .before .before .before .before .before .before .before .before .before .before .before .before .before .before .before .before .before .before .before .before .before .before in
-    let v = c .before .before .before .before .before .before .before .before .before .before .before .before .before .before .before .loop in
-    let u = c .before .before .before .before .before .before .before .before .before .before .before .before .take .result in
-    let some = taken-some (v .waiting) _ (v .past - 1) u (c .before .before .before .before .before .before .before .before .before .before .before .before .take .ensures) (c .before .before .before .before .before .before .before .before .before .before .if1 .left) in
-    let e : 0 < v .past = omega (arith, c .before .before .before .before .before .before .before .before .before .before .before .before .before .before .loop-test .taken) in
-    let here : getD (v .limits) u none ≡ pos (v .past - 1) = sym (read-limit (v .limits) u (omega (arith, some .0, v .inv .0 .limits)) (c .before .before .before .before .before .before .before .before .before .if22 .given)) ∙ ap (toZ w16) (c .before .before .before .before .before .before .before .before .if2 .taken) ∙ toZ-ofZ {w = w16} (record { sfits = omega (arith, v .inv .2) }) in
-    let f = c .before .before .before .before .relax-giver in
-    settle-less (s .args .table .now) (s .args .records .now) (s .pre .0 .lent) (s .args .marks) (v .limits) (v .parents) (v .waiting) (v .past) e (v .inv .0) u _ (some .2) (some .0) (some .1) here _ _ _ (f .ensures .0) (v .inv .2)
+    let e = c .before .before .before .before .before .before .before .before .before .before in
+    let s = begun (turn e) in
+    let v = turn e .loop in
+    settle-less (s .args .table .now) (s .args .records .now) (s .pre .0 .lent) (s .args .marks) (v .limits) (v .parents) (v .waiting) (v .past) (level e) (v .inv .0) (who e) (left e) (some e .2) (some e .0) (some e .1) (here (c .before .before .before .before .before .before .before .before)) _ _ _ (c .before .before .before .before .relax-giver .ensures .0) (v .inv .2)
 
 loop-again-2 : tie.Need-loop-again-2 Inv-loop μ-loop
 loop-again-2 c =
-    let s = c .before .before .before .before .before .before .before .before .before .before .before .before .before .before .before .before .before .before .before .before .before .before .before .before .before .before .before .before in
-    let v = c .before .before .before .before .before .before .before .before .before .before .before .before .before .before .before .loop in
-    let u = c .before .before .before .before .before .before .before .before .before .before .before .before .take .result in
-    let some = taken-some (v .waiting) _ (v .past - 1) u (c .before .before .before .before .before .before .before .before .before .before .before .before .take .ensures) (c .before .before .before .before .before .before .before .before .before .before .if1 .left) in
-    let e : 0 < v .past = omega (arith, c .before .before .before .before .before .before .before .before .before .before .before .before .before .before .loop-test .taken) in
-    let here : getD (v .limits) u none ≡ pos (v .past - 1) = sym (read-limit (v .limits) u (omega (arith, some .0, v .inv .0 .limits)) (c .before .before .before .before .before .before .before .before .before .if22 .given)) ∙ ap (toZ w16) (c .before .before .before .before .before .before .before .before .if2 .taken) ∙ toZ-ofZ {w = w16} (record { sfits = omega (arith, v .inv .2) }) in
-    let f = c .before .before .before .before .relax-giver in
-    (state-settle (s .args .table .now) (s .args .records .now) (s .pre .0 .lent) (s .args .marks) (v .limits) (v .parents) (v .waiting) (v .past) e (v .inv .0) u _ (some .2) (some .0) (some .1) here _ _ _ (f .ensures .0), f .ensures .1, v .inv .2)
+    let e = c .before .before .before .before .before .before .before .before .before .before in
+    let s = begun (turn e) in
+    let v = turn e .loop in
+    let f = c .before .before .before .before .relax-giver .ensures in
+    (state-settle (s .args .table .now) (s .args .records .now) (s .pre .0 .lent) (s .args .marks) (v .limits) (v .parents) (v .waiting) (v .past) (level e) (v .inv .0) (who e) (left e) (some e .2) (some e .0) (some e .1) (here (c .before .before .before .before .before .before .before .before)) _ _ _ (f .0), f .1, v .inv .2)
 
 loop-less-3 : tie.Need-loop-less-3 Inv-loop μ-loop
 loop-less-3 c =
-    let s = c .before .before .before .before .before .before .before .before .before .before .before .before .before .before .before .before .before .before .before .before in
-    let v = c .before .before .before .before .before .before .before .loop in
-    let u = c .before .before .before .before .take .result in
-    let some = taken-some (v .waiting) _ (v .past - 1) u (c .before .before .before .before .take .ensures) (c .before .before .if1 .left) in
-    let e : 0 < v .past = omega (arith, c .before .before .before .before .before .before .loop-test .taken) in
-    let raised : getD (v .limits) u none ≢ pos (v .past - 1) = λ z. c .if2 .left (ap (ofZ w16) (getD-within (v .limits) u (pos 0) none (omega (arith, some .0, v .inv .0 .limits)) ∙ z)) in
-    stale-less (s .args .table .now) (s .args .records .now) (s .pre .0 .lent) (s .args .marks) (v .limits) (v .parents) (v .waiting) (v .past) e (v .inv .0) u _ (some .2) raised (some .0) (some .1)
+    let e = c .before .before in
+    let s = begun (turn e) in
+    let v = turn e .loop in
+    stale-less (s .args .table .now) (s .args .records .now) (s .pre .0 .lent) (s .args .marks) (v .limits) (v .parents) (v .waiting) (v .past) (level e) (v .inv .0) (who e) (left e) (some e .2) (raised c) (some e .0) (some e .1)
 
 loop-again-3 : tie.Need-loop-again-3 Inv-loop μ-loop
 loop-again-3 c =
-    let s = c .before .before .before .before .before .before .before .before .before .before .before .before .before .before .before .before .before .before .before .before in
-    let v = c .before .before .before .before .before .before .before .loop in
-    let u = c .before .before .before .before .take .result in
-    let some = taken-some (v .waiting) _ (v .past - 1) u (c .before .before .before .before .take .ensures) (c .before .before .if1 .left) in
-    let e : 0 < v .past = omega (arith, c .before .before .before .before .before .before .loop-test .taken) in
-    let raised : getD (v .limits) u none ≢ pos (v .past - 1) = λ z. c .if2 .left (ap (ofZ w16) (getD-within (v .limits) u (pos 0) none (omega (arith, some .0, v .inv .0 .limits)) ∙ z)) in (
-      state-stale (s .args .table .now) (s .args .records .now) (s .pre .0 .lent) (s .args .marks) (v .limits) (v .parents) (v .waiting) (v .past) e (v .inv .0) u _ (some .2) raised,
-      waiting-taken (v .limits) (v .waiting) _ (v .past - 1) u (v .low) (v .inv .1) (some .2) (omega (arith, c .before .before .before .before .before .before .loop-test .taken)),
-      v .inv .2,
-    )
+    let e = c .before .before in
+    let s = begun (turn e) in
+    let v = turn e .loop in
+    (state-stale (s .args .table .now) (s .args .records .now) (s .pre .0 .lent) (s .args .marks) (v .limits) (v .parents) (v .waiting) (v .past) (level e) (v .inv .0) (who e) (left e) (some e .2) (raised c), taken e, v .inv .2)
 
 same-length : tie.Need-same-length Inv-loop μ-loop
 same-length c = c .before .loop .inv .0 .limits ∙ sym (c .before .before .before .before .before .before .before .before .before .before .before .before .before .before .pre .1 .limits)

@@ -1,19 +1,20 @@
 -- `search::start` meets its contract. Assumes nothing.
-use mathlib.Core.Path.{_≡_}
+use mathlib.Core.Path.{_≡_, refl}
 use Prim.Native.Nat.{ℕ, _-_, _≤_, _<_}
 use native.Mathlib.Nat.{not-suc-le-zero}
 use native.Mathlib.Omega.{arith}
 use lib.ListN.{length-set, getD}
 use Rattle.rules.specs.Limit.{none}
+use Rattle.rules.proofs.Lists.{set-more}
 use Rattle.block.specs.Layout.{mostSubjects}
-use Rattle.runs.specs.Lent.{Room}
-use Rattle.search.proofs.Fill.{filled-more, started}
+use Rattle.runs.specs.Lent.{SubjectLists}
+use Rattle.search.proofs.Fill.{started}
 use Rattle.search.proofs.start.Statement.{statement}
 use Rattle.search.proofs.start.Tie as tie
 
 abbrev Inv-loop : tie.InvT-loop
 Inv-loop limits₀ parents₀ i₀ limits parents i =
-    (i ≤ mostSubjects) × Room limits parents × ((y : ℕ) → y < i → getD limits y none ≡ none) × ((y : ℕ) → y < i → getD parents y 0 ≡ 0)
+    (i ≤ mostSubjects) × SubjectLists limits parents × ((y : ℕ) → y < i → getD limits y none ≡ none) × ((y : ℕ) → y < i → getD parents y 0 ≡ 0)
 
 abbrev μ-loop : tie.MeasureT-loop
 μ-loop limits₀ parents₀ i₀ limits parents i = mostSubjects - i
@@ -44,8 +45,8 @@ loop-again c =
     let v = c .before .loop in (
       omega arith,
       record { limits = simp length-set (v .inv .1 .limits); parents = simp length-set (v .inv .1 .parents) },
-      filled-more (v .limits) (v .i) none none (omega arith) (v .inv .2),
-      filled-more (v .parents) (v .i) 0 0 (omega arith) (v .inv .3),
+      set-more (λ y x. x ≡ none) (v .limits) (v .i) none none (omega arith) (v .inv .2) refl,
+      set-more (λ y x. x ≡ 0) (v .parents) (v .i) 0 0 (omega arith) (v .inv .3) refl,
     )
 
 slice-set-of-limits-2 : tie.Need-slice-set-of-limits-2 Inv-loop μ-loop

@@ -3,6 +3,7 @@ use mathlib.Core.Path.{_≡_, refl}
 use Prim.Native.Nat.{_-_, _≤_}
 use native.Mathlib.Omega.{arith}
 use lib.ListN.{length, length-set}
+use Rattle.block.specs.Layout.{mostRecords}
 use Rattle.block.specs.Records.{delegationAt}
 use Rattle.reckoning.specs.Reckoned.{decodedAs, noneDecoded, Decoded}
 use Rattle.reckoning.proofs.Lowering.{filled}
@@ -10,7 +11,7 @@ use Rattle.reckoning.proofs.lower.decoded.Statement.{statement}
 use Rattle.reckoning.proofs.lower.decoded.Tie as tie
 
 abbrev Inv-loop : tie.InvT-loop
-Inv-loop block n ds₀ k₀ ds k = (k ≤ n) × (length ds ≡ 256) × Decoded (delegationAt block) k ds
+Inv-loop block n ds₀ k₀ ds k = (k ≤ n) × (length ds ≡ mostRecords) × Decoded (delegationAt block) k ds
 
 abbrev μ-loop : tie.MeasureT-loop
 μ-loop block n ds₀ k₀ ds k = n - k

@@ -8,6 +8,7 @@ use mir.Facts.{toZ-ofZ, toZ-pos}
 use lib.IntN.{pos}
 use lib.Signed.{ltZ}
 use lib.ListN.{length, getD, length-set}
+use Rattle.block.specs.Layout.{mostRecords}
 use Rattle.block.specs.Records.{delegationAt}
 use Rattle.rules.proofs.Signed.{kept}
 use Rattle.reckoning.specs.Reckoned.{noneDecoded, WeightsRead}
@@ -16,7 +17,7 @@ use Rattle.reckoning.proofs.lower.read_weights.Statement.{statement}
 use Rattle.reckoning.proofs.lower.read_weights.Tie as tie
 
 abbrev Inv-loop : tie.InvT-loop
-Inv-loop block n weights₀ ds changed₀ k₀ weights changed k = (k ≤ n) × (length weights ≡ 256) × WeightsRead (delegationAt block) ds k changed weights
+Inv-loop block n weights₀ ds changed₀ k₀ weights changed k = (k ≤ n) × (length weights ≡ mostRecords) × WeightsRead (delegationAt block) ds k changed weights
 
 abbrev μ-loop : tie.MeasureT-loop
 μ-loop block n weights₀ ds changed₀ k₀ weights changed k = n - k
