@@ -80,7 +80,7 @@ module _ (fs : List Delegation) (d : Delegation) (ds : List Delegation) where
     after : Before d e
     after =
         let (x, m, a) = held-rest d ds e other (s .held e (List·Memᴰ·head refl)) in
-        Before-pairs d x d e refl refl (sym (a .giver)) (sym (a .receiver)) (s .rising .0 x m)
+        Before-pairs d x d e refl refl (sym (at-giver a)) (sym (at-receiver a)) (s .rising .0 x m)
 
     pub others : (x : Delegation) → x ∈ (e ∷ es) → IsPair (d .giver) (d .receiver) x → ⊥
     others x (List·Memᴰ·head q) p = other (subst (λ (y : Delegation). IsPair (d .giver) (d .receiver) y) q p)
