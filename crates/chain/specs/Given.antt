@@ -1,4 +1,4 @@
--- What the inner functions of the chain call are given. Assumes nothing.
+-- What the search of the chain call is lent. Assumes nothing.
 use mathlib.Core.Path.{_≡_}
 use mathlib.Core.Bool.{true}
 use mathlib.Core.List.{List}
@@ -8,12 +8,6 @@ use lib.IntN.{ℤ}
 use Rattle.rules.specs.Table.{TableRule}
 use Rattle.block.specs.Block.{subjectsIn}
 use Rattle.block.specs.WellFormed.{wellFormed}
-
--- a well-formed block in which both are enrolled
-pub record BothEnrolled (b : List ℕ) (g r : ℕ) : Type 0 where
-  pub formed : wellFormed b ≡ true
-  pub giver : g < subjectsIn b
-  pub receiver : r < subjectsIn b
 
 -- a well-formed block, an enrolled receiver, a step table, and room for the limit and the parent of each subject
 pub record LimitsLent (t : List ℤ) (b : List ℕ) (r : ℕ) (l : List ℤ) (p : List ℕ) : Type 0 where

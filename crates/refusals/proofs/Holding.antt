@@ -27,6 +27,7 @@ use Rattle.block.proofs.Held.{subjects-held, delegations-held, count-held, plac
 use Rattle.block.proofs.PairPlace.{pairPlace, weightAt-found, weightAt-missing}
 use Rattle.block.specs.Records.{delegationAt, delegationsTo}
 use Rattle.rules.proofs.Signed.{below-weight}
+use Rattle.refusals.specs.Checked.{BothEnrolled}
 
 pub or-false : (x : Bool) → (x || false) ≡ x
 or-false true = refl
@@ -45,9 +46,11 @@ not-or true y e = absurd (subst T (sym e) tt)
 not-or false true e = absurd (subst T (sym e) tt)
 not-or false false e = (refl, refl)
 
--- both are enrolled
-pub both-in : (s g r : ℕ) → not (leb s g || leb s r) ≡ true → (g < s) × (r < s)
-both-in s g r e = let (p, q) = not-or (leb s g) (leb s r) e in (leb-false s g p, leb-false s r q)
+-- both are enrolled, as the code tests it
+pub both-in : {b : List ℕ} {g r : ℕ} → wellFormed b ≡ true → not (leb (subjectsIn b) g || leb (subjectsIn b) r) ≡ true → BothEnrolled b g r
+both-in {b} {g} {r} formed e =
+    let (p, q) = not-or (leb (subjectsIn b) g) (leb (subjectsIn b) r) e in
+    record { formed = formed; giver = leb-false (subjectsIn b) g p; receiver = leb-false (subjectsIn b) r q }
 
 -- the pair stands, as the code tests it
 pub stands-test : (b : List ℕ) (bytes : IsBytes b) (formed : wellFormed b ≡ true) (g r k : ℕ) → k ≡ leading (λ d. not (isPair g r d)) (delegationsTo b (countIn b)) → ltb k (countIn b) ≡ stands (decode b) g r
@@ -84,8 +87,8 @@ module _ (b : List ℕ) (bytes : IsBytes b) (formed : wellFormed b ≡ true) (g 
   enrolled-test = ap (λ (s : ℕ). leb s g || (leb s r || false)) (subjects-held b bytes formed) ∙ ap (λ (y : Bool). leb (subjectsIn b) g || y) (or-false (leb (subjectsIn b) r))
 
   -- past the test of 9
-  pub both-of : T (not (leb (decode b .subjects) g || (leb (decode b .subjects) r || false))) → (g < subjectsIn b) × (r < subjectsIn b)
-  both-of h = both-in (subjectsIn b) g r (ap not (sym enrolled-test) ∙ T-true _ h)
+  pub both-of : T (not (leb (decode b .subjects) g || (leb (decode b .subjects) r || false))) → BothEnrolled b g r
+  both-of h = both-in formed (ap not (sym enrolled-test) ∙ T-true _ h)
 
 -- the test of 16, as the code makes it
 pub heavy-test : (t : List ℤ) (R : Register) (d : Delegation) → overweight t R (d ∷ []) .1 ≡ ltZ (reach t R (d .giver) (d .receiver)) (pos (d .weight))

@@ -2,7 +2,7 @@
 ghost use mathlib.Core.Path.{_≡_};
 ghost use mathlib.Core.Bool.{true, not, _||_};
 ghost use mathlib.Core.List.{List, [], _∷_};
-ghost use Prim.Native.Nat.{_≤_, _<_};
+ghost use Prim.Native.Nat.{_≤_};
 ghost use lib.Dec.{leb};
 ghost use lib.IntN.{ℤ};
 ghost use Rattle.rules.specs.Table.{TableRule};
@@ -13,7 +13,7 @@ ghost use Rattle.rules.specs.Refusal.{firstOf, notEnrolled, allEnrolled, allSta
 ghost use Rattle.block.specs.Block.{subjectsIn, decode};
 ghost use Rattle.block.specs.WellFormed.{wellFormed};
 ghost use Rattle.refusals.specs.Joined.{orElse};
-ghost use Rattle.refusals.specs.Checked.{Checked};
+ghost use Rattle.refusals.specs.Checked.{Checked, BothEnrolled};
 use crate::tested;
 use block::layout;
 use rules::refusal;
@@ -113,7 +113,7 @@ fn overweight(
     need: u32,
     bar: u32,
 ) -> u32
-    requires { ⌜ Checked (now block) (grant (granted giver receiver weight need bar)) × TableRule (now table) × (n ≡ 0 → (giver < subjectsIn (now block)) × (receiver < subjectsIn (now block))) ⌝ }
+    requires { ⌜ Checked (now block) (grant (granted giver receiver weight need bar)) × TableRule (now table) × (n ≡ 0 → BothEnrolled (now block) giver receiver) ⌝ }
     ensures { λ r. ⌜ r ≡ orElse n (overweight (now (table .entry)) (decode (now (block .entry))) (granted giver receiver weight need bar ∷ [])) ⌝ }
 {
     if n != 0 {

@@ -33,7 +33,7 @@ use Rattle.register.specs.Cuts.{onRegister, CutsLeft, CutMade}
 use Rattle.register.specs.declared.Answer.{Answer}
 use Rattle.refusals.specs.Checked.{InLimits}
 use Rattle.refusals.specs.Early.{refusalOn}
-use Rattle.refusals.proofs.EarlyTests.{Through}
+use Rattle.refusals.proofs.EarlyTests.{Through, through}
 use Rattle.register.proofs.Made.{made-done, made-refused}
 use Rattle.register.proofs.Through.{accepted-through, accepted-step, accepted-left}
 
@@ -95,6 +95,10 @@ pub record CutThrough (t : List ℤ) (b : List ℕ) (y : ℕ) (k : Cut) : Type 0
   pub rule : TableRule t
   pub bytes : IsBytes b
   pub through : Through t b (cutCall y k)
+
+-- n is the refusal that the code finds
+pub cut-past : {t : List ℤ} {b : List ℕ} {y : ℕ} {k : Cut} {n : ℕ} → TableRule t → IsBytes b → n ≡ refusalOn t b (cutCall y k) → n ≡ 0 → CutThrough t b y k
+cut-past {t} {b} {y} {k} rule bytes e z = record { rule = rule; bytes = bytes; through = through t b (cutCall y k) (sym e ∙ z) }
 
 -- d is the block after the named change
 module _ {t : List ℤ} {b : List ℕ} {y : ℕ} {k : Cut} (h : CutThrough t b y k) {d : List ℕ} (e : d ≡ encode (named (decode b) k)) where

@@ -1,7 +1,7 @@
 -- The ways of reach and grant. Assumes nothing.
 use mathlib.Core.Path.{_≡_}
 use mathlib.Core.List.{List}
-use Prim.Native.Nat.{ℕ, _+_, _<_}
+use Prim.Native.Nat.{ℕ, _+_}
 use native.Mathlib.Omega.{arith}
 use lib.ListN.{length}
 use lib.IntN.{ℤ, pos}
@@ -13,8 +13,9 @@ use Rattle.rules.specs.CallStep.{insert, accepted}
 use Rattle.rules.proofs.Refusals.{passes-of}
 use Rattle.rules.proofs.Pairs.{insert-length}
 use Rattle.block.specs.Bytes.{IsBytes}
-use Rattle.block.specs.Block.{subjectsIn, countIn, decode, encode}
+use Rattle.block.specs.Block.{countIn, decode, encode}
 use Rattle.block.proofs.Held.{held-written, count-held}
+use Rattle.refusals.specs.Checked.{BothEnrolled}
 use Rattle.refusals.proofs.EarlyTests.{Through}
 use Rattle.refusals.proofs.Holding.{both-of}
 use Rattle.register.specs.Made.{answeredBy, Made}
@@ -23,8 +24,7 @@ use Rattle.register.proofs.Made.{made-done}
 module _ (t : List ℤ) (b : List ℕ) (bytes : IsBytes b) (g r : ℕ) where
   -- ── reach ──
   module _ (h : Through t b (askReach g r)) where
-    -- both are enrolled
-    pub reach-both : (g < subjectsIn b) × (r < subjectsIn b)
+    pub reach-both : BothEnrolled b g r
     unfolding held
     reach-both = both-of b bytes (h .early .formed) g r (passes-of (held t (decode b) (askReach g r)) tt (h .held) 9)
 

@@ -82,8 +82,7 @@ write-carrying-requires : tie.Need-write-carrying-requires
 write-carrying-requires c κs =
     let d = c .before .before .before .before .before in
     let s = start (d .before) in
-    let (p, q) = both-in (subjectsIn (s .args .block .now)) (s .args .giver) (s .args .receiver) (both d) in
-    (record { formed = s .pre .0 .formed; giver = p; receiver = q }, s .pre .1, s .pre .2)
+    (both-in (s .pre .0 .formed) (both d), s .pre .1, s .pre .2)
 
 same-length : tie.Need-same-length
 same-length c = search needs

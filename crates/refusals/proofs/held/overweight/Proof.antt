@@ -16,8 +16,8 @@ returns c = rw (ne-eqb _ _ (c .if1 .taken))
 reach-of-requires : tie.Need-reach-of-requires
 reach-of-requires c κs =
     let s = c .before .before in
-    let (p, q) = s .pre .2 (c .if1 .left) in
-    (record { formed = s .pre .0 .formed; rule = s .pre .1 }, p, q)
+    let e = s .pre .2 (c .if1 .left) in
+    (record { formed = e .formed; rule = s .pre .1 }, e .giver, e .receiver)
 
 cast-tested : tie.Need-cast-tested
 cast-tested c = search needs

@@ -1,14 +1,12 @@
 -- `register::revoke_by` makes a cut. Assumes nothing.
 use borrow.Author.Needs.{needs}
-use mathlib.Core.Path.{sym, _∙_}
 use native.Mathlib.Omega.{arith}
 use Rattle.rules.specs.Call.{Call, revoke}
 use Rattle.rules.specs.Cut.{Cut, removal}
 use Rattle.block.specs.Block.{decode}
 use Rattle.block.proofs.Bytes.{fits-bytes}
 use Rattle.refusals.proofs.CutHolding.{revoke-stands}
-use Rattle.refusals.proofs.EarlyTests.{through}
-use Rattle.register.proofs.CutWays.{cut-refused, CutThrough, named-block, cut-done}
+use Rattle.register.proofs.CutWays.{cut-refused, CutThrough, cut-past, named-block, cut-done}
 use Rattle.register.proofs.cutting.revoke_by.Statement.{statement}
 use Rattle.register.proofs.cutting.revoke_by.Tie as tie
 
@@ -25,8 +23,7 @@ start c = c .before .before .before .before
 past : (c : tie.Else1) → let a = start c .args in CutThrough (a .table .now) (a .block .now) (a .by) (change (start c))
 past c =
     let s = start c in
-    let b = s .args .block .now in
-    record { rule = s .pre; bytes = fits-bytes b (c .before .before .before .slice-known .given); through = through (s .args .table .now) b (call s) (sym (c .before .revoke-refusal .ensures (s .args .table .now)) ∙ c .if1 .left) }
+    cut-past (s .pre) (fits-bytes (s .args .block .now) (c .before .before .before .slice-known .given)) (c .before .revoke-refusal .ensures (s .args .table .now)) (c .if1 .left)
 
 -- ── the needs ──
 revoke-refusal-requires : tie.Need-revoke-refusal-requires

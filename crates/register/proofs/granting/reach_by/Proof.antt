@@ -41,8 +41,8 @@ returns c =
 reach-of-requires : tie.Need-reach-of-requires
 reach-of-requires c κs =
     let a = start c .args in
-    let (p, q) = reach-both (a .table .now) (a .block .now) (bytes c) (a .giver) (a .receiver) (past c) in
-    (past c .early .formed, start c .pre, p, q)
+    let e = reach-both (a .table .now) (a .block .now) (bytes c) (a .giver) (a .receiver) (past c) in
+    (record { formed = e .formed; rule = start c .pre }, e .giver, e .receiver)
 
 cast-answered : tie.Need-cast-answered
 cast-answered c = rw (toZ-ofZ {w = w16} {z = c .reach-of .result} record { sfits = omega (arith, c .reach-of .ok) }) record { sfits = omega (arith, c .reach-of .ok) }
