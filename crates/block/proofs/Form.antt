@@ -15,7 +15,7 @@ use Rattle.rules.specs.CallStep.{before}
 use Rattle.rules.proofs.Lists.{T-left, T-right, T-both, eq→eqb, test-ne}
 use Rattle.rules.proofs.WellFormed.{Before-trans}
 use Rattle.rules.proofs.Pairs.{before-Before, Before-before}
-use Rattle.block.specs.Layout.{blockSize, mostSubjects, mostRecords, freeAt, markSize, recordSize, marksSize, recordsSize, marksAt, recordsAt, weightByte, restByte, needByte, barByte}
+use Rattle.block.specs.Layout.{blockSize, mostSubjects, mostRecords, freeAt, countAt, markSize, recordSize, marksSize, recordsSize, marksAt, recordsAt, giverByte, receiverByte, weightByte, restByte, needByte, barByte}
 use Rattle.block.specs.Bytes.{IsBytes, two, twoBytes, readAll, padded, zeros}
 use Rattle.block.specs.Block.{marksIn, delegationIn, recordBytes, subjectsIn, countIn, decode, encode}
 use Rattle.block.specs.WellFormed.{allPass, delegationTests, delegationFormed, recordTests, recordFormed, restUnmarked, recordsFormed, rises, recordsRise, restZero, blockTests, wellFormed}
@@ -55,7 +55,7 @@ parts b h = go (each blockTests b h)
       rest = rest;
     }
 
-pub whole : (b : List ℕ) → Parts b → T (wellFormed b)
+whole : (b : List ℕ) → Parts b → T (wellFormed b)
 unfolding wellFormed
 whole b p = every blockTests b (
     eq→eqb (p .size)
@@ -179,10 +179,10 @@ marks-back s l h = twoBytes-two (getD s 0 0) (getD s 1 0) (h 0) (h 1) ∙ sym (t
 
 record-back : (s : List ℕ) → recordSize ≤ length s → IsBytes s → getD s restByte 0 ≡ 0 → recordBytes (delegationIn s) ≡ take recordSize s
 record-back s l h z =
-    let p = twoBytes-two (getD s 4 0) (getD s 5 0) (h 4) (h 5) in
-    let q = twoBytes-two (getD s 6 0) (getD s 7 0) (h 6) (h 7) in
+    let p = twoBytes-two (getD s needByte 0) (getD s (needByte + 1) 0) (h needByte) (h (needByte + 1)) in
+    let q = twoBytes-two (getD s barByte 0) (getD s (barByte + 1) 0) (h barByte) (h (barByte + 1)) in
     let z′ = sym z in
-    (λ j. getD s 0 0 ∷ getD s 1 0 ∷ getD s 2 0 ∷ z′ j ∷ (p j ++ q j)) ∙ sym (take-tabulate recordSize s l)
+    (λ j. getD s giverByte 0 ∷ getD s receiverByte 0 ∷ getD s weightByte 0 ∷ z′ j ∷ (p j ++ q j)) ∙ sym (take-tabulate recordSize s l)
 
 -- the zero bytes that a test names
 zeros-at : (b : List ℕ) (a n : ℕ) → T (zeros b a n) → (k : ℕ) → a ≤ k → k < a + n → getD b k 0 ≡ 0
@@ -220,7 +220,7 @@ module _ (b : List ℕ) (bytes : IsBytes b) (p : Parts b) where
   head-written : (subjectsIn b ∷ 0 ∷ twoBytes (length (delegationsTo b (countIn b)))) ≡ take marksAt b
   head-written =
       let n = length-tabulate (delegationAt b) 0 (countIn b) in
-      let e = ap twoBytes n ∙ twoBytes-two (getD b 2 0) (getD b 3 0) (bytes 2) (bytes 3) in
+      let e = ap twoBytes n ∙ twoBytes-two (getD b countAt 0) (getD b (countAt + 1) 0) (bytes countAt) (bytes (countAt + 1)) in
       let z = sym (p .free) in
       (λ j. subjectsIn b ∷ z j ∷ e j) ∙ sym (take-tabulate marksAt b (omega (arith, p .size)))
 
