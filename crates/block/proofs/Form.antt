@@ -21,7 +21,7 @@ use Rattle.block.specs.Block.{marksIn, delegationIn, recordBytes, subjec
 use Rattle.block.specs.WellFormed.{allPass, delegationTests, delegationFormed, recordTests, recordFormed, restUnmarked, recordsFormed, rises, recordsRise, restZero, blockTests, wellFormed}
 use Rattle.block.proofs.Bytes.{tabulate-suc, twoBytes-two, two-most, bytes-drop, length-tabulate, tabulate-mem, length-written, written-at, written-read, allFrom-at, allFrom-all, padded-zeros, getD-mem}
 use Rattle.block.proofs.Tests.{Each, end, _▸_, each, every}
-use Rattle.block.proofs.Encode.{marksPart, recordsPart, marks-encode, record-wide, record-read, length-encode, subjects-encode, count-encode, records-encode, delegations-encode}
+use Rattle.block.proofs.Encode.{marksPart, middlePart, middleSize, afterMarks, encode-records, encode-marks, marks-encode, record-wide, record-read, length-encode, subjects-encode, count-encode, records-encode, delegations-encode}
 use Rattle.block.specs.Records.{delegationAt, delegationsTo, recordFrom}
 
 -- ── the rules of a well-formed block, each by itself ──
@@ -202,6 +202,11 @@ module _ (b : List ℕ) (bytes : IsBytes b) (p : Parts b) where
       zero-mark : (k : ℕ) → markSize * subjectsIn b ≤ k → k < marksSize → getD b (marksAt + k) 0 ≡ 0
       zero-mark k l m = zeros-at b (marksAt + markSize * subjectsIn b) (marksAt + marksSize - (marksAt + markSize * subjectsIn b)) (p .unmarked) (marksAt + k) (omega arith) (omega arith)
 
+  -- what stands between the head and the records
+  middle-written : middlePart (decode b) ≡ take middleSize (drop marksAt b)
+  unfolding decode
+  middle-written = marks-written
+
   records-written : padded recordsSize (concatMap recordBytes (delegationsTo b (countIn b))) ≡ drop recordsAt b
   records-written =
       ap (padded recordsSize) (written-read recordBytes recordSize record-wide delegationIn (countIn b) (drop recordsAt b) back)
@@ -226,11 +231,12 @@ module _ (b : List ℕ) (bytes : IsBytes b) (p : Parts b) where
 
   -- what was read is written back
   pub encode-decode : encode (decode b) ≡ b
-  unfolding decode encode
+  unfolding decode
   encode-decode =
-      (λ j. head-written j ++ (marks-written j ++ records-written j))
-      ∙ ap (λ (s : List ℕ). take marksAt b ++ (take marksSize (drop marksAt b) ++ s)) (sym (drop-drop marksSize marksAt b))
-      ∙ ap (λ (s : List ℕ). take marksAt b ++ s) (take-append-drop marksSize (drop marksAt b))
+      encode-records (decode b)
+      ∙ (λ j. head-written j ++ (middle-written j ++ records-written j))
+      ∙ ap (λ (s : List ℕ). take marksAt b ++ (take middleSize (drop marksAt b) ++ s)) (sym (drop-drop middleSize marksAt b))
+      ∙ ap (λ (s : List ℕ). take marksAt b ++ s) (take-append-drop middleSize (drop marksAt b))
       ∙ take-append-drop marksAt b
 
 -- ── a well-formed register written is a well-formed block ──
@@ -250,9 +256,8 @@ zeros-after b front rest at n m e l = allFrom-all (λ k. eqb (getD b k 0) 0) (at
         ∙ getD-replicate m k 0 0 (omega arith))
 
 module _ (R : Register) (f : WellFormed R) where
-  marks-drop : drop marksAt (encode R) ≡ marksPart R ++ recordsPart R
-  unfolding encode
-  marks-drop = refl
+  marks-drop : drop marksAt (encode R) ≡ marksPart R ++ afterMarks R
+  marks-drop = ap (drop marksAt) (encode-marks R)
 
   free-zero : getD (encode R) freeAt 0 ≡ 0
   unfolding encode
@@ -268,7 +273,7 @@ module _ (R : Register) (f : WellFormed R) where
       let n = length-written twoBytes markSize (λ x. refl) (R .marks) in
       let e : marksAt + length (concatMap twoBytes (R .marks)) ≡ marksAt + markSize * subjectsIn (encode R) = omega (arith, n, f .marked, subjects-encode R f) in
       subst (λ (a : ℕ). T (zeros (encode R) a (marksAt + marksSize - a))) e
-      (zeros-after (encode R) (concatMap twoBytes (R .marks)) (recordsPart R) marksAt (marksAt + marksSize - (marksAt + length (concatMap twoBytes (R .marks)))) (marksSize - length (concatMap twoBytes (R .marks))) marks-drop (omega arith))
+      (zeros-after (encode R) (concatMap twoBytes (R .marks)) (afterMarks R) marksAt (marksAt + marksSize - (marksAt + length (concatMap twoBytes (R .marks)))) (marksSize - length (concatMap twoBytes (R .marks))) marks-drop (omega arith))
 
   records-formed : T (recordsFormed (encode R))
   records-formed = allFrom-all (λ k. recordFormed (subjectsIn (encode R)) (recordFrom (encode R) k)) 0 (countIn (encode R)) one
