@@ -28,7 +28,7 @@ fn search_row(block: &[u8], starts: &[u16], table: &[i16], receiver: usize, reac
     );
 }
 
-// HasRow `from` of the table into row `to`.
+// Row `from` of the table into row `to`.
 fn copy_row(reaches: &mut [i16], from: usize, to: usize)
     requires { ⌜ (from < to) × (to < mostSubjects) × (length (now reaches) ≡ reachCount) ⌝ }
     ensures { λ _. ⌜ PlacesCopied (mostSubjects * from) (mostSubjects * to) mostSubjects (now (reaches .entry)) (now (reaches .exit)) ⌝ }
