@@ -1,27 +1,23 @@
 -- The delegations decoded, lowered and read out, place by place. Assumes nothing.
-use mathlib.Core.Path.{_≡_, refl, sym, ap, subst, _∙_}
-use mathlib.Core.Logic.{_≢_, _⊎_, inl, inr}
+use mathlib.Core.Path.{_≡_, refl, sym, ap, _∙_}
 use mathlib.Core.Bool.{Bool, true, false, cond}
 use mathlib.Core.List.{List, [], _∷_, map, _++_}
 use Prim.Native.Nat.{ℕ, zero, suc, _+_, _≤_, _<_}
 use native.Mathlib.Nat.{not-suc-le-zero, le-of-suc-le-suc}
 use native.Mathlib.Omega.{arith}
+use borrow.Author.Count.{below-more}
 use lib.IntN.{ℤ, pos}
 use lib.Signed.{ltZ, mag}
 use mir.Syntax.{w16}
 use mir.Facts.{toZ-ofZ}
 use lib.ListN.{length, getD, set, take, drop, length-set, List·getD-eq-default}
 use Rattle.rules.specs.Register.{Delegation}
-use Rattle.rules.proofs.Lists.{clash, eqOr, set-more}
+use Rattle.rules.proofs.Lists.{clash, set-more}
 use Rattle.rules.proofs.Signed.{getD-within, kept}
 use Rattle.reckoning.specs.Reckoned.{noneDecoded, lesser, WeightsRead}
 use Rattle.reckoning.specs.declared.Delegation.{Delegation as DecodedDelegation}
 
 -- ── lists ──
--- one more place filled
-pub filled : {A : Type 0} (l : List A) (k : ℕ) (z v : A) (p : ℕ → A) → k < length l → ((j : ℕ) → j < k → getD l j z ≡ p j) → v ≡ p k → (j : ℕ) → j < k + 1 → getD (set l k v) j z ≡ p j
-filled l k z v p = set-more (λ j x. x ≡ p j) l k v z
-
 module _ {A : Type 0} (f : A → A) (d : A) where
   -- a list with f at its first n elements, as a loop makes it
   abbrev pub eachTo : ℕ → List A → List A
@@ -85,7 +81,7 @@ module _ (f : ℕ → Delegation) (ds : List DecodedDelegation) where
 
   module _ (k : ℕ) (c : Bool) (ws : List ℤ) (s : WeightsRead f ds k c ws) (room : k < length ws) (v : ℤ) (e : v ≡ getD ds k noneDecoded .weight) where
     each-on : (j : ℕ) → j < k + 1 → getD (set ws k v) j (pos 0) ≡ getD ds j noneDecoded .weight
-    each-on = filled ws k (pos 0) v (λ j. getD ds j noneDecoded .weight) room (s .each) e
+    each-on = set-more (λ j x. x ≡ getD ds j noneDecoded .weight) ws k v (pos 0) room (s .each) e
 
     -- the weight at place k is below the one before
     pub read-less : ltZ v (pos (f k .weight)) ≡ true → WeightsRead f ds (k + 1) true (set ws k v)
@@ -99,10 +95,6 @@ module _ (f : ℕ → Delegation) (ds : List DecodedDelegation) where
     pub read-same : ltZ v (pos (f k .weight)) ≡ false → WeightsRead f ds (k + 1) c (set ws k v)
     read-same q = record {
       each = each-on;
-      same = λ z j h. stays z j h (eqOr j k);
+      same = λ z. below-more (λ j. ltZ (getD ds j noneDecoded .weight) (pos (f j .weight)) ≡ false) k (s .same z) (ap (λ (x : ℤ). ltZ x (pos (f k .weight))) (sym e) ∙ q);
       less = λ z. let (j, l, r) = s .less z in (j, omega arith, r);
     }
-      where
-        stays : c ≡ false → (j : ℕ) → j < k + 1 → (j ≡ k) ⊎ (j ≢ k) → ltZ (getD ds j noneDecoded .weight) (pos (f j .weight)) ≡ false
-        stays z j h (inl r) = subst (λ (i : ℕ). ltZ (getD ds i noneDecoded .weight) (pos (f i .weight)) ≡ false) (sym r) (ap (λ (x : ℤ). ltZ x (pos (f k .weight))) (sym e) ∙ q)
-        stays z j h (inr r) = s .same z j (omega arith)
