@@ -1,4 +1,4 @@
--- Changes of a block xs changes of the register that it holds. Assumes nothing.
+-- Changes of a block as changes of the register that it holds. Assumes nothing.
 use mathlib.Core.Path.{_≡_, refl, sym, ap, _∙_}
 use mathlib.Core.List.{List, [], _∷_, _++_, append-assoc}
 use Prim.Native.Nat.{ℕ, zero, suc, _+_, _*_, _-_, _≤_, _<_}
@@ -55,7 +55,7 @@ module _ (R : Register) (f : WellFormed R) where
       let z : length (concatMap recordBytes (xs ++ (ms ++ ys))) ≡ recordSize * n = size (xs ++ (ms ++ ys)) ∙ ap (λ (k : ℕ). recordSize * k) e in
       encode-records (withDelegations R (xs ++ (ms ++ ys))) ∙ (λ j. headOf (R .subjects) (e j) ++ (middlePart R ++ (s j ++ replicate (recordsSize - z j) 0))) ∙ simp append-assoc
 
-  -- the block xs it is, parted at place k
+  -- the block as it is, parted at place k
   parted : (ms ys : List Delegation) (k : ℕ) → drop k (R .delegations) ≡ ms ++ ys
       → encode R ≡ frontOf (length (R .delegations)) (take k (R .delegations)) ++ (concatMap recordBytes ms ++ (concatMap recordBytes ys ++ zerosAfter (length (R .delegations))))
   parted ms ys k e =
