@@ -1,5 +1,5 @@
 # The seat register.
-#   make                              the library: proves and builds the archive
+#   make [lib]                        the library: proves and builds the archive
 #   make run                          builds the program and runs it on examples/listing.calls
 #   make host                         builds and runs the examples, and compares what they print
 #   make compare [SEED=n] [CASES=n]   random calls through the archive and the second implementation
@@ -147,12 +147,12 @@ install: $(archive) $(program)
 	printf '%s\n' "prefix=$$prefix" "$$pc" > "$$dest/lib/pkgconfig/seatreg.pc"; \
 	chmod 644 "$$dest/lib/pkgconfig/seatreg.pc"
 
-# What install wrote, and the folder that only it has.
+# What install wrote, and its folder of documents if that is empty then.
 uninstall:
 	@$(paths); set -ex; \
 	rm -f "$$dest/include/seatreg.h" "$$dest/lib/libseatreg.a" "$$dest/lib/pkgconfig/seatreg.pc" "$$dest/bin/seatcalls"; \
 	rm -f "$$doc/README.md" "$$doc/CHANGELOG.md" "$$doc/01-scope.md"; \
-	if [ -d "$$doc" ]; then rmdir "$$doc"; fi
+	if [ -d "$$doc" ]; then rmdir --ignore-fail-on-non-empty "$$doc"; fi
 
 # The same bytes from the same commit, whoever makes it, when and in which folder. Where git can't
 # tell, the commit is 'unknown' and the date 0.
@@ -164,7 +164,7 @@ dist: $(archive)
 	cp $$repository/$(header) include; \
 	cp $$repository/$(archive) lib; \
 	cp $$repository/docs/*.md $$repository/docs/p5.svg docs; \
-	cp $$repository/examples/*.* examples; \
+	cp $$repository/examples/*.c $$repository/examples/*.expected $$repository/examples/*.calls examples; \
 	printf '%s\n' 'prefix=$${pcfiledir}/../..' "$$pc" > lib/pkgconfig/seatreg.pc; \
 	git describe --always --abbrev=40 --exclude '*' --dirty > COMMIT || echo unknown > COMMIT; \
 	date="$$(git log -1 --format=%ct || echo 0)"; \

@@ -43,9 +43,9 @@
 #include <stddef.h>
 #include <stdint.h>
 
-/* The version of this header and of the archive that comes with it: as text, and as a number that
- * rises with it, 10,000 times the first part, 100 times the second and the third. What changes it
- * is in README.md, 'Versions'. */
+/* The version of this header and of the archive that comes with it, as text and as a number: 10,000
+ * times the first part, plus 100 times the second, plus the third. README.md, 'Versions', says which
+ * changes raise which part. */
 #define SEATREG_VERSION "1.0.0"
 #define SEATREG_VERSION_NUMBER 10000
 

@@ -48,7 +48,16 @@ version() {
         grep -qx "#define SEATREG_VERSION_NUMBER $((first * 10000 + second * 100 + third))" include/seatreg.h &&
         grep -qF "\"$version\"" README.md &&
         grep -qF "$((first * 10000 + second * 100 + third))" README.md &&
+        grep -qF "seatreg-$version-x86-64-linux.tar" README.md &&
         grep -m 1 '^## ' CHANGELOG.md | grep -qx "## $version"
+}
+
+# Every target that is a command is in what `make help` prints.
+helped() {
+    make -s help >"$out/help" || return 1
+    for target in $(sed -n 's/^\.PHONY: //p' Makefile); do
+        grep -E "^make \[?$target\>" "$out/help" || return 1
+    done
 }
 
 # The refusals of README.md's table, with their names and texts, are the header's.
@@ -233,13 +242,16 @@ tarred() {
         example host "$PWD/$out/unpacked/$name" && example list "$PWD/$out/unpacked/$name"
 }
 
-# The host in a stack of 64 KiB: no proof bounds the stack of a call.
+# The hosts in a stack of 64 KiB: no proof bounds the stack of a call.
 small_stack() {
-    (ulimit -s 64 && exec env -i target/host/host) | diff examples/host.expected -
+    for host in host list; do
+        (ulimit -s 64 && exec env -i "target/host/$host") | diff "examples/$host.expected" - || return 1
+    done
 }
 
 step "archive" make -s
 step "archive stands alone" alone
+step "make help" helped
 step "build" make -s target/compare/compare
 step "header" header
 step "version" version
@@ -249,7 +261,7 @@ step "attributes of the header" attributes
 step "20,000 random calls" short
 step "self test" make -s self-test SEED=1
 step "hosts" make -s host
-step "host in 64 KiB of stack" small_stack
+step "hosts in 64 KiB of stack" small_stack
 step "host of README.md" readme
 step "stack of every call" stack
 step "drawing" drawing
@@ -264,5 +276,5 @@ if command -v g++ >/dev/null; then
 fi
 if command -v valgrind >/dev/null; then
     step "host under valgrind" valgrind -q --error-exitcode=1 target/host/host
-    step "list under valgrind" valgrind -q --error-exitcode=1 target/host/list
+    step "host that lists, under valgrind" valgrind -q --error-exitcode=1 target/host/list
 fi

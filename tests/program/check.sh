@@ -82,8 +82,8 @@ unwritable() {
         said 'seatcalls: standard output: Bad file descriptor'
 }
 
-# A C library in whose place this one stands, whose CALL moves nine bytes and
-# then fails.
+# Two libraries that the program is loaded with, each with one function in the
+# place of C's: a read, and a write, that moves nine bytes and then fails.
 failing() {
     cat >"$out/failing.c" <<'END' &&
 #define _GNU_SOURCE
