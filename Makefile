@@ -121,7 +121,7 @@ $(stack): tests/compare/stack.c $(header) $(archive)
 # The version's one home is the header.
 version := $(shell sed -n 's/^\#define SEATREG_VERSION "\(.*\)"$$/\1/p' $(header))
 
-# The pkg-config file, after its line of the prefix.
+# The pkg-config file, after its line of the prefix, in which a space has a backslash before it.
 define pc
 includedir=$${prefix}/include
 libdir=$${prefix}/lib
@@ -129,8 +129,8 @@ libdir=$${prefix}/lib
 Name: seatreg
 Description: The seat register: delegations, support chains, cuts
 Version: $(version)
-Cflags: -I"$${includedir}"
-Libs: -L"$${libdir}" -lseatreg
+Cflags: -I$${includedir}
+Libs: -L$${libdir} -lseatreg
 endef
 
 # The names may have spaces: they reach the shell as variables, and make splits none of them.
@@ -144,7 +144,7 @@ install: $(archive) $(program)
 	$(INSTALL) -m 644 $(archive) "$$dest/lib/libseatreg.a"; \
 	$(INSTALL) -m 755 $(program) "$$dest/bin/seatcalls"; \
 	$(INSTALL) -m 644 README.md CHANGELOG.md docs/01-scope.md "$$doc"; \
-	printf '%s\n' "prefix=$$prefix" "$$pc" > "$$dest/lib/pkgconfig/seatreg.pc"; \
+	printf '%s\n' "prefix=$$(printf '%s' "$$prefix" | sed 's/ /\\ /g')" "$$pc" > "$$dest/lib/pkgconfig/seatreg.pc"; \
 	chmod 644 "$$dest/lib/pkgconfig/seatreg.pc"
 
 # What install wrote, and its folder of documents if that is empty then.

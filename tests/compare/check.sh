@@ -224,7 +224,7 @@ installed() {
         "$folder/a b/bin/seatcalls" <examples/listing.calls | diff <(target/bin/seatcalls <examples/listing.calls) - &&
         doc="$folder/a b/share/doc/seatreg" && cmp README.md "$doc/README.md" && cmp docs/01-scope.md "$doc/01-scope.md" &&
         make -s install PREFIX="/c d" DESTDIR="$PWD/$folder/e f" && test -f "$folder/e f/c d/lib/libseatreg.a" &&
-        grep -qx 'prefix=/c d' "$folder/e f/c d/lib/pkgconfig/seatreg.pc" &&
+        grep -qxF 'prefix=/c\ d' "$folder/e f/c d/lib/pkgconfig/seatreg.pc" &&
         make -s uninstall PREFIX="$folder/a b" && make -s uninstall PREFIX="/c d" DESTDIR="$PWD/$folder/e f" &&
         ! find "$folder" -type f | grep . && ! find "$folder" -name seatreg | grep .
 }

@@ -16,8 +16,8 @@ fn main() {
     run_text(&space[..got]);
 }
 
-// Reads until the space is full, the input ends or a read fails, and says how many bytes it put at
-// the start of the space.
+// Reads until the space is full, the input ends or a read fails, which it notes, and answers how many
+// bytes it put at the start of the space.
 fn read_input(space: &mut [u8], failed: &mut bool) -> usize
     ensures { λ r. ⌜ Counts r (now (space .exit)) ⌝ }
 {
