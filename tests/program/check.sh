@@ -59,24 +59,28 @@ runs() {
     test "$ran" -eq 15 && ! test -s "$out/errors"
 }
 
-# The last run wrote this line to standard error, and nothing to standard output.
+# The last run wrote this line to standard error.
 # said LINE
 said() {
-    diff <(echo "$1") "$out/said" && ! test -s "$out/printed"
+    diff <(echo "$1") "$out/said"
 }
 
-# A folder and a closed input can't be read; nothing is printed then.
+# The last run printed what an empty input gives.
+printed_none() {
+    cmp "$out/printed" "$out/nothing.out"
+}
+
+# A folder and a closed input can't be read, and count as an empty input.
 unreadable() {
     target/bin/seatcalls <"$out" >"$out/printed" 2>"$out/said" &&
-        said 'seatcalls: standard input: Is a directory' &&
+        said 'seatcalls: standard input: Is a directory' && printed_none &&
         target/bin/seatcalls <&- >"$out/printed" 2>"$out/said" &&
-        said 'seatcalls: standard input: Bad file descriptor'
+        said 'seatcalls: standard input: Bad file descriptor' && printed_none
 }
 
 # A full disk and a closed output can't be written.
 unwritable() {
-    : >"$out/printed" &&
-        target/bin/seatcalls <examples/listing.calls >/dev/full 2>"$out/said" &&
+    target/bin/seatcalls <examples/listing.calls >/dev/full 2>"$out/said" &&
         said 'seatcalls: standard output: No space left on device' &&
         target/bin/seatcalls <examples/listing.calls >&- 2>"$out/said" &&
         said 'seatcalls: standard output: Bad file descriptor'
@@ -104,7 +108,7 @@ END
         gcc -shared -fPIC -DCALL=read -DOF=void -DFAILS=0 -DNUMBER=SYS_read "$out/failing.c" -o "$out/reads.so" &&
         gcc -shared -fPIC -DCALL=write '-DOF=const void' -DFAILS=1 -DNUMBER=SYS_write "$out/failing.c" -o "$out/writes.so" &&
         LD_PRELOAD="$PWD/$out/reads.so" target/bin/seatcalls <examples/listing.calls >"$out/printed" 2>"$out/said" &&
-        said 'seatcalls: standard input: Input/output error' &&
+        said 'seatcalls: standard input: Input/output error' && printed_none &&
         LD_PRELOAD="$PWD/$out/writes.so" target/bin/seatcalls <examples/listing.calls >"$out/part" 2>"$out/said" &&
         said 'seatcalls: standard output: Input/output error' &&
         test "$(cat "$out/part")" = 'refusal f'

@@ -1,5 +1,6 @@
 // Runs the call file on standard input and writes what it prints to standard output. Where the one
-// can't be read or the other can't be written, it says so on standard error.
+// can't be read to its end, which counts as an empty input, or the other can't be written, it says so
+// on standard error.
 ghost use Rattle.io.specs.Counts.{Counts};
 use libc::STDIN_FILENO;
 use libc::STDOUT_FILENO;
@@ -11,6 +12,7 @@ fn main() {
     let got = read_input(&mut space, &mut failed);
     if failed {
         os::fail(b"seatcalls: standard input");
+        run_text(&space[..0]);
         return;
     }
     run_text(&space[..got]);
