@@ -11,12 +11,13 @@ use Rattle.rules.specs.List.{_∈_}
 use Rattle.rules.specs.Limit.{_≼_}
 use Rattle.rules.specs.Register.{Delegation, Register, withDelegations, noDelegation}
 use Rattle.rules.specs.Reach.{reach}
-use Rattle.rules.specs.Pair.{receives}
 use Rattle.rules.specs.Support.{allowed}
 use Rattle.rules.specs.Round.{round}
 use Rattle.block.specs.Layout.{mostSubjects}
 use Rattle.block.specs.Records.{delegationAt, leftTo}
 use Rattle.block.specs.Block.{countIn, decode}
+use Rattle.queue.specs.Queue.{bit}
+use Rattle.search.specs.Named.{MarksIn}
 use Rattle.reckoning.specs.declared.Delegation.{Delegation as DecodedDelegation}
 
 -- how many reaches the table of reaches has: one for each giver and receiver
@@ -27,14 +28,22 @@ reachCount = mostSubjects * mostSubjects
 abbrev pub reachAt : ℕ → ℕ → ℕ
 reachAt g r = mostSubjects * r + g
 
+-- the set has the receiver of each of the first n delegations f
+abbrev pub HasReceivers : (ℕ → Delegation) → ℕ → ℕ → Type 0
+HasReceivers f n set = (k : ℕ) → k < n → bit set (f k .receiver) ≡ 1
+
+-- every mark that a condition of the first n delegations f names is a mark of m
+abbrev pub NamesFirst : (ℕ → Delegation) → ℕ → ℕ → Type 0
+NamesFirst f n m = (k : ℕ) → k < n → MarksIn (f k .need) m × MarksIn (f k .bar) m
+
 -- row r of the table of reaches holds the reach of every giver for the receiver r
 abbrev pub HasRow : List ℤ → Register → ℕ → List ℤ → Type 0
 HasRow t R r l = (u : ℕ) → u < mostSubjects → getD l (reachAt u r) (pos 0) ≡ reach t R u r
 
--- each subject below v that holds a delegation has its row in the table of reaches
-pub record Filled (t : List ℤ) (R : Register) (v : ℕ) (l : List ℤ) : Type 0 where
+-- each subject below v that is in the set has its row in the table of reaches
+pub record Filled (t : List ℤ) (R : Register) (set v : ℕ) (l : List ℤ) : Type 0 where
   pub size : length l ≡ reachCount
-  pub rows : (r : ℕ) → r < v → receives r (R .delegations) ≡ true → HasRow t R r l
+  pub rows : (r : ℕ) → r < v → bit set r ≡ 1 → HasRow t R r l
 
 -- the table of reaches holds what counts for every delegation
 abbrev pub Tabled : List ℤ → Register → List ℤ → Type 0

@@ -1,5 +1,5 @@
 -- `reckoning::reckon` leaves the weights of a round. Assumes nothing.
-use mathlib.Core.Path.{_≡_}
+use mathlib.Core.Path.{_≡_, _∙_}
 use mathlib.Core.Bool.{true}
 use mathlib.Core.List.{List, map, _++_}
 use Prim.Native.Nat.{ℕ, _≤_}
@@ -22,40 +22,40 @@ use Rattle.reckoning.proofs.reckon.Tie as tie
 room : (b : List ℕ) → IsBytes b → wellFormed b ≡ true → (n : ℕ) → n ≡ countIn b → HasRecords b n × (n ≤ mostRecords)
 room b g w n e = (omega (arith, e, count-most b g w, size-held b g w), omega (arith, e, count-most b g w))
 
-slice-aggregate-fill-reaches : tie.Need-slice-aggregate-fill-reaches
-slice-aggregate-fill-reaches c = search needs
-
 fill-reaches-requires : tie.Need-fill-reaches-requires
 fill-reaches-requires c κs = search needs
 
 count-requires : tie.Need-count-requires
 count-requires c κs =
-    let k = c .before .before .before in
+    let k = c .before .before .before .before .before .before .before in
     omega (arith, size-held (k .before .args .block .now) (fits-bytes (k .before .args .block .now) (k .shared-slice-known .given)) (k .before .pre .0 .formed))
 
 decoded-requires : tie.Need-decoded-requires
 decoded-requires c κs =
-    let k = c .before .before .before .before in
+    let k = c .before .before .before .before .before .before .before .before in
     room (k .before .args .block .now) (fits-bytes (k .before .args .block .now) (k .shared-slice-known .given)) (k .before .pre .0 .formed) (c .count .result) (c .count .ensures)
-
-slice-aggregate-lowered : tie.Need-slice-aggregate-lowered
-slice-aggregate-lowered c = search needs
 
 lowered-requires : tie.Need-lowered-requires
 lowered-requires c κs =
+    let k = c .before .before .before .before .before .before .before .before .before .before in
     let n = c .before .before in
-    let k = n .before .before .before .before in
     room (k .before .args .block .now) (fits-bytes (k .before .args .block .now) (k .shared-slice-known .given)) (k .before .pre .0 .formed) (n .count .result) (n .count .ensures) .1
 
 read-weights-requires : tie.Need-read-weights-requires
 read-weights-requires c κs =
+    let k = c .before .before .before .before .before .before .before .before .before .before .before .before in
     let n = c .before .before .before .before in
-    let k = n .before .before .before .before in
     let (l, m) = room (k .before .args .block .now) (fits-bytes (k .before .args .block .now) (k .shared-slice-known .given)) (k .before .pre .0 .formed) (n .count .result) (n .count .ensures) in
-    (l, m, k .before .pre .1)
+    (l, m, k .before .pre .3)
 
 same-length : tie.Need-same-length
 same-length c = search needs
+
+same-length-2 : tie.Need-same-length-2
+same-length-2 c = search needs
+
+same-length-3 : tie.Need-same-length-3
+same-length-3 c = search needs
 
 returns : tie.Need-returns
 returns c =
@@ -63,24 +63,26 @@ returns c =
     let o = c .before .before .before .lowered in
     let d = c .before .before .before .before .before .decoded in
     let n = c .before .before .before .before .before .before in
-    let f = n .before .before .fill-reaches in
-    let k = n .before .before .before .before in
+    let f = c .before .before .before .before .before .before .before .before .before .before .fill-reaches in
+    let k = c .before .before .before .before .before .before .before .before .before .before .before .before .before .before in
     let b = k .before .args .block .now in
     let e : n .count .result ≡ countIn b = n .count .ensures in
     let dec : Decoded (delegationAt b) (countIn b) (d .result) = rw (← e) (d .ensures) in
-    let read : WeightsRead (delegationAt b) (map (lowerOne (f .last .1 .1 .0)) (take (countIn b) (d .result)) ++ drop (countIn b) (d .result)) (countIn b) (r .result) (r .last .1 .1 .1 .0) = rw (← e, ← o .ensures) (r .ensures) in
-    reckoned (k .before .args .table .now) b (fits-bytes b (k .shared-slice-known .given)) (k .before .pre .0 .formed) (f .last .1 .1 .0) (f .kept .1 .1 .0) (f .ensures) (d .result) (d .ok .1 .0 .1) dec (r .result) (r .last .1 .1 .1 .0) read
+    let read : WeightsRead (delegationAt b) (map (lowerOne (f .last .1 .1 .0)) (take (countIn b) (d .result)) ++ drop (countIn b) (d .result)) (countIn b) (r .result) (r .last .1 .1 .1 .0) = rw (← e, ← o .ensures) (r .ensures) in (
+      reckoned (k .before .args .table .now) b (fits-bytes b (k .shared-slice-known .given)) (k .before .pre .0 .formed) (f .last .1 .1 .0) (f .kept .1 .1 .0 ∙ k .before .pre .1) (f .ensures .0) (d .result) (d .ok .1 .0 .1) dec (r .result) (r .last .1 .1 .1 .0) read,
+      f .ensures .1,
+    )
 
 pub reckon-spec : {M : Type 1} → statement M
 reckon-spec =
     tie.close
     (tie.spec
-    slice-aggregate-fill-reaches
     fill-reaches-requires
     count-requires
     decoded-requires
-    slice-aggregate-lowered
     lowered-requires
     read-weights-requires
     same-length
+    same-length-2
+    same-length-3
     returns)
