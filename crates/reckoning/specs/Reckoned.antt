@@ -71,6 +71,10 @@ decodedAs d = record { giver = d .giver; receiver = d .receiver; weight = pos (d
 abbrev pub noneDecoded : DecodedDelegation
 noneDecoded = decodedAs noDelegation
 
+-- how many delegations are decoded and lowered together
+abbrev pub runSize : ℕ
+runSize = 16
+
 -- the first n of the delegations f, decoded
 abbrev pub Decoded : (ℕ → Delegation) → ℕ → List DecodedDelegation → Type 0
 Decoded f n ds = (k : ℕ) → k < n → getD ds k noneDecoded ≡ decodedAs (f k)
@@ -87,11 +91,24 @@ loweredTo reaches g r w = lesser (getD reaches (reachAt g r) w) w
 abbrev pub lowerOne : List ℤ → DecodedDelegation → DecodedDelegation
 lowerOne reaches d = record { giver = d .giver; receiver = d .receiver; weight = loweredTo reaches (d .giver) (d .receiver) (d .weight); need = d .need; bar = d .bar }
 
--- the weights of the first n of ds; the answer says whether one is below the weight that f has
-pub record WeightsRead (f : ℕ → Delegation) (ds : List DecodedDelegation) (n : ℕ) (changed : Bool) (weights : List ℤ) : Type 0 where
-  pub each : (k : ℕ) → k < n → getD weights k (pos 0) ≡ getD ds k noneDecoded .weight
-  pub same : changed ≡ false → (k : ℕ) → k < n → ltZ (getD ds k noneDecoded .weight) (pos (f k .weight)) ≡ false
-  pub less : changed ≡ true → (k : ℕ) × (k < n) × (ltZ (getD ds k noneDecoded .weight) (pos (f k .weight)) ≡ true)
+-- m is l with the weights w at the n places from `first` on; the answer says whether one is below the weight that f has
+pub record WeightsPut (f : ℕ → Delegation) (w : ℕ → ℤ) (first n : ℕ) (changed : Bool) (l m : List ℤ) : Type 0 where
+  pub each : (k : ℕ) → k < n → getD m (first + k) (pos 0) ≡ w k
+  pub before : (k : ℕ) → k < first → getD m k (pos 0) ≡ getD l k (pos 0)
+  pub same : changed ≡ false → (k : ℕ) → k < n → ltZ (w k) (pos (f (first + k) .weight)) ≡ false
+  pub less : changed ≡ true → (k : ℕ) × (k < n) × (ltZ (w k) (pos (f (first + k) .weight)) ≡ true)
+
+-- the weights of the first n of ds
+abbrev pub WeightsRead : (ℕ → Delegation) → List DecodedDelegation → ℕ → ℕ → Bool → List ℤ → List ℤ → Type 0
+WeightsRead f ds first n changed l m = WeightsPut f (λ k. getD ds k noneDecoded .weight) first n changed l m
+
+-- the weight of a delegation, lowered to its reach
+abbrev pub weightLeft : List ℤ → Delegation → ℤ
+weightLeft reaches d = loweredTo reaches (d .giver) (d .receiver) (pos (d .weight))
+
+-- the weights of the n delegations from `first` on, lowered to their reaches
+abbrev pub RunLowered : List ℤ → (ℕ → Delegation) → ℕ → ℕ → Bool → List ℤ → List ℤ → Type 0
+RunLowered reaches f first n changed l m = WeightsPut f (λ k. weightLeft reaches (f (first + k))) first n changed l m
 
 -- the weights that a round on the block b leaves; the answer says whether one changed
 pub record Reckoned (t : List ℤ) (b : List ℕ) (changed : Bool) (weights : List ℤ) : Type 0 where

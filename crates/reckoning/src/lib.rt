@@ -33,7 +33,5 @@ pub fn reckon(
 {
     reaches::fill_reaches(block, table, reaches, waiting);
     let n = block::count(block);
-    let ds = lower::decoded(block, n);
-    let left = lower::lowered(ds, n, reaches);
-    lower::read_weights(block, left, n, weights)
+    lower::lower_all(block, reaches, n, weights)
 }
