@@ -8,8 +8,8 @@
  *
  * THE BLOCK. A register is 2,180 bytes that the host owns. There is nothing else: no state between
  * calls, no allocation, no file, no clock. The bytes mean the same on every machine, so a block may
- * be copied, saved and loaded as it is. Change it by calls only. A host that wants to list what
- * stands may read it; its layout is in docs/01-scope.md.
+ * be copied, saved and loaded as it is. Change it by calls only. The readers at the end list what
+ * it holds.
  *
  * WHAT A CALL RETURNS. Every call returns a refusal number, 0 when it is accepted.
  *   - Refused: no byte of the block and no byte of the answers changes.
@@ -43,6 +43,20 @@
 #include <stddef.h>
 #include <stdint.h>
 
+/* The version of this header and of the archive that comes with it, as text and as a number: 10,000
+ * times the first part, plus 100 times the second, plus the third. README.md, 'Versions', says which
+ * changes raise which part. */
+#define SEATREG_VERSION "1.0.0"
+#define SEATREG_VERSION_NUMBER 10000
+
+/* Where the compiler has such attributes, it warns of a host that doesn't look at what a call
+ * returns, and of a pointer that it can see to be null. */
+#if defined(__GNUC__) && __GNUC__ >= 4
+#define SEATREG_CALL __attribute__((warn_unused_result, nonnull))
+#else
+#define SEATREG_CALL
+#endif
+
 #ifdef __cplusplus
 extern "C" {
 #endif
@@ -66,44 +80,70 @@ extern "C" {
 /* What reach answers where there is no chain. */
 #define SEATREG_NO_REACH (-1)
 
-/* What a call returns. 7 is for the lines of a call file; no function here returns it. */
+/* What a call returns; seatreg_refusal_text says each in words. 7 is for the lines of a call file;
+ * no function here returns it. */
 enum seatreg_refusal {
     SEATREG_ACCEPTED = 0,
     /* by what was passed */
-    SEATREG_WRONG_LENGTH = 1,    /* block not 2,180 bytes, or answers not 12 */
-    SEATREG_NO_SUBJECT = 2,      /* a subject number is above 63 */
-    SEATREG_NO_WEIGHT = 3,       /* the weight is above 255 */
-    SEATREG_NO_MARKS = 4,        /* marks, need or bar above 65,535, or need and bar share a mark */
-    SEATREG_EQUAL_PAIR = 5,      /* giver and receiver are equal */
-    SEATREG_TO_OWNER = 6,        /* the receiver is the owner */
-    SEATREG_MALFORMED = 7,       /* a line of a call file is malformed */
+    SEATREG_WRONG_LENGTH = 1,
+    SEATREG_NO_SUBJECT = 2,
+    SEATREG_NO_WEIGHT = 3,
+    SEATREG_NO_MARKS = 4,
+    SEATREG_EQUAL_PAIR = 5,
+    SEATREG_TO_OWNER = 6,
+    SEATREG_MALFORMED = 7,
     /* by what the register holds */
-    SEATREG_NOT_WELL_FORMED = 8, /* the block is not well formed */
-    SEATREG_NOT_ENROLLED = 9,    /* a named subject, `by` included, isn't enrolled */
-    SEATREG_ALL_ENROLLED = 10,   /* 64 subjects are enrolled */
-    SEATREG_PAIR_STANDS = 11,    /* a delegation for this giver and receiver stands already */
-    SEATREG_ALL_STAND = 12,      /* 256 delegations stand */
-    SEATREG_NO_PAIR = 13,        /* no delegation for this giver and receiver stands */
-    SEATREG_MAY_NOT = 14,        /* `by` is neither the giver nor the owner */
-    SEATREG_NOT_BELOW = 15,      /* the new weight isn't below the present one */
-    SEATREG_OVERWEIGHT = 16      /* the reach of the pair is below the weight */
+    SEATREG_NOT_WELL_FORMED = 8,
+    SEATREG_NOT_ENROLLED = 9,
+    SEATREG_ALL_ENROLLED = 10,
+    SEATREG_PAIR_STANDS = 11,
+    SEATREG_ALL_STAND = 12,
+    SEATREG_NO_PAIR = 13,
+    SEATREG_MAY_NOT = 14,
+    SEATREG_NOT_BELOW = 15,
+    SEATREG_OVERWEIGHT = 16
 };
+
+/* A short text for what a call returned, never null; for a number above 16, "no such refusal". */
+static inline const char *seatreg_refusal_text(uint32_t refusal)
+{
+    static const char *const texts[] = {
+        "accepted",
+        "the block is not 2,180 bytes, or the answers not 12",
+        "a subject number is above 63",
+        "the weight is above 255",
+        "marks, need or bar above 65,535, or need and bar share a mark",
+        "giver and receiver are equal",
+        "the receiver is the owner",
+        "a line of a call file is malformed",
+        "the block is not well formed",
+        "a named subject, by included, isn't enrolled",
+        "64 subjects are enrolled",
+        "a delegation for this pair stands already",
+        "256 delegations stand",
+        "no delegation for this pair stands",
+        "by is neither the giver nor the owner",
+        "the new weight isn't below the present one",
+        "no chain from the owner carries the weight"
+    };
+    return refusal < sizeof texts / sizeof texts[0] ? texts[refusal] : "no such refusal";
+}
 
 /* Writes a fresh register: the owner is enrolled, no delegation stands.
  *   Overwrites whatever the 2,180 bytes held.
  *   Refusals in order: 1.
  *   Answers: 0, 0, 0. */
-uint32_t seatreg_open(uint8_t *block, size_t block_len,
-                      uint8_t *answers, size_t answers_len);
+SEATREG_CALL uint32_t seatreg_open(uint8_t *block, size_t block_len,
+                                   uint8_t *answers, size_t answers_len);
 
 /* Enrols the next subject. A subject stays enrolled, and its marks stay as they are.
  *   marks: its 16 marks, read as bits.
  *   Refusals in order: 1, 4, 8, 10.
  *   Answers: the new subject's number, 0, 0.
  *   Block: the subject is added. */
-uint32_t seatreg_enrol(uint8_t *block, size_t block_len,
-                       uint32_t marks,
-                       uint8_t *answers, size_t answers_len);
+SEATREG_CALL uint32_t seatreg_enrol(uint8_t *block, size_t block_len,
+                                    uint32_t marks,
+                                    uint8_t *answers, size_t answers_len);
 
 /* Grants: a new delegation. Accepted only where some chain of delegations from the owner to the
  * giver carries the weight, all of whose conditions the receiver meets.
@@ -114,26 +154,26 @@ uint32_t seatreg_enrol(uint8_t *block, size_t block_len,
  *   Refusals in order: 1, 2, 3, 4, 5, 6, 8, 9, 11, 12, 16.
  *   Answers: how many delegations stand now, 0, 0.
  *   Block: the delegation is added. */
-uint32_t seatreg_grant(uint8_t *block, size_t block_len,
-                       uint32_t giver, uint32_t receiver, uint32_t weight, uint32_t need, uint32_t bar,
-                       uint8_t *answers, size_t answers_len);
+SEATREG_CALL uint32_t seatreg_grant(uint8_t *block, size_t block_len,
+                                    uint32_t giver, uint32_t receiver, uint32_t weight, uint32_t need, uint32_t bar,
+                                    uint8_t *answers, size_t answers_len);
 
 /* Reach: the largest weight that a delegation from giver to receiver can have, whether the pair
  * stands or not.
  *   Refusals in order: 1, 2, 5, 6, 8, 9.
  *   Answers: 0 to 255, or -1 (SEATREG_NO_REACH) where there is no chain; 0, 0.
  *   Block: only read. */
-uint32_t seatreg_reach(const uint8_t *block, size_t block_len,
-                       uint32_t giver, uint32_t receiver,
-                       uint8_t *answers, size_t answers_len);
+SEATREG_CALL uint32_t seatreg_reach(const uint8_t *block, size_t block_len,
+                                    uint32_t giver, uint32_t receiver,
+                                    uint8_t *answers, size_t answers_len);
 
 /* Use: whether a subject may use the right. The owner may.
  *   Refusals in order: 1, 2, 8, 9.
  *   Answers: 1 if receiver is the owner or some delegation to it stands, else 0; 0, 0.
  *   Block: only read. */
-uint32_t seatreg_use(const uint8_t *block, size_t block_len,
-                     uint32_t receiver,
-                     uint8_t *answers, size_t answers_len);
+SEATREG_CALL uint32_t seatreg_use(const uint8_t *block, size_t block_len,
+                                  uint32_t receiver,
+                                  uint8_t *answers, size_t answers_len);
 
 /* Revoke, a cut: removes the delegation of a pair, then lowers or drops what it held up.
  *   by: who asks; the giver and the owner may.
@@ -141,9 +181,9 @@ uint32_t seatreg_use(const uint8_t *block, size_t block_len,
  *   Answers: how many other delegations were dropped, how many were lowered and stay, the rounds.
  *     The rounds count the last, which changes nothing: 1 to 511 of them.
  *   Block: the best remainder, in which every delegation is supported and as heavy as it can be. */
-uint32_t seatreg_revoke(uint8_t *block, size_t block_len,
-                        uint32_t by, uint32_t giver, uint32_t receiver,
-                        uint8_t *answers, size_t answers_len);
+SEATREG_CALL uint32_t seatreg_revoke(uint8_t *block, size_t block_len,
+                                     uint32_t by, uint32_t giver, uint32_t receiver,
+                                     uint8_t *answers, size_t answers_len);
 
 /* Downgrade, a cut: gives the delegation of a pair a smaller weight, then as revoke.
  *   by: as for revoke. weight: below the present one.
@@ -151,17 +191,64 @@ uint32_t seatreg_revoke(uint8_t *block, size_t block_len,
  *   Answers: dropped, lowered, rounds, as for revoke; the pair's own delegation is compared with the
  *     new weight.
  *   Block: the best remainder, as for revoke. */
-uint32_t seatreg_downgrade(uint8_t *block, size_t block_len,
-                           uint32_t by, uint32_t giver, uint32_t receiver, uint32_t weight,
-                           uint8_t *answers, size_t answers_len);
+SEATREG_CALL uint32_t seatreg_downgrade(uint8_t *block, size_t block_len,
+                                        uint32_t by, uint32_t giver, uint32_t receiver, uint32_t weight,
+                                        uint8_t *answers, size_t answers_len);
 
 /* One of the three answers: i is 0, 1 or 2. Only after an accepted call do the bytes hold answers. */
-static inline int32_t seatreg_answer(const uint8_t *answers, size_t i)
+SEATREG_CALL static inline int32_t seatreg_answer(const uint8_t *answers, size_t i)
 {
     const uint8_t *four = answers + 4 * i;
     uint32_t low = (uint32_t)four[0] | (uint32_t)four[1] << 8;
     uint32_t bits = low | (uint32_t)four[2] << 16 | (uint32_t)four[3] << 24;
     return bits <= 0x7fffffffu ? (int32_t)bits : -(int32_t)(0xffffffffu - bits) - 1;
+}
+
+/* THE READERS list what a register holds. They are for a block that a call accepted and that nobody
+ * has written since, but further calls: they test nothing, and on other bytes they may read past the
+ * block. After a block was loaded from somewhere, seatreg_use with SEATREG_OWNER tells: it returns 0
+ * just where the block is well formed. As during a call, no other thread writes the block meanwhile. */
+
+/* A delegation: receivers further on must have the marks of need and none of bar. */
+struct seatreg_delegation {
+    uint32_t giver;    /* 0 to 63 */
+    uint32_t receiver; /* 1 to 63 */
+    uint32_t weight;   /* 0 to 255 */
+    uint32_t need;     /* 0 to 65,535 */
+    uint32_t bar;      /* 0 to 65,535 */
+};
+
+/* How many subjects are enrolled, 1 to 64: they are 0, the owner, to one less than this. */
+SEATREG_CALL static inline uint32_t seatreg_subjects(const uint8_t *block)
+{
+    return block[0];
+}
+
+/* The marks of a subject, which is below seatreg_subjects(block). The owner's are 0. */
+SEATREG_CALL static inline uint32_t seatreg_marks(const uint8_t *block, uint32_t subject)
+{
+    const uint8_t *two = block + 4 + 2 * (size_t)subject;
+    return (uint32_t)two[0] | (uint32_t)two[1] << 8;
+}
+
+/* How many delegations stand, 0 to 256. */
+SEATREG_CALL static inline uint32_t seatreg_delegations(const uint8_t *block)
+{
+    return (uint32_t)block[2] | (uint32_t)block[3] << 8;
+}
+
+/* The i-th delegation, where i is below seatreg_delegations(block). They rise by giver and, for one
+ * giver, by receiver, and no pair occurs twice. */
+SEATREG_CALL static inline struct seatreg_delegation seatreg_delegation_at(const uint8_t *block, uint32_t i)
+{
+    const uint8_t *record = block + 132 + 8 * (size_t)i;
+    struct seatreg_delegation d;
+    d.giver = record[0];
+    d.receiver = record[1];
+    d.weight = record[2];
+    d.need = (uint32_t)record[4] | (uint32_t)record[5] << 8;
+    d.bar = (uint32_t)record[6] | (uint32_t)record[7] << 8;
+    return d;
 }
 
 #ifdef __cplusplus

@@ -1,8 +1,8 @@
 #!/usr/bin/env bash
 # The C side: the archive, the header, a short comparison with the second
-# implementation on fixed random calls, its self test, the example host, the
-# host in README.md, the stack of every call, the drawing, and a build of the
-# measurement.
+# implementation on fixed random calls, its self test, the example hosts, the
+# host in README.md, the stack of every call, the drawing, a build of the
+# measurement, what is installed, and the tar file.
 set -euo pipefail
 
 here="$(cd "$(dirname "${BASH_SOURCE[0]}")" && pwd)"
@@ -13,10 +13,14 @@ mkdir -p "$out"
 part="compare"
 . tests/step.sh
 
+strict=(-Wall -Wextra -Wpedantic -Wconversion -Werror)
+archive="target/staticlib/libseatreg.a"
+version="$(sed -n 's/^#define SEATREG_VERSION "\(.*\)"$/\1/p' include/seatreg.h)"
+
 # The archive asks for nothing but C's memcpy and memset, and has no data that
 # is written: a call keeps nothing.
 alone() {
-    nm "target/staticlib/libseatreg.a" >"$out/symbols" &&
+    nm "$archive" >"$out/symbols" &&
         grep -q ' T seatreg_open$' "$out/symbols" &&
         ! grep -E ' [bBdDsSgGcC] ' "$out/symbols" &&
         ! grep ' U ' "$out/symbols" | grep -vwE 'memcpy|memset'
@@ -26,13 +30,139 @@ alone() {
 # names of the refusals are those of the code.
 header() {
     awk '/Refusals in order:/ { sub(/.*: /, ""); sub(/\..*/, ""); gsub(/,/, ""); order = $0 }
-         /^uint32_t seatreg_/ { sub(/uint32_t seatreg_/, ""); sub(/\(.*/, ""); print $0 ": " order; order = "none" }
+         /^SEATREG_CALL uint32_t seatreg_/ { sub(/.* seatreg_/, ""); sub(/\(.*/, ""); print $0 ": " order; order = "none" }
+         /^#define SEATREG_(VERSION|VERSION_NUMBER|CALL) / { next }
          /^#define SEATREG_[A-Z_]+ / { sub(/SEATREG_/, ""); constants = constants $2 " " $3 "\n" }
          END { printf "%s", constants }' include/seatreg.h >"$out/header" &&
         "$out/compare" header | diff - "$out/header" &&
         sed -nE 's/^pub const ([A-Z_]+): u32 = ([0-9]+);$/\1 \2/p' crates/rules/src/refusal.rt >"$out/refusals" &&
         sed -nE '/ACCEPTED/d; s/^    SEATREG_([A-Z_]+) = ([0-9]+).*/\1 \2/p' include/seatreg.h | diff "$out/refusals" - &&
         test -s "$out/refusals"
+}
+
+# The text and the number of the version agree; README.md and CHANGELOG.md have
+# it too.
+version() {
+    local first second third
+    IFS=. read -r first second third <<<"$version" &&
+        grep -qx "#define SEATREG_VERSION_NUMBER $((first * 10000 + second * 100 + third))" include/seatreg.h &&
+        grep -qF "\"$version\"" README.md &&
+        grep -qF "$((first * 10000 + second * 100 + third))" README.md &&
+        grep -qF "seatreg-$version-x86-64-linux.tar" README.md &&
+        grep -m 1 '^## ' CHANGELOG.md | grep -qx "## $version"
+}
+
+# Every target that is a command is in what `make help` prints.
+helped() {
+    make -s help >"$out/help" || return 1
+    for target in $(sed -n 's/^\.PHONY: //p' Makefile); do
+        grep -E "^make \[?$target\>" "$out/help" || return 1
+    done
+}
+
+# The refusals of README.md's table, with their names and texts, are the header's.
+texts() {
+    cat >"$out/texts.c" <<'END' &&
+#include <stdio.h>
+#include <string.h>
+#include "seatreg.h"
+int main(void)
+{
+    for (uint32_t n = 0; n <= SEATREG_OVERWEIGHT; n++)
+        printf("%u %s\n", (unsigned)n, seatreg_refusal_text(n));
+    return strcmp(seatreg_refusal_text(17), "no such refusal") != 0 ||
+           strcmp(seatreg_refusal_text(UINT32_MAX), "no such refusal") != 0;
+}
+END
+        gcc -std=c99 "${strict[@]}" -Iinclude "$out/texts.c" -o "$out/texts" && "$out/texts" >"$out/header.texts" &&
+        sed -nE 's/^    (SEATREG_[A-Z_]+) = ([0-9]+).*/\2 \1/p' include/seatreg.h >"$out/header.names" &&
+        awk -F ' *[|] *' -v names="$out/readme.names" -v texts="$out/readme.texts" '
+            $2 ~ /^[0-9]+$/ { gsub(/[`*]/, ""); print $2, $3 > names; print $2, $4 > texts }' README.md &&
+        diff "$out/header.names" "$out/readme.names" &&
+        diff "$out/header.texts" "$out/readme.texts"
+}
+
+# A translation unit whose one function, USER, calls all that the header has.
+user() {
+    cat <<'END'
+#include "seatreg.h"
+#include "seatreg.h"
+extern uint32_t USER(uint8_t *block, uint8_t *answers);
+uint32_t USER(uint8_t *block, uint8_t *answers)
+{
+    uint32_t sum = seatreg_open(block, SEATREG_BLOCK_SIZE, answers, SEATREG_ANSWERS_SIZE);
+    sum += seatreg_enrol(block, SEATREG_BLOCK_SIZE, 1, answers, SEATREG_ANSWERS_SIZE);
+    sum += seatreg_grant(block, SEATREG_BLOCK_SIZE, SEATREG_OWNER, 1, 9, 1, 2, answers, SEATREG_ANSWERS_SIZE);
+    sum += seatreg_reach(block, SEATREG_BLOCK_SIZE, SEATREG_OWNER, 1, answers, SEATREG_ANSWERS_SIZE);
+    sum += seatreg_use(block, SEATREG_BLOCK_SIZE, 1, answers, SEATREG_ANSWERS_SIZE);
+    sum += seatreg_downgrade(block, SEATREG_BLOCK_SIZE, SEATREG_OWNER, SEATREG_OWNER, 1, 8, answers, SEATREG_ANSWERS_SIZE);
+    struct seatreg_delegation d = seatreg_delegation_at(block, 0);
+    if (seatreg_subjects(block) != 2 || seatreg_delegations(block) != 1 || seatreg_marks(block, 1) != 1)
+        return 1;
+    if (d.giver != 0 || d.receiver != 1 || d.weight != 8 || d.need != 1 || d.bar != 2)
+        return 2;
+    sum += seatreg_revoke(block, SEATREG_BLOCK_SIZE, SEATREG_OWNER, SEATREG_OWNER, 1, answers, SEATREG_ANSWERS_SIZE);
+    return sum + (uint32_t)seatreg_answer(answers, 0) + (uint32_t)(seatreg_refusal_text(sum)[0] != 'a');
+}
+END
+}
+
+# main over the two translation units of `user`.
+both() {
+    cat <<'END'
+#include "seatreg.h"
+extern uint32_t one(uint8_t *block, uint8_t *answers);
+extern uint32_t other(uint8_t *block, uint8_t *answers);
+int main(void)
+{
+    uint8_t block[SEATREG_BLOCK_SIZE], answers[SEATREG_ANSWERS_SIZE];
+    return one(block, answers) != 0 || other(block, answers) != 0;
+}
+END
+}
+
+# units LANGUAGE COMPILER...: the header in three translation units of one
+# program, two of which use all of it. One that only includes it has nothing of
+# it, with no optimization either.
+units() {
+    local language="$1"
+    shift
+    user >"$out/user.c" && both >"$out/both.c" && echo '#include "seatreg.h"' >"$out/only.c" &&
+        "$@" "${strict[@]}" -Iinclude -x "$language" -DUSER=one -c "$out/user.c" -o "$out/one.o" &&
+        "$@" "${strict[@]}" -Iinclude -x "$language" -DUSER=other -c "$out/user.c" -o "$out/other.o" &&
+        "$@" "${strict[@]}" -Iinclude -x "$language" -c "$out/both.c" -o "$out/both.o" &&
+        "$@" "${strict[@]}" -O0 -Iinclude -x "$language" -c "$out/only.c" -o "$out/only.o" &&
+        ! nm "$out/only.o" 2>&1 | grep seatreg &&
+        "$@" "$out/one.o" "$out/other.o" "$out/both.o" "$archive" -o "$out/units" &&
+        "$out/units"
+}
+
+# Where the compiler has the attributes, a number that is not looked at and a
+# null pointer are warned of; where it has none, the header has none.
+attributes() {
+    cat >"$out/ignored.c" <<'END' &&
+#include "seatreg.h"
+void ignored(uint8_t *block, uint8_t *answers);
+void ignored(uint8_t *block, uint8_t *answers)
+{
+    seatreg_open(block, SEATREG_BLOCK_SIZE, answers, SEATREG_ANSWERS_SIZE);
+}
+END
+        cat >"$out/null.c" <<'END' &&
+#include "seatreg.h"
+uint32_t null(uint8_t *block);
+uint32_t null(uint8_t *block)
+{
+    return seatreg_open(block, SEATREG_BLOCK_SIZE, 0, 0);
+}
+END
+        ! gcc -std=c99 "${strict[@]}" -Iinclude -c "$out/ignored.c" -o "$out/ignored.o" 2>"$out/ignored" &&
+        grep -q 'unused-result' "$out/ignored" &&
+        ! gcc -std=c99 "${strict[@]}" -Iinclude -c "$out/null.c" -o "$out/null.o" 2>"$out/null" &&
+        grep -q 'nonnull' "$out/null" &&
+        gcc -std=c99 -U__GNUC__ -Iinclude -E "$out/ignored.c" >"$out/plain" &&
+        ! grep -E '__attribute__|SEATREG_CALL' "$out/plain" &&
+        gcc -std=c99 -U__GNUC__ "${strict[@]}" -Iinclude -c "$out/ignored.c" -o "$out/ignored.o"
 }
 
 # A fixed seed and number of cases, in which every refusal of every call occurs.
@@ -67,61 +197,84 @@ readme() {
             { inside = 0 }
             text ~ /\nint main\(/ { printf "%s", text > host; after = 1; next }
             after { printf "%s", text > prints; after = 0 }' README.md &&
-        gcc -std=c99 -Wall -Wextra -Werror -Iinclude "$out/readme.c" target/staticlib/libseatreg.a -o "$out/readme" &&
+        gcc -std=c99 "${strict[@]}" -Iinclude "$out/readme.c" "$archive" -o "$out/readme" &&
         "$out/readme" | diff "$out/readme.expected" -
 }
 
-# What is installed is enough to build the host; its flags come from pkg-config
-# where there is one.
-installed() {
-    local prefix="$PWD/$out/prefix" flags
-    rm -rf "$prefix" && make -s install PREFIX="$prefix" || return 1
-    flags="-I$prefix/include -L$prefix/lib -lseatreg"
+# Builds and runs an example with what lies under a prefix; the flags come from
+# pkg-config where there is one, and are those of this version.
+# example NAME PREFIX
+example() {
+    local flags=("-I$2/include" "-L$2/lib" -lseatreg)
     if command -v pkg-config; then
-        flags="$(PKG_CONFIG_PATH="$prefix/lib/pkgconfig" pkg-config --cflags --libs seatreg)" || return 1
+        local -x PKG_CONFIG_PATH="$2/lib/pkgconfig"
+        test "$(pkg-config --modversion seatreg)" = "$version" || return 1
+        eval "flags=($(pkg-config --cflags --libs seatreg))" || return 1
     fi
-    # shellcheck disable=SC2086
-    gcc -std=c99 -Wall -Wextra -Werror examples/host.c $flags -o "$out/host" &&
-        "$out/host" | diff examples/host.expected -
+    gcc -std=c99 "${strict[@]}" "examples/$1.c" "${flags[@]}" -o "$out/example" &&
+        "$out/example" | diff "examples/$1.expected" -
 }
 
-# The host in a stack of 64 KiB: no proof bounds the stack of a call.
+# What is installed, under a name with spaces, is enough to build the examples;
+# a name that doesn't begin with / is one from here. Uninstall leaves no file.
+installed() {
+    local folder="$out/what is installed" doc
+    rm -rf "$folder" && make -s install PREFIX="$folder/a b" &&
+        example host "$PWD/$folder/a b" && example list "$PWD/$folder/a b" &&
+        "$folder/a b/bin/seatcalls" <examples/listing.calls | diff <(target/bin/seatcalls <examples/listing.calls) - &&
+        doc="$folder/a b/share/doc/seatreg" && cmp README.md "$doc/README.md" && cmp docs/01-scope.md "$doc/01-scope.md" &&
+        make -s install PREFIX="/c d" DESTDIR="$PWD/$folder/e f" && test -f "$folder/e f/c d/lib/libseatreg.a" &&
+        grep -qxF 'prefix=/c\ d' "$folder/e f/c d/lib/pkgconfig/seatreg.pc" &&
+        make -s uninstall PREFIX="$folder/a b" && make -s uninstall PREFIX="/c d" DESTDIR="$PWD/$folder/e f" &&
+        ! find "$folder" -type f | grep . && ! find "$folder" -name seatreg | grep .
+}
+
+# The tar file is the same bytes when it is made again, names no folder of this
+# machine, and is enough to build the examples in another folder.
+tarred() {
+    local name="seatreg-$version-x86-64-linux"
+    make -s dist && mv "target/dist/$name.tar" "$out/first.tar" &&
+        (umask 077 && make -s dist) && cmp "$out/first.tar" "target/dist/$name.tar" &&
+        (cd target/dist && sha256sum -c "$name.tar.sha256") &&
+        rm -rf "$out/unpacked" && mkdir -p "$out/unpacked" && tar -xf "$out/first.tar" -C "$out/unpacked" &&
+        (cd "$out/unpacked/$name" && sha256sum -c SHA256SUMS && test "$(find . -type f | wc -l)" -eq "$(($(wc -l <SHA256SUMS) + 1))") &&
+        ! grep -rF "$PWD" "$out/unpacked" &&
+        example host "$PWD/$out/unpacked/$name" && example list "$PWD/$out/unpacked/$name"
+}
+
+# The hosts in a stack of 64 KiB: no proof bounds the stack of a call.
 small_stack() {
-    (ulimit -s 64 && exec env -i target/host/host) | diff examples/host.expected -
+    for host in host list; do
+        (ulimit -s 64 && exec env -i "target/host/$host") | diff "examples/$host.expected" - || return 1
+    done
 }
 
-# The header in C++, and a call through it.
-cpp() {
-    cat >"$out/header.cpp" <<'END' &&
-#include "seatreg.h"
-int main()
-{
-    uint8_t block[SEATREG_BLOCK_SIZE], answers[SEATREG_ANSWERS_SIZE];
-    if (seatreg_open(block, sizeof block, answers, sizeof answers) != SEATREG_ACCEPTED)
-        return 1;
-    return seatreg_answer(answers, 2);
-}
-END
-        g++ -std=c++98 -Wall -Wextra -Werror -Iinclude "$out/header.cpp" target/staticlib/libseatreg.a -o "$out/header.run" &&
-        "$out/header.run"
-}
-
-step "archive" make -s lib
+step "archive" make -s
 step "archive stands alone" alone
+step "make help" helped
 step "build" make -s target/compare/compare
 step "header" header
+step "version" version
+step "texts of the refusals" texts
+step "header in three units of C" units c gcc -std=c99
+step "attributes of the header" attributes
 step "20,000 random calls" short
 step "self test" make -s self-test SEED=1
-step "host" make -s host
-step "host in 64 KiB of stack" small_stack
+step "hosts" make -s host
+step "hosts in 64 KiB of stack" small_stack
 step "host of README.md" readme
 step "stack of every call" stack
 step "drawing" drawing
 step "build of the measurement" make -s target/bench/bench
-step "host with what is installed" installed
+step "hosts with what is installed" installed
+step "tar file" tarred
+if command -v clang >/dev/null; then
+    step "header in three units of C, by clang" units c clang -std=c99
+fi
 if command -v g++ >/dev/null; then
-    step "header in C++" cpp
+    step "header in three units of C++" units c++ g++ -std=c++98
 fi
 if command -v valgrind >/dev/null; then
     step "host under valgrind" valgrind -q --error-exitcode=1 target/host/host
+    step "host that lists, under valgrind" valgrind -q --error-exitcode=1 target/host/list
 fi

@@ -2,8 +2,10 @@
 //! comparison finds them.
 
 use crate::lent::Lent;
+use crate::readers::{Delegation, Listed};
 use crate::report::{Part, Report};
 use second::refusal::Passed;
+use std::mem::swap;
 
 pub struct Fault {
     pub name: &'static str,
@@ -11,50 +13,70 @@ pub struct Fault {
     pub before: fn(&Passed) -> Passed,
     /// What happens to the lent block and answers after a call that returned a number.
     pub after: fn(u32, &mut Lent, &mut Lent),
+    /// What happens to what the header's readers gave.
+    pub listed: fn(&mut Listed),
     /// The parts in which differences are due; no other part has any.
     parts: &'static [Part],
 }
 
-pub const FAULTS: [Fault; 6] = [
+/// A fault that changes nothing, for those that differ from it.
+const NONE: Fault = Fault { name: "none", before: |n| *n, after: |_, _, _| (), listed: |_| (), parts: &[] };
+
+pub const FAULTS: [Fault; 14] = [
     Fault {
         name: "giver and receiver exchanged",
         before: |n| Passed { giver: n.receiver, receiver: n.giver, ..*n },
-        after: nothing,
         parts: &[Part::Number, Part::Block, Part::Answers],
+        ..NONE
     },
     Fault {
         name: "numbers narrowed to 16 bits",
         before: |n| Passed { giver: n.giver & 0xFFFF, receiver: n.receiver & 0xFFFF, need: n.need & 0xFFFF, ..*n },
-        after: nothing,
         parts: &[Part::Number, Part::Block, Part::Answers],
+        ..NONE
     },
     Fault {
         name: "the answers' last byte changed where the call is accepted",
-        before: |n| *n,
         after: |number, _, answers| if number == 0 { answers.change_last() },
         parts: &[Part::Answers],
+        ..NONE
     },
     Fault {
         name: "the answers' last byte changed where the call is refused",
-        before: |n| *n,
         after: |number, _, answers| if number != 0 { answers.change_last() },
         parts: &[Part::Answers],
+        ..NONE
     },
     Fault {
         name: "the block's last byte changed where the call is refused with 1",
-        before: |n| *n,
         after: |number, block, _| if number == 1 { block.change_last() },
         parts: &[Part::Block],
+        ..NONE
     },
     Fault {
         name: "a byte written past the answers",
-        before: |n| *n,
         after: |_, _, answers| answers.break_guard(),
         parts: &[Part::Guards],
+        ..NONE
     },
+    listed("a subject missing in the list", |listed| { listed.marks.pop(); }),
+    listed("the last subject's marks changed", |listed| *listed.marks.last_mut().unwrap() ^= 0x8000),
+    listed("a delegation missing in the list", |listed| { listed.delegations.pop(); }),
+    listed("giver and receiver exchanged in the list", |listed| each(listed, |d| swap(&mut d.giver, &mut d.receiver))),
+    listed("weights in the list cut down to 7 bits", |listed| each(listed, |d| d.weight &= 0x7F)),
+    listed("the high byte of need lost in the list", |listed| each(listed, |d| d.need &= 0xFF)),
+    listed("the high byte of bar lost in the list", |listed| each(listed, |d| d.bar &= 0xFF)),
+    listed("an answer of -1 read as 255", |listed| listed.answers.iter_mut().for_each(|answer| *answer &= 0xFF)),
 ];
 
-fn nothing(_: u32, _: &mut Lent, _: &mut Lent) {}
+/// A fault of the readers alone.
+const fn listed(name: &'static str, listed: fn(&mut Listed)) -> Fault {
+    Fault { name, listed, parts: &[Part::Listed], ..NONE }
+}
+
+fn each(listed: &mut Listed, change: fn(&mut Delegation)) {
+    listed.delegations.iter_mut().for_each(change);
+}
 
 impl Fault {
     /// Differences in each of its parts, and in no other.

@@ -1,7 +1,7 @@
 //! Random calls through the C entry points of libseatreg.a and through the
 //! second implementation, side by side. After every call the number returned,
 //! the answers, every byte of the block and the bytes around both lent buffers
-//! are compared.
+//! are compared; after an accepted one also what the header's readers list.
 //!
 //! `compare SEED CASES` runs; `compare self-test SEED CASES` runs once for each
 //! fault that is put in on purpose, and each must be found; `compare header`
@@ -12,6 +12,7 @@ mod entry;
 mod fault;
 mod header;
 mod lent;
+mod readers;
 mod report;
 
 use draw::List;
@@ -105,12 +106,18 @@ impl Buffers {
             (fault.after)(number, &mut self.block, &mut self.answers);
         }
         let due = host_call(&FAST, n, &mut due_block, &mut due_answers);
+        let accepted = number == 0 && due == 0;
+        let mut listed = accepted.then(|| readers::read(self.block.content(), self.answers.content()));
+        if let (Some(fault), Some(listed)) = (fault, &mut listed) {
+            (fault.listed)(listed);
+        }
 
         let same = |part: &Part| match part {
             Part::Number => number == due,
             Part::Block => self.block.content() == due_block,
             Part::Answers => self.answers.content() == due_answers,
             Part::Guards => self.block.is_guarded() && self.answers.is_guarded(),
+            Part::Listed => listed.is_none() || listed == readers::due(self.block.content(), self.answers.content()),
         };
         let differs = PARTS.into_iter().filter(|part| !same(part)).collect();
         let block_length = due_block.len();

@@ -17,9 +17,10 @@ pub enum Part {
     Block,
     Answers,
     Guards,
+    Listed,
 }
 
-pub const PARTS: [Part; 4] = [Part::Number, Part::Block, Part::Answers, Part::Guards];
+pub const PARTS: [Part; 5] = [Part::Number, Part::Block, Part::Answers, Part::Guards, Part::Listed];
 
 /// A call that was made on both sides.
 pub struct Case {

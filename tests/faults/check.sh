@@ -65,7 +65,7 @@ found() {
         says "expected \"$3" && says "found \"$4"
 }
 
-end='    let end = 2 * written.links;'
+end='    let end = LINK_SIZE * written.links;'
 after='    if written.refusal == 0 && end < buf.len() {
         buf[end] = 0;
     }'

@@ -1,5 +1,5 @@
 -- A well-formed register written as a block: its size, its bytes, and that it reads back. Assumes nothing.
-use mathlib.Core.Path.{_≡_, refl, sym, ap, _∙_}
+use mathlib.Core.Path.{_≡_, refl, sym, ap, subst, _∙_}
 use mathlib.Core.List.{List, [], _∷_, _++_, append-assoc, List·Memᴰ·head, List·Memᴰ·tail}
 use Prim.Native.Nat.{ℕ, zero, suc, _+_, _-_, _/_, _≤_}
 use native.Mathlib.Nat.{mod-lt}
@@ -35,6 +35,15 @@ recordsPart R = padded recordsSize (concatMap recordBytes (R .delegations))
 abbrev pub afterMarks : Register → List ℕ
 afterMarks R = recordsPart R
 
+-- ── the block from its parts, cut where the records begin, and where the marks end ──
+pub encode-records : (R : Register) → encode R ≡ headOf (R .subjects) (length (R .delegations)) ++ (middlePart R ++ recordsPart R)
+unfolding encode
+encode-records R = refl
+
+pub encode-marks : (R : Register) → encode R ≡ headOf (R .subjects) (length (R .delegations)) ++ (marksPart R ++ afterMarks R)
+unfolding encode
+encode-marks R = refl
+
 length-padded : (n : ℕ) (s : List ℕ) → length s ≤ n → length (padded n s) ≡ n
 length-padded n s h = length-append s (replicate (n - length s) 0) ∙ omega (arith, length-replicate {A = ℕ} (n - length s) 0)
 
@@ -61,6 +70,9 @@ all-bytes : {A : Type 0} (g : A → List ℕ) (xs : List A) → ((x : A) → x �
 all-bytes g [] h = λ i. omega arith
 all-bytes g (x ∷ xs) h = bytes-append (g x) (concatMap g xs) (h x (List·Memᴰ·head refl)) (all-bytes g xs (λ y m. h y (List·Memᴰ·tail m)))
 
+bytes-padded : (n : ℕ) (s : List ℕ) → IsBytes s → IsBytes (padded n s)
+bytes-padded n s h = bytes-append s (replicate (n - length s) 0) h (bytes-zeros (n - length s))
+
 module _ (R : Register) (f : WellFormed R) where
   marks-most : length (concatMap twoBytes (R .marks)) ≤ marksSize
   marks-most = omega (arith, length-written twoBytes markSize two-wide (R .marks), f .marked, f .most)
@@ -78,16 +90,13 @@ module _ (R : Register) (f : WellFormed R) where
   length-recordsPart = length-padded recordsSize (concatMap recordBytes (R .delegations)) records-most
 
   pub length-encode : length (encode R) ≡ blockSize
-  unfolding encode
-  length-encode = omega (arith, length-append (middlePart R) (recordsPart R), length-middlePart, length-recordsPart)
+  length-encode = ap length (encode-records R) ∙ omega (arith, length-append (middlePart R) (recordsPart R), length-middlePart, length-recordsPart)
 
   pub records-encode : drop recordsAt (encode R) ≡ recordsPart R
-  unfolding encode
-  records-encode = drop-at (middlePart R) (recordsPart R) middleSize length-middlePart
+  records-encode = ap (drop recordsAt) (encode-records R) ∙ drop-at (middlePart R) (recordsPart R) middleSize length-middlePart
 
   pub front-encode : take recordsAt (encode R) ≡ headOf (R .subjects) (length (R .delegations)) ++ middlePart R
-  unfolding encode
-  front-encode = λ i. headOf (R .subjects) (length (R .delegations)) ++ take-at (middlePart R) (recordsPart R) middleSize length-middlePart i
+  front-encode = ap (take recordsAt) (encode-records R) ∙ (λ i. headOf (R .subjects) (length (R .delegations)) ++ take-at (middlePart R) (recordsPart R) middleSize length-middlePart i)
 
   pub subjects-encode : subjectsIn (encode R) ≡ R .subjects
   unfolding encode
@@ -98,11 +107,11 @@ module _ (R : Register) (f : WellFormed R) where
   count-encode = two-twoBytes (length (R .delegations)) (omega (arith, f .few))
 
   pub marks-encode : readAll marksIn markSize (drop marksAt (encode R)) (subjectsIn (encode R)) ≡ R .marks
-  unfolding encode
   marks-encode =
-      ap (λ (s : List ℕ). readAll marksIn markSize s (R .subjects)) (append-assoc (concatMap twoBytes (R .marks)) (replicate (marksSize - length (concatMap twoBytes (R .marks))) 0) (recordsPart R))
-      ∙ ap (λ (n : ℕ). readAll marksIn markSize (concatMap twoBytes (R .marks) ++ (replicate (marksSize - length (concatMap twoBytes (R .marks))) 0 ++ recordsPart R)) n) (sym (f .marked))
-      ∙ read-written twoBytes markSize two-wide marksIn (R .marks) (replicate (marksSize - length (concatMap twoBytes (R .marks))) 0 ++ recordsPart R) (λ m i r. two-twoBytes m (f .marks m i))
+      ap (λ (s : List ℕ). readAll marksIn markSize (drop marksAt s) (subjectsIn s)) (encode-marks R)
+      ∙ ap (λ (s : List ℕ). readAll marksIn markSize s (R .subjects)) (append-assoc (concatMap twoBytes (R .marks)) (replicate (marksSize - length (concatMap twoBytes (R .marks))) 0) (afterMarks R))
+      ∙ ap (λ (n : ℕ). readAll marksIn markSize (concatMap twoBytes (R .marks) ++ (replicate (marksSize - length (concatMap twoBytes (R .marks))) 0 ++ afterMarks R)) n) (sym (f .marked))
+      ∙ read-written twoBytes markSize two-wide marksIn (R .marks) (replicate (marksSize - length (concatMap twoBytes (R .marks))) 0 ++ afterMarks R) (λ m i r. two-twoBytes m (f .marks m i))
 
   pub delegations-encode : delegationsTo (encode R) (countIn (encode R)) ≡ R .delegations
   delegations-encode =
@@ -123,15 +132,18 @@ module _ (R : Register) (f : WellFormed R) where
   record-bytes d k (suc (suc (suc zero))) = omega arith
   record-bytes d k (suc (suc (suc (suc i)))) = bytes-append (twoBytes (d .need)) (twoBytes (d .bar)) (two-bytes (d .need)) (two-bytes (d .bar)) i
 
+  bytes-head : IsBytes (headOf (R .subjects) (length (R .delegations)))
+  bytes-head zero = omega (arith, f .most)
+  bytes-head (suc zero) = omega arith
+  bytes-head (suc (suc i)) = two-bytes (length (R .delegations)) i
+
+  bytes-middle : IsBytes (middlePart R)
+  bytes-middle = bytes-padded marksSize (concatMap twoBytes (R .marks)) (all-bytes twoBytes (R .marks) (λ m j. two-bytes m))
+
+  bytes-records : IsBytes (recordsPart R)
+  bytes-records = bytes-padded recordsSize (concatMap recordBytes (R .delegations)) (all-bytes recordBytes (R .delegations) (λ d m. record-bytes d (f .each d m)))
+
   pub bytes-encode : IsBytes (encode R)
-  unfolding encode
-  bytes-encode zero = omega (arith, f .most)
-  bytes-encode (suc zero) = omega arith
-  bytes-encode (suc (suc zero)) = two-bytes (length (R .delegations)) 0
-  bytes-encode (suc (suc (suc zero))) = two-bytes (length (R .delegations)) 1
-  bytes-encode (suc (suc (suc (suc i)))) =
-      bytes-append (marksPart R) (recordsPart R)
-      (bytes-append (concatMap twoBytes (R .marks)) (replicate (marksSize - length (concatMap twoBytes (R .marks))) 0) (all-bytes twoBytes (R .marks) (λ m j. two-bytes m)) (bytes-zeros (marksSize - length (concatMap twoBytes (R .marks)))))
-      (bytes-append (concatMap recordBytes (R .delegations)) (replicate (recordsSize - length (concatMap recordBytes (R .delegations))) 0) (all-bytes recordBytes (R .delegations) (λ d m. record-bytes d (f .each d m)))
-      (bytes-zeros (recordsSize - length (concatMap recordBytes (R .delegations)))))
-      i
+  bytes-encode =
+      subst IsBytes (sym (encode-records R))
+      (bytes-append (headOf (R .subjects) (length (R .delegations))) (middlePart R ++ recordsPart R) bytes-head (bytes-append (middlePart R) (recordsPart R) bytes-middle bytes-records))

@@ -15,13 +15,13 @@ use Rattle.rules.specs.CallStep.{before}
 use Rattle.rules.proofs.Lists.{T-left, T-right, T-both, eq→eqb, test-ne}
 use Rattle.rules.proofs.WellFormed.{Before-trans}
 use Rattle.rules.proofs.Pairs.{before-Before, Before-before}
-use Rattle.block.specs.Layout.{blockSize, mostSubjects, mostRecords, freeAt, markSize, recordSize, marksSize, recordsSize, marksAt, recordsAt, weightByte, restByte, needByte, barByte}
+use Rattle.block.specs.Layout.{blockSize, mostSubjects, mostRecords, freeAt, countAt, markSize, recordSize, marksSize, recordsSize, marksAt, recordsAt, giverByte, receiverByte, weightByte, restByte, needByte, barByte}
 use Rattle.block.specs.Bytes.{IsBytes, two, twoBytes, readAll, padded, zeros}
 use Rattle.block.specs.Block.{marksIn, delegationIn, recordBytes, subjectsIn, countIn, decode, encode}
 use Rattle.block.specs.WellFormed.{allPass, delegationTests, delegationFormed, recordTests, recordFormed, restUnmarked, recordsFormed, rises, recordsRise, restZero, blockTests, wellFormed}
 use Rattle.block.proofs.Bytes.{tabulate-suc, twoBytes-two, two-most, bytes-drop, length-tabulate, tabulate-mem, length-written, written-at, written-read, allFrom-at, allFrom-all, padded-zeros, getD-mem}
 use Rattle.block.proofs.Tests.{Each, end, _▸_, each, every}
-use Rattle.block.proofs.Encode.{marksPart, recordsPart, marks-encode, record-wide, record-read, length-encode, subjects-encode, count-encode, records-encode, delegations-encode}
+use Rattle.block.proofs.Encode.{marksPart, middlePart, middleSize, afterMarks, encode-records, encode-marks, marks-encode, record-wide, record-read, length-encode, subjects-encode, count-encode, records-encode, delegations-encode}
 use Rattle.block.specs.Records.{delegationAt, delegationsTo, recordFrom}
 
 -- ── the rules of a well-formed block, each by itself ──
@@ -55,7 +55,7 @@ parts b h = go (each blockTests b h)
       rest = rest;
     }
 
-pub whole : (b : List ℕ) → Parts b → T (wellFormed b)
+whole : (b : List ℕ) → Parts b → T (wellFormed b)
 unfolding wellFormed
 whole b p = every blockTests b (
     eq→eqb (p .size)
@@ -179,10 +179,10 @@ marks-back s l h = twoBytes-two (getD s 0 0) (getD s 1 0) (h 0) (h 1) ∙ sym (t
 
 record-back : (s : List ℕ) → recordSize ≤ length s → IsBytes s → getD s restByte 0 ≡ 0 → recordBytes (delegationIn s) ≡ take recordSize s
 record-back s l h z =
-    let p = twoBytes-two (getD s 4 0) (getD s 5 0) (h 4) (h 5) in
-    let q = twoBytes-two (getD s 6 0) (getD s 7 0) (h 6) (h 7) in
+    let p = twoBytes-two (getD s needByte 0) (getD s (needByte + 1) 0) (h needByte) (h (needByte + 1)) in
+    let q = twoBytes-two (getD s barByte 0) (getD s (barByte + 1) 0) (h barByte) (h (barByte + 1)) in
     let z′ = sym z in
-    (λ j. getD s 0 0 ∷ getD s 1 0 ∷ getD s 2 0 ∷ z′ j ∷ (p j ++ q j)) ∙ sym (take-tabulate recordSize s l)
+    (λ j. getD s giverByte 0 ∷ getD s receiverByte 0 ∷ getD s weightByte 0 ∷ z′ j ∷ (p j ++ q j)) ∙ sym (take-tabulate recordSize s l)
 
 -- the zero bytes that a test names
 zeros-at : (b : List ℕ) (a n : ℕ) → T (zeros b a n) → (k : ℕ) → a ≤ k → k < a + n → getD b k 0 ≡ 0
@@ -202,6 +202,11 @@ module _ (b : List ℕ) (bytes : IsBytes b) (p : Parts b) where
       zero-mark : (k : ℕ) → markSize * subjectsIn b ≤ k → k < marksSize → getD b (marksAt + k) 0 ≡ 0
       zero-mark k l m = zeros-at b (marksAt + markSize * subjectsIn b) (marksAt + marksSize - (marksAt + markSize * subjectsIn b)) (p .unmarked) (marksAt + k) (omega arith) (omega arith)
 
+  -- what stands between the head and the records
+  middle-written : middlePart (decode b) ≡ take middleSize (drop marksAt b)
+  unfolding decode
+  middle-written = marks-written
+
   records-written : padded recordsSize (concatMap recordBytes (delegationsTo b (countIn b))) ≡ drop recordsAt b
   records-written =
       ap (padded recordsSize) (written-read recordBytes recordSize record-wide delegationIn (countIn b) (drop recordsAt b) back)
@@ -220,17 +225,18 @@ module _ (b : List ℕ) (bytes : IsBytes b) (p : Parts b) where
   head-written : (subjectsIn b ∷ 0 ∷ twoBytes (length (delegationsTo b (countIn b)))) ≡ take marksAt b
   head-written =
       let n = length-tabulate (delegationAt b) 0 (countIn b) in
-      let e = ap twoBytes n ∙ twoBytes-two (getD b 2 0) (getD b 3 0) (bytes 2) (bytes 3) in
+      let e = ap twoBytes n ∙ twoBytes-two (getD b countAt 0) (getD b (countAt + 1) 0) (bytes countAt) (bytes (countAt + 1)) in
       let z = sym (p .free) in
       (λ j. subjectsIn b ∷ z j ∷ e j) ∙ sym (take-tabulate marksAt b (omega (arith, p .size)))
 
   -- what was read is written back
   pub encode-decode : encode (decode b) ≡ b
-  unfolding decode encode
+  unfolding decode
   encode-decode =
-      (λ j. head-written j ++ (marks-written j ++ records-written j))
-      ∙ ap (λ (s : List ℕ). take marksAt b ++ (take marksSize (drop marksAt b) ++ s)) (sym (drop-drop marksSize marksAt b))
-      ∙ ap (λ (s : List ℕ). take marksAt b ++ s) (take-append-drop marksSize (drop marksAt b))
+      encode-records (decode b)
+      ∙ (λ j. head-written j ++ (middle-written j ++ records-written j))
+      ∙ ap (λ (s : List ℕ). take marksAt b ++ (take middleSize (drop marksAt b) ++ s)) (sym (drop-drop middleSize marksAt b))
+      ∙ ap (λ (s : List ℕ). take marksAt b ++ s) (take-append-drop middleSize (drop marksAt b))
       ∙ take-append-drop marksAt b
 
 -- ── a well-formed register written is a well-formed block ──
@@ -250,9 +256,8 @@ zeros-after b front rest at n m e l = allFrom-all (λ k. eqb (getD b k 0) 0) (at
         ∙ getD-replicate m k 0 0 (omega arith))
 
 module _ (R : Register) (f : WellFormed R) where
-  marks-drop : drop marksAt (encode R) ≡ marksPart R ++ recordsPart R
-  unfolding encode
-  marks-drop = refl
+  marks-drop : drop marksAt (encode R) ≡ marksPart R ++ afterMarks R
+  marks-drop = ap (drop marksAt) (encode-marks R)
 
   free-zero : getD (encode R) freeAt 0 ≡ 0
   unfolding encode
@@ -268,7 +273,7 @@ module _ (R : Register) (f : WellFormed R) where
       let n = length-written twoBytes markSize (λ x. refl) (R .marks) in
       let e : marksAt + length (concatMap twoBytes (R .marks)) ≡ marksAt + markSize * subjectsIn (encode R) = omega (arith, n, f .marked, subjects-encode R f) in
       subst (λ (a : ℕ). T (zeros (encode R) a (marksAt + marksSize - a))) e
-      (zeros-after (encode R) (concatMap twoBytes (R .marks)) (recordsPart R) marksAt (marksAt + marksSize - (marksAt + length (concatMap twoBytes (R .marks)))) (marksSize - length (concatMap twoBytes (R .marks))) marks-drop (omega arith))
+      (zeros-after (encode R) (concatMap twoBytes (R .marks)) (afterMarks R) marksAt (marksAt + marksSize - (marksAt + length (concatMap twoBytes (R .marks)))) (marksSize - length (concatMap twoBytes (R .marks))) marks-drop (omega arith))
 
   records-formed : T (recordsFormed (encode R))
   records-formed = allFrom-all (λ k. recordFormed (subjectsIn (encode R)) (recordFrom (encode R) k)) 0 (countIn (encode R)) one

@@ -1,15 +1,16 @@
 -- Well-formed blocks (document 01, 'The block'): a list of named tests, for any list of bytes of any length. Assumes nothing.
 use mathlib.Core.Bool.{Bool, true, not, _&&_}
 use mathlib.Core.List.{List, [], _∷_, _++_}
-use Prim.Native.Nat.{ℕ, _+_, _*_, _-_}
+use Prim.Native.Nat.{ℕ, _+_, _-_}
 use lib.Bits.{bitAnd}
 use lib.Dec.{eqb, ltb, leb}
-use lib.ListN.{length, getD, drop}
+use lib.ListN.{length, getD}
 use Rattle.rules.specs.Register.{Delegation}
 use Rattle.rules.specs.CallStep.{before}
-use Rattle.block.specs.Layout.{blockSize, mostSubjects, mostRecords, freeAt, marksAt, recordsAt, markSize, recordSize, marksSize, restByte}
-use Rattle.block.specs.Bytes.{two, readAll, allFrom, zeros}
+use Rattle.block.specs.Layout.{blockSize, mostSubjects, mostRecords, freeAt, marksAt, marksSize, restByte}
+use Rattle.block.specs.Bytes.{two, allFrom, zeros}
 use Rattle.block.specs.Block.{delegationIn, subjectsIn, countIn}
+use Rattle.block.specs.Records.{markPlace, recordPlace, recordFrom, delegationsTo}
 
 -- every test of a list passes
 abbrev pub allPass : {A : Type 0} → List (A → Bool) → A → Bool
@@ -78,10 +79,10 @@ ownerUnmarked b = eqb (two b marksAt) 0
 
 -- the marks of subjects that are not enrolled are zero
 abbrev pub restUnmarked : List ℕ → Bool
-restUnmarked b = let a = marksAt + markSize * subjectsIn b in zeros b a (marksAt + marksSize - a)
+restUnmarked b = let a = markPlace (subjectsIn b) in zeros b a (marksAt + marksSize - a)
 
 abbrev pub recordsFormed : List ℕ → Bool
-recordsFormed b = allFrom (λ k. recordFormed (subjectsIn b) (drop (recordSize * k) (drop recordsAt b))) 0 (countIn b)
+recordsFormed b = allFrom (λ k. recordFormed (subjectsIn b) (recordFrom b k)) 0 (countIn b)
 
 -- strictly rising by giver, then receiver
 abbrev pub follows : Delegation → List Delegation → Bool
@@ -93,11 +94,11 @@ rises [] = true
 rises (d ∷ ds) = follows d ds && rises ds
 
 abbrev pub recordsRise : List ℕ → Bool
-recordsRise b = rises (readAll delegationIn recordSize (drop recordsAt b) (countIn b))
+recordsRise b = rises (delegationsTo b (countIn b))
 
 -- all bytes after the used records are zero
 abbrev pub restZero : List ℕ → Bool
-restZero b = let a = recordsAt + recordSize * countIn b in zeros b a (blockSize - a)
+restZero b = let a = recordPlace (countIn b) in zeros b a (blockSize - a)
 
 abbrev pub blockTests : List (List ℕ → Bool)
 blockTests = rightSize ∷ (headTests ++ (ownerUnmarked ∷ restUnmarked ∷ recordsFormed ∷ recordsRise ∷ restZero ∷ []))

@@ -27,15 +27,16 @@ use Rattle.rules.proofs.Lists.{eqOr}
 use Rattle.rules.proofs.Refusals.{numbered, firstOf-none, firstOf-some}
 use Rattle.rules.proofs.Pairs.{test-pair}
 use Rattle.rules.proofs.Support.{allowed-reach}
+use Rattle.block.specs.Layout.{blockSize, mostSubjects}
 use Rattle.block.specs.Bytes.{IsBytes, leading}
 use Rattle.block.specs.Block.{subjectsIn, countIn, recordsIn, decode}
 use Rattle.block.specs.WellFormed.{wellFormed}
 use Rattle.block.proofs.Held.{held-formed, stands-found, stands-missing}
 use Rattle.block.proofs.PairPlace.{pairPlace, others}
 use Rattle.block.specs.Records.{delegationAt, delegationsTo}
-use Rattle.search.specs.Search.{underMarks}
+use Rattle.search.specs.Search.{underMarks, mostLinks}
 use Rattle.search.specs.Found.{Searched}
-use Rattle.chain.specs.Links.{linkBytes, linksOf, Traceable}
+use Rattle.chain.specs.Links.{linkBytes, linksOf, chainSize, Traceable}
 use Rattle.rules.proofs.Signed.{below-weight}
 use Rattle.chain.proofs.LinkBytes.{bytes-length}
 use Rattle.chain.proofs.Ready.{limit-reach, traceable}
@@ -50,7 +51,7 @@ left-refused : (t : List ℤ) (R : Register) (g r : ℕ) (w : ℤ) (n m : ℕ) (
 left-refused t R g r w n m buf e k = record { refusal = sym e; refused = λ _. (refl, refl); chain = λ z. absurd (k z) }
 
 -- ── a chain that carries a weight ──
-module _ (t : List ℤ) (b : List ℕ) (bytes : IsBytes b) (formed : wellFormed b ≡ true) (g r w : ℕ) (l : List ℤ) (p : List ℕ) (s : Searched t (recordsIn b) (marksOf (decode b) r) l p) (inside : g < 64) where
+module _ (t : List ℤ) (b : List ℕ) (bytes : IsBytes b) (formed : wellFormed b ≡ true) (g r w : ℕ) (l : List ℤ) (p : List ℕ) (s : Searched t (recordsIn b) (marksOf (decode b) r) l p) (inside : g < mostSubjects) where
   found-test : ltZ (getD l g (pos 0)) (pos w) ≡ ltZ (reach t (decode b) g r) (pos w)
   found-test = ap (λ (z : ℤ). ltZ z (pos w)) (reach-found b bytes formed t r l p s g inside)
 
@@ -68,21 +69,21 @@ module _ (t : List ℤ) (b : List ℕ) (bytes : IsBytes b) (formed : wellFormed 
         ∙ ap (λ (ds : List Delegation). reach t (underMarks ds (marksOf (decode b) r)) g 0) (records-held b bytes formed)
         ∙ sym (reach-marks t (decode b) g r)
 
-    pub carrying-traceable : TableRule t → length p ≡ 64 → Traceable (recordsIn b) p g
+    pub carrying-traceable : TableRule t → length p ≡ mostSubjects → Traceable (recordsIn b) p g
     carrying-traceable rule size =
         traceable t (recordsIn b) (marksOf (decode b) r) l p s (lent-held b bytes formed t rule) size g inside
         (λ z. let c = ap code (sym same-reach ∙ z) in omega (arith, enough, c))
 
-    pub carrying-done : (n : ℕ) (buf after : List ℕ) → n ≡ length (linksOf (recordsIn b) p 63 g) → after ≡ linkBytes (linksOf (recordsIn b) p 63 g) ++ drop (2 * n) buf
+    pub carrying-done : (n : ℕ) (buf after : List ℕ) → n ≡ length (linksOf (recordsIn b) p mostLinks g) → after ≡ linkBytes (linksOf (recordsIn b) p mostLinks g) ++ drop (2 * n) buf
         → ChainLeft t (decode b) g r (pos w) (cond (ltZ (reach t (decode b) g r) (pos w)) 16 0) buf record { refusal = 0; links = n } after
     carrying-done n buf after en ea = record {
       refusal = sym (ap (λ (x : Bool). cond x 16 0) (sym found-test ∙ light));
       refused = λ k. absurd (k refl);
-      chain = λ _. (linksOf (recordsIn b) p 63 g, carries (chain-found b bytes formed t r l p s g inside), en, ea ∙ ap (λ (i : ℕ). linkBytes (linksOf (recordsIn b) p 63 g) ++ drop (2 * i) buf) en);
+      chain = λ _. (linksOf (recordsIn b) p mostLinks g, carries (chain-found b bytes formed t r l p s g inside), en, ea ∙ ap (λ (i : ℕ). linkBytes (linksOf (recordsIn b) p mostLinks g) ++ drop (2 * i) buf) en);
     }
       where
-        carries : (reach t (decode b) g r ≡ none) ⊎ (IsChain t (decode b) g r (linksOf (recordsIn b) p 63 g) × (reach t (decode b) g r ≡ limit t (linksOf (recordsIn b) p 63 g)))
-            → ChainFor t (decode b) g r (pos w) (linksOf (recordsIn b) p 63 g)
+        carries : (reach t (decode b) g r ≡ none) ⊎ (IsChain t (decode b) g r (linksOf (recordsIn b) p mostLinks g) × (reach t (decode b) g r ≡ limit t (linksOf (recordsIn b) p mostLinks g)))
+            → ChainFor t (decode b) g r (pos w) (linksOf (recordsIn b) p mostLinks g)
         carries (inl e) = let c = ap code e in absurd (omega (arith, enough, c))
         carries (inr q) = (q .0, subst (λ (z : ℤ). suc w ≤ code z) (q .1) enough)
 
@@ -158,9 +159,9 @@ module _ (t : List ℤ) (b : List ℕ) (g r : ℕ) (buf : List ℕ) where
   chain-refused : (n : ℕ) → chainRefusalOn t b g r buf ≡ n → n ≢ 0 → ChainMade t b g r buf (unwrittenBy n) buf
   chain-refused n e k = left-refused t (decode b) g r (weightAt (decode b .delegations) g r) (chainRefusalOn t b g r buf) n buf e k
 
-  pub chain-buffer : length buf < 126 → ChainMade t b g r buf (unwrittenBy 1) buf
+  pub chain-buffer : length buf < chainSize → ChainMade t b g r buf (unwrittenBy 1) buf
   unfolding chainRefusalOn
-  chain-buffer h = chain-refused 1 (rw (lt-ltb (length buf) 126 h) (or-true (not (eqb (length b) 2180)))) (λ z. omega arith)
+  chain-buffer h = chain-refused 1 (rw (lt-ltb (length buf) chainSize h) (or-true (not (eqb (length b) blockSize)))) (λ z. omega arith)
     where
       or-true : (x : Bool) → cond (x || true) 1 (firstOf (chainPassed g r ++ (notWellFormed b ∷ chainHeld t (decode b) g r))) ≡ 1
       or-true true = refl
@@ -170,11 +171,11 @@ module _ (t : List ℤ) (b : List ℕ) (g r : ℕ) (buf : List ℕ) where
   unfolding passed
   early-numbered = tt
 
-  module _ (room : 126 ≤ length buf) where
+  module _ (room : chainSize ≤ length buf) where
     -- with room in the buffer, the refusals of a reach before those by what the register holds
     past-buffer : chainRefusalOn t b g r buf ≡ firstOf (early b (askReach g r) ++ chainHeld t (decode b) g r)
     unfolding chainRefusalOn passed
-    past-buffer = rw (le-ltb (length buf) 126 room, or-false (not (eqb (length b) 2180)))
+    past-buffer = rw (le-ltb (length buf) chainSize room, or-false (not (eqb (length b) blockSize)))
 
     pub chain-early : (n : ℕ) → firstOf (early b (askReach g r)) ≡ n → n ≢ 0 → ChainMade t b g r buf (unwrittenBy n) buf
     chain-early n e k = chain-refused n (past-buffer ∙ firstOf-some (early b (askReach g r)) (chainHeld t (decode b) g r) n early-numbered e k) k

@@ -13,13 +13,13 @@ use Rattle.rules.specs.Pair.{weightAt}
 use Rattle.rules.specs.Refusal.{firstOf, chainPassed, chainHeld}
 use Rattle.block.specs.Layout.{blockSize}
 use Rattle.block.specs.Block.{decode}
-use Rattle.chain.specs.Links.{linkBytes}
+use Rattle.chain.specs.Links.{linkBytes, linkSize, chainSize}
 use Rattle.refusals.specs.Early.{notWellFormed}
 use Rattle.chain.specs.declared.ChainAnswer.{ChainAnswer}
 
 -- 1: the block is not 2,180 bytes, or the buffer is under 126
 abbrev pub wrongLengths : List ℕ → List ℕ → ℕ × Bool
-wrongLengths b buf = (1, not (eqb (length b) blockSize) || ltb (length buf) 126)
+wrongLengths b buf = (1, not (eqb (length b) blockSize) || ltb (length buf) chainSize)
 
 -- the first that applies of 1, what was passed, 8, what the register holds
 unfoldable pub chainRefusalOn : List ℤ → List ℕ → ℕ → ℕ → List ℕ → ℕ
@@ -35,7 +35,7 @@ pub record ChainLeft (t : List ℤ) (R : Register) (g r : ℕ) (w : ℤ) (n : �
   -- a refused call changes nothing
   pub refused : o .refusal ≢ 0 → (o .links ≡ 0) × (after ≡ before)
   -- an accepted one writes a chain of the pair that carries w, two bytes a link, the owner's end first; the bytes past it don't change
-  pub chain : o .refusal ≡ 0 → (ds : List Delegation) × ChainFor t R g r w ds × (o .links ≡ length ds) × (after ≡ linkBytes ds ++ drop (2 * length ds) before)
+  pub chain : o .refusal ≡ 0 → (ds : List Delegation) × ChainFor t R g r w ds × (o .links ≡ length ds) × (after ≡ linkBytes ds ++ drop (linkSize * length ds) before)
 
 -- what the chain call promises: of the register that the block holds, for the weight that stands there for the pair
 abbrev pub ChainMade : List ℤ → List ℕ → ℕ → ℕ → List ℕ → ChainAnswer → List ℕ → Type 0

@@ -13,23 +13,25 @@ ghost use Rattle.rules.specs.Refusal.{firstOf, chainHeld};
 ghost use Rattle.block.specs.Block.{recordsIn, decode};
 ghost use Rattle.refusals.specs.Checked.{Checked, BothEnrolled};
 ghost use Rattle.search.specs.Found.{Searched};
+ghost use Rattle.chain.specs.Links.{chainSize};
 ghost use Rattle.chain.specs.ChainOn.{ChainLeft};
 ghost use Rattle.chain.specs.Given.{LimitsLent};
 use crate::ChainAnswer;
 use crate::links;
 use crate::unwritten;
+use block::layout;
 use refusals::both_enrolled;
 use rules::refusal;
 
 // The most links of a chain.
-const MOST_LINKS: usize = 63;
+pub const MOST_LINKS: usize = layout::SUBJECTS - 1;
 
 // The reach of every subject for a receiver, and the parents by which each is reached.
 fn limits_for(block: &[u8], table: &[i16], receiver: usize, limits: &mut [i16], parents: &mut [u16])
     requires { ⌜ LimitsLent (now table) (now block) receiver (now limits) (now parents) ⌝ }
     ensures { λ _. ⌜ Searched (now (table .entry)) (recordsIn (now (block .entry))) (marksOf (decode (now (block .entry))) receiver) (now (limits .exit)) (now (parents .exit)) ⌝ }
 {
-    let mut starts = [0u16; 65];
+    let mut starts = [0u16; runs::STARTS];
     search::starts_of(block, &mut starts);
     search::limits_for(block, &starts, table, receiver, limits, parents);
 }
@@ -43,11 +45,11 @@ fn write_carrying(
     weight: u8,
     buf: &mut [u8],
 ) -> ChainAnswer
-    requires { ⌜ BothEnrolled (now block) giver receiver × TableRule (now table) × (126 ≤ length (now buf)) ⌝ }
+    requires { ⌜ BothEnrolled (now block) giver receiver × TableRule (now table) × (chainSize ≤ length (now buf)) ⌝ }
     ensures { λ r. ⌜ ChainLeft (now (table .entry)) (decode (now (block .entry))) giver receiver (pos weight) (cond (ltZ (reach (now (table .entry)) (decode (now (block .entry))) giver receiver) (pos weight)) 16 0) (now (buf .entry)) r (now (buf .exit)) ⌝ }
 {
-    let mut limits = [-1i16; 64];
-    let mut parents = [0u16; 64];
+    let mut limits = [-1i16; layout::SUBJECTS];
+    let mut parents = [0u16; layout::SUBJECTS];
     limits_for(block, table, receiver, &mut limits, &mut parents);
     if limits[giver] < weight as i16 {
         return unwritten(refusal::OVERWEIGHT);
@@ -68,7 +70,7 @@ pub fn write_held(
     receiver: u32,
     buf: &mut [u8],
 ) -> ChainAnswer
-    requires { ⌜ Checked (now block) (askReach giver receiver) × TableRule (now table) × (126 ≤ length (now buf)) ⌝ }
+    requires { ⌜ Checked (now block) (askReach giver receiver) × TableRule (now table) × (chainSize ≤ length (now buf)) ⌝ }
     ensures { λ r. ⌜ ChainLeft (now (table .entry)) (decode (now (block .entry))) giver receiver (weightAt (decode (now (block .entry)) .delegations) giver receiver) (firstOf (chainHeld (now (table .entry)) (decode (now (block .entry))) giver receiver)) (now (buf .entry)) r (now (buf .exit)) ⌝ }
 {
     if !both_enrolled(block, giver, receiver) {

@@ -10,8 +10,11 @@ use refusals::early;
 use refusals::pair_passed;
 use rules::refusal;
 
-// The least length of the lent buffer: two bytes for each of the most links.
-const CHAIN_SIZE: usize = 126;
+// The bytes of a link.
+const LINK_SIZE: usize = 2;
+
+// The least length of the lent buffer: room for the most links.
+const CHAIN_SIZE: usize = LINK_SIZE * held::MOST_LINKS;
 
 // The refusal number of the chain call, 0 when accepted, and how many links were written.
 pub struct ChainAnswer {
@@ -70,6 +73,6 @@ pub fn chain<'a>(
 {
     let written = write_chain(block, giver, receiver, buf);
     *refusal = written.refusal;
-    let end = 2 * written.links;
+    let end = LINK_SIZE * written.links;
     &mut buf[..end]
 }

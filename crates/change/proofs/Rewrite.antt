@@ -1,4 +1,4 @@
--- Changes of a block xs changes of the register that it holds. Assumes nothing.
+-- Changes of a block as changes of the register that it holds. Assumes nothing.
 use mathlib.Core.Path.{_≡_, refl, sym, ap, _∙_}
 use mathlib.Core.List.{List, [], _∷_, _++_, append-assoc}
 use Prim.Native.Nat.{ℕ, zero, suc, _+_, _*_, _-_, _≤_, _<_}
@@ -16,7 +16,7 @@ use Rattle.block.specs.Block.{recordBytes, encode}
 use Rattle.block.specs.Records.{markPlace, recordPlace}
 use Rattle.change.specs.Shift.{movedUp, movedDown}
 use Rattle.block.proofs.Bytes.{length-written}
-use Rattle.block.proofs.Encode.{headOf, marksPart, middlePart, afterMarks, record-wide, length-middlePart, front-encode}
+use Rattle.block.proofs.Encode.{headOf, marksPart, middlePart, afterMarks, encode-records, encode-marks, record-wide, length-middlePart, front-encode}
 use Rattle.change.proofs.Splice.{spliced-in, spliced-out}
 
 pub concatMap-append : {A : Type 0} (f : A → List ℕ) (xs ys : List A) → concatMap f (xs ++ ys) ≡ concatMap f xs ++ concatMap f ys
@@ -47,16 +47,15 @@ module _ (R : Register) (f : WellFormed R) where
   -- the block with other delegations: those before some of them, these, and those after them
   encode-parts : (xs ms ys : List Delegation) (n : ℕ) → length (xs ++ (ms ++ ys)) ≡ n
       → encode (withDelegations R (xs ++ (ms ++ ys))) ≡ frontOf n xs ++ (concatMap recordBytes ms ++ (concatMap recordBytes ys ++ zerosAfter n))
-  unfolding encode
   encode-parts xs ms ys n e =
       let X = concatMap recordBytes xs in
       let M = concatMap recordBytes ms in
       let Y = concatMap recordBytes ys in
       let s : concatMap recordBytes (xs ++ (ms ++ ys)) ≡ X ++ (M ++ Y) = concatMap-append recordBytes xs (ms ++ ys) ∙ ap (λ (t : List ℕ). X ++ t) (concatMap-append recordBytes ms ys) in
       let z : length (concatMap recordBytes (xs ++ (ms ++ ys))) ≡ recordSize * n = size (xs ++ (ms ++ ys)) ∙ ap (λ (k : ℕ). recordSize * k) e in
-      (λ j. headOf (R .subjects) (e j) ++ (middlePart R ++ (s j ++ replicate (recordsSize - z j) 0))) ∙ simp append-assoc
+      encode-records (withDelegations R (xs ++ (ms ++ ys))) ∙ (λ j. headOf (R .subjects) (e j) ++ (middlePart R ++ (s j ++ replicate (recordsSize - z j) 0))) ∙ simp append-assoc
 
-  -- the block xs it is, parted at place k
+  -- the block as it is, parted at place k
   parted : (ms ys : List Delegation) (k : ℕ) → drop k (R .delegations) ≡ ms ++ ys
       → encode R ≡ frontOf (length (R .delegations)) (take k (R .delegations)) ++ (concatMap recordBytes ms ++ (concatMap recordBytes ys ++ zerosAfter (length (R .delegations))))
   parted ms ys k e =
@@ -135,14 +134,12 @@ module _ (R : Register) (f : WellFormed R) where
 
   -- other delegations written after what stands before the records
   pub encode-with : (ds : List Delegation) → sets (take recordsAt (encode R) ++ (concatMap recordBytes ds ++ zerosAfter (length ds))) countAt (twoBytes (length ds)) ≡ encode (withDelegations R ds)
-  unfolding encode
   encode-with ds =
       let n = sym (size ds) in
-      (λ i. sets (front-encode R f i ++ (concatMap recordBytes ds ++ replicate (recordsSize - n i) 0)) countAt (twoBytes (length ds))) ∙ append-assoc (headOf (R .subjects) (length ds)) (middlePart R) (concatMap recordBytes ds ++ replicate (recordsSize - length (concatMap recordBytes ds)) 0)
+      (λ i. sets (front-encode R f i ++ (concatMap recordBytes ds ++ replicate (recordsSize - n i) 0)) countAt (twoBytes (length ds))) ∙ append-assoc (headOf (R .subjects) (length ds)) (middlePart R) (concatMap recordBytes ds ++ replicate (recordsSize - length (concatMap recordBytes ds)) 0) ∙ sym (encode-records (withDelegations R ds))
 
   -- one more subject
   pub encode-enrol : (v : ℕ) → R .subjects < mostSubjects → sets (set (encode R) 0 (R .subjects + 1)) (markPlace (R .subjects)) (twoBytes v) ≡ encode (enrolled R v)
-  unfolding encode
   encode-enrol v l =
       let n = R .subjects in
       let X = concatMap twoBytes (R .marks) in
@@ -163,13 +160,15 @@ module _ (R : Register) (f : WellFormed R) where
       let q : marksSize - length (X ++ twoBytes v) ≡ m - markSize = ap (λ (k : ℕ). marksSize - k) (length-append X (twoBytes v)) ∙ omega arith in
       ap (padded marksSize) X′ ∙ ap (λ (k : ℕ). (X ++ twoBytes v) ++ replicate k 0) q in
       let s : n + 1 ≡ suc n = omega arith in
-      ap (λ (t : List ℕ). sets (H ++ (t ++ D)) (markPlace n) (twoBytes v)) pad
+      ap (λ (t : List ℕ). sets (set t 0 (n + 1)) (markPlace n) (twoBytes v)) (encode-marks R)
+      ∙ ap (λ (t : List ℕ). sets (H ++ (t ++ D)) (markPlace n) (twoBytes v)) pad
       ∙ ap (λ (t : List ℕ). sets t (markPlace n) (twoBytes v)) group
       ∙ sets-eq (twoBytes v) ((H ++ X) ++ (replicate m 0 ++ D)) (markPlace n) room
       ∙ (λ j. take-at (H ++ X) (replicate m 0 ++ D) (markPlace n) hx j ++ twoBytes v ++ tail j)
       ∙ ungroup
       ∙ ap (λ (t : List ℕ). H ++ (t ++ D)) (sym pad′)
       ∙ ap (λ (k : ℕ). headOf k (length (R .delegations)) ++ (padded marksSize (concatMap twoBytes (R .marks ++ (v ∷ []))) ++ D)) s
+      ∙ sym (encode-marks (enrolled R v))
 
 -- the fresh register
 pub encode-fresh : set (replicate blockSize 0) 0 1 ≡ encode fresh

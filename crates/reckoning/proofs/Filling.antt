@@ -15,7 +15,6 @@ use Rattle.rules.specs.List.{_∈_, tabulate}
 use Rattle.rules.specs.Register.{Delegation, Register, marksOf}
 use Rattle.rules.specs.Reach.{reach}
 use Rattle.rules.specs.WellFormed.{WellFormed}
-use Rattle.rules.proofs.Lists.{eqOr}
 use Rattle.rules.proofs.Support.{allowed-reach}
 use Rattle.block.specs.Layout.{mostSubjects}
 use Rattle.block.specs.Bytes.{IsBytes}
@@ -67,12 +66,13 @@ copied-none b a l = record { there = λ i h. absurd (omega arith); rest = λ i h
 
 -- one more place copied, from before all that are written
 pub copied-on : (b a n : ℕ) (l m : List ℤ) (x : ℤ) → b + n < a → a + n < length m → x ≡ getD m (b + n) (pos 0) → PlacesCopied b a n l m → PlacesCopied b a (n + 1) l (set m (a + n) x)
-copied-on b a n l m x before room e c = record { there = λ i h. written i h (eqOr i n); rest = kept }
+copied-on b a n l m x before room e c = record {
+  there = below-more (λ i. getD (set m (a + n) x) (a + i) (pos 0) ≡ getD l (b + i) (pos 0)) n
+      (λ i h. getD-set-other m (a + n) (a + i) x (pos 0) (λ q. omega arith) ∙ c .there i h)
+      (getD-set-same m (a + n) x (pos 0) room ∙ e ∙ c .rest (b + n) (inl before));
+  rest = kept;
+}
   where
-    written : (i : ℕ) → i < n + 1 → (i ≡ n) ⊎ (i ≢ n) → getD (set m (a + n) x) (a + i) (pos 0) ≡ getD l (b + i) (pos 0)
-    written i h (inl s) = rw s (getD-set-same m (a + n) x (pos 0) room ∙ e ∙ c .rest (b + n) (inl before))
-    written i h (inr s) = getD-set-other m (a + n) (a + i) x (pos 0) (λ q. s (omega arith)) ∙ c .there i (omega arith)
-
     kept : (i : ℕ) → (i < a) ⊎ (a + (n + 1) ≤ i) → getD (set m (a + n) x) i (pos 0) ≡ getD l i (pos 0)
     kept i (inl h) = getD-set-other m (a + n) i x (pos 0) (λ q. omega arith) ∙ c .rest i (inl h)
     kept i (inr h) = getD-set-other m (a + n) i x (pos 0) (λ q. omega arith) ∙ c .rest i (inr (omega arith))
@@ -114,18 +114,13 @@ module _ (t : List ℤ) (R : Register) (set : ℕ) where
   filled-none l size = record { size = size; rows = λ r h. absurd (omega arith) }
 
   pub filled-skip : (v : ℕ) (l : List ℤ) → Filled t R set v l → bit set v ≢ 1 → Filled t R set (v + 1) l
-  filled-skip v l f n = record { size = f .size; rows = λ r h k. go r h k (eqOr r v) }
-    where
-      go : (r : ℕ) → r < v + 1 → bit set r ≡ 1 → (r ≡ v) ⊎ (r ≢ v) → HasRow t R r l
-      go r h k (inl e) = absurd (n (ap (bit set) (sym e) ∙ k))
-      go r h k (inr e) = f .rows r (omega arith) k
+  filled-skip v l f n = record { size = f .size; rows = below-more (λ r. bit set r ≡ 1 → HasRow t R r l) v (f .rows) (λ k. absurd (n k)) }
 
   pub filled-on : (v : ℕ) (l m : List ℤ) → Filled t R set v l → length m ≡ length l → RowMade t R v l m → Filled t R set (v + 1) m
-  filled-on v l m f kept made = record { size = kept ∙ f .size; rows = λ r h k. go r h k (eqOr r v) }
-    where
-      go : (r : ℕ) → r < v + 1 → bit set r ≡ 1 → (r ≡ v) ⊎ (r ≢ v) → HasRow t R r m
-      go r h k (inl e) = subst (λ (x : ℕ). HasRow t R x m) (sym e) (made .row)
-      go r h k (inr e) = λ u q. made .rest (reachAt u r) (inl (omega arith)) ∙ f .rows r (omega arith) k u q
+  filled-on v l m f kept made = record {
+    size = kept ∙ f .size;
+    rows = below-more (λ r. bit set r ≡ 1 → HasRow t R r m) v (λ r h k u q. made .rest (reachAt u r) (inl (omega arith)) ∙ f .rows r h k u q) (λ k. made .row);
+  }
 
   -- the row of another receiver whose marks agree on all that are named, copied
   pub row-copied : (n w v : ℕ) (l m : List ℤ) → Names n (R .delegations) → HasRow t R w l → bitAnd (marksOf R w) n ≡ bitAnd (marksOf R v) n → PlacesCopied (mostSubjects * w) (mostSubjects * v) mostSubjects l m → RowMade t R v l m

@@ -1,6 +1,6 @@
 -- The delegations decoded, lowered and read out, place by place. Assumes nothing.
 use mathlib.Core.Path.{_≡_, refl, sym, ap, subst, _∙_}
-use mathlib.Core.Logic.{_≢_, _⊎_, inl, inr}
+use mathlib.Core.Logic.{_⊎_, inl, inr}
 use mathlib.Core.Bool.{Bool, true, false, not, cond}
 use mathlib.Core.List.{List, [], _∷_, map, _++_}
 use Prim.Native.Nat.{ℕ, zero, suc, _+_, _-_, _≤_, _<_}
@@ -15,16 +15,12 @@ use mir.Facts.{toZ-ofZ}
 use lib.ListN.{length, getD, set, take, drop, length-set, List·getD-eq-default}
 use lib.Seq.{getD-set-same, getD-set-other}
 use Rattle.rules.specs.Register.{Delegation}
-use Rattle.rules.proofs.Lists.{clash, either, set-more}
+use Rattle.rules.proofs.Lists.{clash, either}
 use Rattle.rules.proofs.Signed.{getD-within, kept}
 use Rattle.reckoning.specs.Reckoned.{noneDecoded, Decoded, lesser, lowerOne, WeightsPut, WeightsRead, weightLeft, RunLowered}
 use Rattle.reckoning.specs.declared.Delegation.{Delegation as DecodedDelegation}
 
 -- ── lists ──
--- one more place filled
-pub filled : {A : Type 0} (l : List A) (k : ℕ) (z v : A) (p : ℕ → A) → k < length l → ((j : ℕ) → j < k → getD l j z ≡ p j) → v ≡ p k → (j : ℕ) → j < k + 1 → getD (set l k v) j z ≡ p j
-filled l k z v p = set-more (λ j x. x ≡ p j) l k v z
-
 module _ {A : Type 0} (f : A → A) (d : A) where
   -- a list with f at its first n elements, as a loop makes it
   abbrev pub eachTo : ℕ → List A → List A

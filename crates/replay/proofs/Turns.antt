@@ -1,13 +1,12 @@
 -- Turns of a list of calls: what is stored, one turn, and all of them. Assumes nothing.
 use mathlib.Core.Path.{_≡_, refl, sym, ap, subst, _∙_}
-use mathlib.Core.Logic.{_⊎_, inl, inr}
 use mathlib.Core.Bool.{Bool, true, false, not}
 use mathlib.Core.List.{List, [], _∷_, _++_, map}
 use Prim.Native.Nat.{ℕ, zero, suc, _+_, _*_, _≤_, _<_}
 use native.Mathlib.Nat.{add-zero, le-of-suc-le-suc, not-suc-le-zero}
 use native.Mathlib.Omega.{arith}
+use borrow.Author.Count.{below-more}
 use borrow.Author.Tests.{eq-eqb}
-use lib.Dec.{T, ltb, ltb→lt, nltb→le}
 use lib.ListN.{length, getD, take, drop, set, length-set, length-drop}
 use lib.Seq.{length-take-le, getD-set-same, getD-set-other}
 use lib.IntN.{ℤ, pos}
@@ -16,7 +15,6 @@ use Rattle.rules.specs.Table.{steps}
 use Rattle.rules.specs.Call.{Call, fresh}
 use Rattle.rules.specs.Refusal.{firstOf}
 use Rattle.rules.specs.Trace.{Entry, History, stateFrom, PlaceRight}
-use Rattle.rules.proofs.Lists.{either}
 use Rattle.block.specs.Layout.{blockSize}
 use Rattle.block.specs.Block.{encode}
 use Rattle.block.proofs.Bytes.{length-tabulate}
@@ -101,19 +99,17 @@ through-none calls blocks refusals answers e = record { first = e; made = λ j h
 
 pub through-on : (calls blocks refusals : List ℕ) (answers : List ℤ) (k : ℕ) → Through calls blocks refusals answers k
     → (blocks' refusals' : List ℕ) (answers' : List ℤ) → TurnMade calls blocks refusals answers k blocks' refusals' answers' → Through calls blocks' refusals' answers' (k + 1)
-through-on calls blocks refusals answers k h blocks' refusals' answers' t = record { first = t .slots 0 (omega arith) ∙ h .first; made = λ j l. go j l (either (ltb j k)) }
+through-on calls blocks refusals answers k h blocks' refusals' answers' t = record {
+  first = t .slots 0 (omega arith) ∙ h .first;
+  made = below-more (MadeAt calls blocks' refusals' answers') k kept (t .made);
+}
   where
-    go : (j : ℕ) → j < k + 1 → T (ltb j k) ⊎ T (not (ltb j k)) → MadeAt calls blocks' refusals' answers' j
-    go j l (inl q) =
-        let n = ltb→lt j k q in
+    kept : (j : ℕ) → j < k → MadeAt calls blocks' refusals' answers' j
+    kept j n =
         let a = t .kept j n in
         let b = t .slots j (omega arith) in
         let d = t .slots (suc j) n in
         (λ p. result (a p) (d p)) ∙ h .made j n ∙ ap (λ (z : List ℕ). callOn steps z (callAt calls j)) (sym b)
-    go j l (inr q) =
-        let n = nltb→le j k q in
-        let e : k ≡ j = omega arith in
-        subst (MadeAt calls blocks' refusals' answers') e (t .made)
 
 map-tabulate : {A B : Type 0} (g : A → B) (f : ℕ → A) (i n : ℕ) → map g (tabulate f i n) ≡ tabulate (λ k. g (f k)) i n
 map-tabulate g f i zero = refl

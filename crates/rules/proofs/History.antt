@@ -2,6 +2,7 @@
 -- remainder. Assumes nothing.
 use mathlib.Core.Path.{_≡_, refl, sym, subst}
 use mathlib.Core.List.{List, List·Memᴰ·not-nil}
+use Prim.Native.Nat.{ℕ}
 use lib.IntN.{ℤ}
 use Rattle.rules.specs.Table.{TableRule, steps}
 use Rattle.rules.specs.Register.{Register}
@@ -16,6 +17,13 @@ use Rattle.rules.proofs.Table.{steps-rule}
 use Rattle.rules.proofs.Rounds.{settle-right, settle-best}
 use Rattle.rules.proofs.Calls.{fresh-formed, callStep-cases, callStep-formed, callStep-supported}
 use Rattle.rules.proofs.Trace.{stays, places}
+
+-- each of the two cuts makes its change, so that what is claimed of a change is claimed of them
+pub revoke-makes : (y g r : ℕ) → Makes (revoke y g r) (cutting (removal g r))
+revoke-makes y g r = refl
+
+pub downgrade-makes : (y g r w : ℕ) → Makes (downgrade y g r w) (cutting (lowering g r w))
+downgrade-makes y g r w = refl
 
 module _ (t : List ℤ) (rule : TableRule t) where
   cut-right : (C : Register) → CutRight t C (cut t C)

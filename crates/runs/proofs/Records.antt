@@ -11,7 +11,7 @@ use Rattle.rules.specs.List.{_∈_}
 use Rattle.rules.specs.Register.{Delegation, noDelegation}
 use Rattle.rules.specs.WellFormed.{Before, Rising}
 use Rattle.rules.proofs.Lists.{getD-tabulate}
-use Rattle.block.specs.Layout.{recordSize, receiverByte}
+use Rattle.block.specs.Layout.{recordSize, giverByte, receiverByte, weightByte, needByte, barByte}
 use Rattle.block.specs.Block.{delegationIn}
 use Rattle.block.proofs.Bytes.{length-tabulate, tabulate-mem, getD-mem, mem-tabulate}
 use Rattle.runs.specs.Lent.{recordAt, delegationsOf}
@@ -19,11 +19,11 @@ use Rattle.runs.specs.Lent.{recordAt, delegationsOf}
 -- a delegation is read from the bytes of its record
 pub delegation-same : (r s : List ℕ) → ((j : ℕ) → j < recordSize → getD r j 0 ≡ getD s j 0) → delegationIn r ≡ delegationIn s
 delegation-same r s h = λ q. record {
-  giver = h 0 (omega arith) q;
-  receiver = h 1 (omega arith) q;
-  weight = h 2 (omega arith) q;
-  need = h 4 (omega arith) q + h 5 (omega arith) q * 256;
-  bar = h 6 (omega arith) q + h 7 (omega arith) q * 256;
+  giver = h giverByte (omega arith) q;
+  receiver = h receiverByte (omega arith) q;
+  weight = h weightByte (omega arith) q;
+  need = h needByte (omega arith) q + h (needByte + 1) (omega arith) q * 256;
+  bar = h barByte (omega arith) q + h (barByte + 1) (omega arith) q * 256;
 }
 
 -- the giver is the first byte, the receiver the one after it
@@ -31,7 +31,7 @@ pub receiver-at : (s : List ℕ) (k : ℕ) → recordAt s k .receiver ≡ getD s
 receiver-at s k = getD-drop (recordSize * k) s receiverByte 0
 
 pub giver-at : (s : List ℕ) (k : ℕ) → recordAt s k .giver ≡ getD s (recordSize * k) 0
-giver-at s k = getD-drop (recordSize * k) s 0 0 ∙ ap (λ (m : ℕ). getD s m 0) (add-zero (recordSize * k))
+giver-at s k = getD-drop (recordSize * k) s giverByte 0 ∙ ap (λ (m : ℕ). getD s m 0) (add-zero (recordSize * k))
 
 -- record k of a part that begins with record a is record a + k of the whole
 pub record-part : (s : List ℕ) (a m k : ℕ) → recordSize * k + recordSize ≤ m → recordAt (take m (drop (recordSize * a) s)) k ≡ recordAt s (a + k)

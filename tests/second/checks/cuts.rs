@@ -3,7 +3,7 @@
 use super::same;
 use crate::faults::{ONE_ROUND, VISITED_ONCE};
 use crate::relaxed::RELAXED;
-use generate::{examples, register, rounds};
+use generate::{examples, register, rounds, slow};
 use second::block::{decode, encode, Register};
 use second::call::run;
 use second::cut::{settle, Counts};
@@ -151,6 +151,18 @@ fn a_cut_of_485_rounds() {
     for engine in [&FAST, &RELAXED] {
         let mut block = block.clone();
         assert_eq!(run(engine, &rounds::FIRST_CUT, &mut block).answers, [232, 0, 485]);
+    }
+}
+
+/// Each slow cut is accepted, takes its rounds, and leaves what another search leaves.
+#[test]
+fn slow_cuts_take_their_rounds() {
+    for slow in &slow::SLOW {
+        let (mut fast, mut relaxed) = (slow.block().to_vec(), slow.block().to_vec());
+        let outcome = run(&FAST, &slow.cut(), &mut fast);
+        assert_eq!((outcome.refusal, outcome.answers[2]), (0, slow.rounds as i32));
+        assert_eq!(run(&RELAXED, &slow.cut(), &mut relaxed).answers, outcome.answers);
+        assert_eq!(fast, relaxed);
     }
 }
 

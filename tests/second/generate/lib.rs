@@ -12,6 +12,7 @@ pub mod lists;
 pub mod malformed;
 pub mod refusals;
 pub mod rounds;
+pub mod slow;
 pub mod unsupported;
 mod write;
 
@@ -60,6 +61,7 @@ pub fn cases(kind: &Kind) -> Vec<Case> {
     cases.extend(full::cases(kind));
     cases.extend(deep::cases(kind));
     cases.extend(lists::cases(kind));
+    cases.extend(slow::cases(kind));
     cases
 }
 

@@ -16,7 +16,7 @@ limits-for-requires : tie.Need-limits-for-requires
 limits-for-requires c κs =
     let o = c .before .before .before .before in
     let p = o .before .before .before .before .pre in
-    (record { block = record { formed = p .formed; rule = p .rule }; starts = o .starts-of .ensures }, p .receiver, record { limits = p .limits; parents = p .parents })
+    (record { block = p .block; starts = o .starts-of .ensures }, p .receiver, p .lists)
 
 same-length : tie.Need-same-length
 same-length c = search needs

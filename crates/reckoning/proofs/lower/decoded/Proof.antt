@@ -3,9 +3,9 @@ use mathlib.Core.Path.{_≡_, refl}
 use Prim.Native.Nat.{_+_, _-_, _≤_}
 use native.Mathlib.Omega.{arith}
 use lib.ListN.{length, length-set}
+use Rattle.rules.proofs.Lists.{set-more}
 use Rattle.block.specs.Records.{delegationAt}
 use Rattle.reckoning.specs.Reckoned.{runSize, decodedAs, noneDecoded, Decoded}
-use Rattle.reckoning.proofs.Lowering.{filled}
 use Rattle.reckoning.proofs.lower.decoded.Statement.{statement}
 use Rattle.reckoning.proofs.lower.decoded.Tie as tie
 
@@ -40,7 +40,7 @@ loop-again : tie.Need-loop-again Inv-loop μ-loop
 loop-again c =
     let l = c .before .before .loop in
     let s = c .before .before .before .before in
-    (omega arith, simp length-set (l .inv .1), filled (l .ds) (l .k) noneDecoded _ (λ j. decodedAs (delegationAt (s .args .block .now) (s .args .first + j))) (omega arith) (l .inv .2) (c .decoded-at .ensures))
+    (omega arith, simp length-set (l .inv .1), set-more (λ j x. x ≡ decodedAs (delegationAt (s .args .block .now) (s .args .first + j))) (l .ds) (l .k) _ noneDecoded (omega arith) (l .inv .2) (c .decoded-at .ensures))
 
 returns : tie.Need-returns Inv-loop μ-loop
 returns c =
