@@ -7,7 +7,7 @@ mod entry;
 mod lent;
 
 use entry::entry_call;
-use generate::rounds;
+use generate::{examples, register, rounds, slow, Grant};
 use lent::Lent;
 use second::block::{encode, Delegation, Register, MOST_DELEGATIONS};
 use second::engine::FAST;
@@ -44,7 +44,13 @@ fn rows() -> Vec<Row> {
         row("revoke, full register, one round", &block, revoke_of(&last), 1),
         row("  the same, all marks equal", &encode(&equal_marks(full)), revoke_of(&last), 1),
         row("  all limits distinct, one round", &encode(&descending()), passed(Call::Revoke, 0, 0, 5, 0), 1),
+        row("  64 delegations, distinct marks", &encode(&ring()), passed(Call::Revoke, 0, 63, 1, 0), 1),
+        row("  a star of 63 delegations", &encode(&star()), passed(Call::Revoke, 0, 0, 63, 0), 1),
+        row("  8 subjects, weights 9 and 5", &encode(&eight()), passed(Call::Revoke, 0, 0, 7, 0), 2),
+        row("downgrade of the example P5", &encode(&p5()), passed(Call::Downgrade, 0, 0, 2, 2), 3),
+        row("revoke of 256 rounds, 6 delegations", &encode(&countdown()), passed(Call::Revoke, 0, 0, 3, 0), 256),
         row("revoke of 485 rounds", &deep, rounds::FIRST_CUT, 485),
+        row("the slowest cut known", slow::SLOW[0].block(), slow::SLOW[0].cut(), slow::SLOW[0].rounds),
     ]
 }
 
@@ -101,6 +107,45 @@ fn descending() -> Register {
     register
 }
 
+/// 64 subjects, all marks distinct, no condition: one delegation from the owner
+/// and a ring of the others.
+fn ring() -> Register {
+    let marks: Vec<u16> = (0..64).collect();
+    let mut grants: Vec<Grant> = vec![(0, 1, 255, 0, 0)];
+    grants.extend((1..64).map(|giver| (giver, giver % 63 + 1, 255, 0, 0)));
+    register(&marks, &grants)
+}
+
+/// The owner gives each of 63 subjects weight 1.
+fn star() -> Register {
+    let grants: Vec<Grant> = (1..64).map(|receiver| (0, receiver, 1, 0, 0)).collect();
+    register(&[0; 64], &grants)
+}
+
+/// The owner gives each of 7 subjects weight 9, and each of these the next one
+/// weight 5.
+fn eight() -> Register {
+    let mut grants: Vec<Grant> = (1..8).map(|receiver| (0, receiver, 9, 0, 0)).collect();
+    grants.extend((1..8).map(|giver| (giver, giver % 7 + 1, 5, 0, 0)));
+    register(&[0; 8], &grants)
+}
+
+fn p5() -> Register {
+    let all = examples::proved();
+    let p5 = all.iter().find(|example| example.name == "P5").expect("P5");
+    register(&[&[0], p5.marks].concat(), &p5.grants)
+}
+
+/// Two unlimited delegations, 1 to 2 and 2 to 1, each on every chain of the
+/// other. With 0 to 3 gone, the chain of the second begins with weight 254, and
+/// each round lowers one of the two to 1 less than the other.
+fn countdown() -> Register {
+    register(&[0, 1, 2, 4], &[
+        (0, 1, 254, 1, 0), (0, 2, 255, 2, 0), (0, 3, 255, 0, 0),
+        (1, 2, 255, 1, 0), (2, 1, 255, 2, 0), (3, 1, 255, 0, 4),
+    ])
+}
+
 /// The register of the deepest cut, made by its calls.
 fn deep_block() -> Vec<u8> {
     let mut block = encode(&Register::fresh());
@@ -121,8 +166,9 @@ const BATCH: usize = 32;
 /// The median of many batches, each batch first with the one, then with the
 /// other; both must leave the same bytes and answers.
 fn measure(row: &Row) {
-    let repeats = if row.rounds > 1 { 9 } else { 301 };
-    let batch = if row.rounds > 1 { 1 } else { BATCH };
+    let long = row.rounds > 3;
+    let repeats = if row.rounds > 256 { 9 } else { 301 };
+    let batch = if long { 1 } else { BATCH };
     let (mut ours, mut theirs) = (Vec::new(), Vec::new());
     for _ in 0..repeats {
         let mut lent: Vec<Lent> = (0..batch).map(|_| lent_bytes(&row.block)).collect();
@@ -146,7 +192,7 @@ fn measure(row: &Row) {
     }
     let (a, b) = (median(ours), median(theirs));
     println!("{:<44} {:>9} ns {:>9} ns {:>7.2}", row.what, a, b, a as f64 / b as f64);
-    if row.rounds > 1 {
+    if long {
         println!("{:<44} {:>9} ns {:>9} ns", "  a round", a / row.rounds as u64, b / row.rounds as u64);
     }
 }

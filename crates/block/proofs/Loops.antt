@@ -1,11 +1,13 @@
 -- A loop over places: x is the whole answer, e says that it is the answer from place i on. Each form at its end, stopped at i, and gone on. Assumes nothing.
 use mathlib.Core.Path.{_≡_, refl, sym, ap, _∙_}
-use mathlib.Core.Bool.{Bool, true, false, not}
+use mathlib.Core.Bool.{Bool, true, false, not, _&&_}
 use mathlib.Core.List.{[], _∷_}
 use Prim.Native.Nat.{ℕ, zero, suc, _+_, _-_, _≤_, _<_}
 use native.Mathlib.Numerals.{add-one}
 use native.Mathlib.Nat.{add-zero}
 use native.Mathlib.Omega.{arith}
+use borrow.Author.Tests.{ne-eqb}
+use lib.Bits.{bitOr, and-le-r, or-zero-l, or-add-and}
 use lib.Dec.{eqb}
 use Rattle.rules.specs.List.{tabulate}
 use Rattle.rules.specs.Register.{Delegation}
@@ -24,6 +26,27 @@ module _ {x : Bool} (f : ℕ → Bool) (i n : ℕ) (e : x ≡ allFrom f i (n - i
 
   pub all-on : i < n → f i ≡ true → x ≡ allFrom f (i + 1) (n - (i + 1))
   all-on h t = let z : n - i ≡ suc (n - (i + 1)) = omega arith in rw (z, t, ← add-one i) at e
+
+-- a number that is 0 as long as every value is
+or-none : (a b : ℕ) → eqb (bitOr a b) 0 ≡ (eqb a 0 && eqb b 0)
+or-none zero b = ap (λ (n : ℕ). eqb n 0) (or-zero-l b)
+or-none (suc a) b = ne-eqb (bitOr (suc a) b) 0 (λ e. omega (arith, or-add-and (suc a) b, and-le-r (suc a) b)) ∙ sym (ap (λ (x : Bool). x && eqb b 0) (ne-eqb (suc a) 0 (λ e. omega arith)))
+
+pub none-on : {x : Bool} (g : ℕ → ℕ) (any i n : ℕ) → x ≡ (eqb any 0 && allFrom (λ k. eqb (g k) 0) i (n - i)) → i < n → x ≡ (eqb (bitOr any (g i)) 0 && allFrom (λ k. eqb (g k) 0) (i + 1) (n - (i + 1)))
+none-on g any i n e h =
+    let z : n - i ≡ suc (n - (i + 1)) = omega arith in
+    (rw (z, ← add-one i) at e) ∙ assoc (eqb any 0) (eqb (g i) 0) (allFrom (λ k. eqb (g k) 0) (i + 1) (n - (i + 1))) ∙ ap (λ (b : Bool). b && allFrom (λ k. eqb (g k) 0) (i + 1) (n - (i + 1))) (sym (or-none any (g i)))
+  where
+    assoc : (a b c : Bool) → (a && (b && c)) ≡ ((a && b) && c)
+    assoc true b c = refl
+    assoc false b c = refl
+
+pub none-end : {x : Bool} (g : ℕ → ℕ) (any i n : ℕ) → x ≡ (eqb any 0 && allFrom (λ k. eqb (g k) 0) i (n - i)) → n ≤ i → eqb any 0 ≡ x
+none-end g any i n e h = let z : n - i ≡ 0 = omega arith in sym ((rw z at e) ∙ true-right (eqb any 0))
+  where
+    true-right : (b : Bool) → (b && true) ≡ b
+    true-right true = refl
+    true-right false = refl
 
 -- the values from place i on
 module _ {A : Type 0} (f : ℕ → A) (i n : ℕ) where

@@ -41,14 +41,13 @@ fn zero_range(s: &[u8], from: usize, to: usize) -> bool
     requires { ⌜ to ≤ length (now s) ⌝ }
     ensures { λ r. ⌜ r ≡ zeros (now (s .entry)) from (to - from) ⌝ }
 {
+    let mut any: u8 = 0;
     let mut i = from;
     while i < to {
-        if s[i] != 0 {
-            return false;
-        }
+        any = any | s[i];
         i += 1;
     }
-    true
+    any == 0
 }
 
 // How many subjects are enrolled.

@@ -3,23 +3,24 @@ use mathlib.Core.Path.{_≡_, refl, sym, ap, subst, _∙_}
 use mathlib.Core.Logic.{_≢_, _⊎_, inl, inr}
 use mathlib.Core.Bool.{Bool, true, false, not, cond}
 use mathlib.Core.List.{List}
-use Prim.Native.Nat.{ℕ, zero, suc, _+_, _*_, _/_, _%_, _^_, _≤_, _<_, max}
-use native.Mathlib.Nat.{mod-lt, zero-lt-suc, pow-suc}
+use Prim.Native.Nat.{ℕ, zero, suc, _+_, _*_, _-_, _/_, _%_, _^_, _≤_, _<_, min, max}
+use native.Mathlib.Nat.{mod-lt, zero-lt-suc, pow-suc, zero-add, suc-add, div-one}
 use native.Mathlib.Omega.{arith}
-use lib.Arith.{digits-div, digits-mod}
-use lib.Bits.{bitOr, bitXor, differ, or-step, xor-step, shifted-half, shifted-even}
+use lib.Arith.{bin-ind, digits-div, digits-mod}
+use lib.Bits.{bitAnd, bitOr, bitXor, differ, and-step, or-step, xor-step, shifted-half, shifted-even}
 use lib.Count.{under, trailingZeros}
 use lib.Dec.{T, eqb, ltb, ltb→lt, nltb→le}
+use lib.Pow.{shr-shr}
 use lib.ListN.{length, getD, set, replicate, length-set, length-replicate, getD-replicate, List·getD-eq-default}
 use lib.Seq.{getD-set-same, getD-set-other}
 use Rattle.rules.proofs.Lists.{either, eqOr}
-use Rattle.queue.specs.Queue.{setBits, bit, waits, BitSet, Taken, Lowest}
+use Rattle.queue.specs.Queue.{levels, setBits, bit, waits, BitSet, Taken, groupOf, Covered, Skipped}
 
 pub bit-zero : (y : ℕ) → bit 0 y ≡ 0
 bit-zero zero = refl
 bit-zero (suc y) = bit-zero y
 
-bit-small : (n y : ℕ) → bit n y < 2
+pub bit-small : (n y : ℕ) → bit n y < 2
 bit-small n zero = mod-lt n (zero-lt-suc 1)
 bit-small n (suc y) = bit-small (n / 2) y
 
@@ -32,7 +33,7 @@ module _ (op f : ℕ → ℕ → ℕ) (step : (a b : ℕ) → op a b ≡ op (a /
   bit-by a b zero = ap (λ (x : ℕ). x % 2) (step a b) ∙ digits-mod (op (a / 2) (b / 2)) (digit a b)
   bit-by a b (suc y) = ap (λ (x : ℕ). bit (x / 2) y) (step a b) ∙ ap (λ (x : ℕ). bit x y) (digits-div (op (a / 2) (b / 2)) (digit a b)) ∙ bit-by (a / 2) (b / 2) y
 
-bit-or : (a b y : ℕ) → bit (bitOr a b) y ≡ max (bit a y) (bit b y)
+pub bit-or : (a b y : ℕ) → bit (bitOr a b) y ≡ max (bit a y) (bit b y)
 bit-or = bit-by bitOr max or-step (λ x y h k. omega arith)
 
 differ-small : (x y : ℕ) → x < 2 → y < 2 → differ x y < 2
@@ -40,11 +41,21 @@ differ-small zero y h k = k
 differ-small (suc x) zero h k = h
 differ-small (suc x) (suc y) h k = differ-small x y (omega arith) (omega arith)
 
+pub bit-and : (a b y : ℕ) → bit (bitAnd a b) y ≡ min (bit a y) (bit b y)
+bit-and = bit-by bitAnd min and-step (λ x y h k. omega arith)
+
 bit-xor : (a b y : ℕ) → bit (bitXor a b) y ≡ differ (bit a y) (bit b y)
 bit-xor = bit-by bitXor differ xor-step differ-small
 
+-- numbers of the same bits are the same
+pub bits-same : (a b : ℕ) → ((y : ℕ) → bit a y ≡ bit b y) → a ≡ b
+bits-same = bin-ind (λ (a : ℕ). (b : ℕ) → ((y : ℕ) → bit a y ≡ bit b y) → a ≡ b) none (λ n more b h. omega (arith, more (b / 2) (λ y. h (suc y)), h 0))
+  where
+    none : (b : ℕ) → ((y : ℕ) → bit 0 y ≡ bit b y) → 0 ≡ b
+    none = bin-ind (λ (b : ℕ). ((y : ℕ) → bit 0 y ≡ bit b y) → 0 ≡ b) (λ _. refl) (λ n more h. omega (arith, more (λ y. h (suc y)), h 0))
+
 -- the bits of a power of 2
-bit-here : (y : ℕ) → bit (1 * 2 ^ y) y ≡ 1
+pub bit-here : (y : ℕ) → bit (1 * 2 ^ y) y ≡ 1
 bit-here zero = refl
 bit-here (suc y) = ap (λ (x : ℕ). bit x y) (shifted-half 1 y) ∙ bit-here y
 
@@ -93,9 +104,29 @@ module _ (q : List ℕ) (z y : ℕ) (h : z < length q) where
         differ-none zero = refl
         differ-none (suc x) = refl
 
--- none waits below the lower of two levels
-pub lowest-put : (q q′ : List ℕ) (z y b low r : ℕ) → Lowest q low → BitSet q z y b q′ → r ≤ low → r ≤ z → Lowest q′ r
-lowest-put q q′ z y b low r w p h k x v l = p .others x v (inl (λ e. omega arith)) ∙ w x v (omega arith)
+-- one bit more in the summary covers one who waits in its group
+pub covered-join : (q q′ : List ℕ) (z y summary one : ℕ) → one ≡ 1 * 2 ^ groupOf z → Covered q summary → BitSet q z y 1 q′ → Covered q′ (bitOr summary one)
+covered-join q q′ z y summary one e c put x w l h =
+    put .others x w (inl (λ f. omega (arith, both, ap (λ (i : ℕ). bit one (groupOf i)) (sym f) ∙ ap (λ (n : ℕ). bit n (groupOf z)) e ∙ bit-here (groupOf z)))) ∙ c x w l (omega (arith, both))
+  where
+    both : max (bit summary (groupOf x)) (bit one (groupOf x)) ≡ 0
+    both = sym (bit-or summary one (groupOf x)) ∙ h
+
+-- one who waits no more needs no cover
+pub covered-take : (q q′ : List ℕ) (z u summary : ℕ) → Covered q summary → BitSet q z u 0 q′ → Covered q′ summary
+covered-take q q′ z u summary c put x w l h = go (eqOr z x) (eqOr u w)
+  where
+    go : (z ≡ x) ⊎ (z ≢ x) → (u ≡ w) ⊎ (u ≢ w) → waits q′ x w ≡ 0
+    go (inl e) (inl f) = subst (λ (i : ℕ). waits q′ i w ≡ 0) e (subst (λ (i : ℕ). waits q′ z i ≡ 0) f (put .here))
+    go (inl e) (inr n) = put .others x w (inr n) ∙ c x w l h
+    go (inr n) f = put .others x w (inl n) ∙ c x w l h
+
+-- a bit of what is left after a shift
+pub bit-shr : (n k y : ℕ) → bit (n / 2 ^ k) y ≡ bit n (k + y)
+bit-shr n zero y = rw (zero-add y) (ap (λ (m : ℕ). bit m y) (div-one n))
+bit-shr n (suc k) y =
+    let one-more : suc k ≡ 1 + k = omega arith in
+    ap (λ (m : ℕ). bit m y) (ap (λ (m : ℕ). n / 2 ^ m) one-more ∙ sym (shr-shr n 1 k)) ∙ bit-shr (n / 2) k y ∙ ap (bit n) (sym (suc-add k y))
 
 -- none waits in an empty queue
 pub empty-waits : (n x y : ℕ) → waits (replicate n 0) x y ≡ 0
@@ -123,6 +154,27 @@ trailing-few (suc k) n h l = go (n % 2) refl (trailing-few k (n / 2))
     go : (d : ℕ) → n % 2 ≡ d → (n / 2 ≢ 0 → n / 2 < 2 ^ k → trailingZeros k (n / 2) < k) → under d (trailingZeros k (n / 2)) < suc k
     go zero e more = omega (arith, more (λ z. h (omega arith)) (omega (arith, l, pow-suc 2 k)))
     go (suc d) e more = zero-lt-suc k
+
+-- and none below it
+pub trailing-least : (k n i : ℕ) → i < trailingZeros k n → bit n i ≡ 0
+unfolding trailingZeros
+trailing-least zero n i h = absurd (omega arith)
+trailing-least (suc k) n i h = go (n % 2) refl i (trailing-least k (n / 2)) h
+  where
+    go : (d : ℕ) → n % 2 ≡ d → (j : ℕ) → ((y : ℕ) → y < trailingZeros k (n / 2) → bit (n / 2) y ≡ 0) → j < under d (trailingZeros k (n / 2)) → bit n j ≡ 0
+    go zero e zero more b = e
+    go zero e (suc j) more b = more j (omega arith)
+    go (suc d) e j more b = absurd (omega arith)
+
+-- the groups that are passed are not in the summary
+pub skipped : (summary past passed r : ℕ) → passed ≡ trailingZeros setBits (summary / 2 ^ ((levels - past) / 4)) → past ≤ levels → r ≤ past → levels ≤ r + 4 * ((levels - past) / 4 + passed) → Skipped summary past r
+skipped summary past passed r e top h k = record { lower = h; none = go }
+  where
+    go : (x : ℕ) → r ≤ x → x < past → bit summary (groupOf x) ≡ 0
+    go x a b =
+        let from : ℕ = (levels - past) / 4 in
+        let at : from + (groupOf x - from) ≡ groupOf x = omega arith in
+        ap (bit summary) (sym at) ∙ sym (bit-shr summary from (groupOf x - from)) ∙ trailing-least setBits (summary / 2 ^ from) (groupOf x - from) (omega arith)
 
 -- ── how many are open ──
 -- how many of the first n numbers are not among those that f holds for

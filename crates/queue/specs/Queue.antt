@@ -3,7 +3,7 @@
 use mathlib.Core.Path.{_≡_}
 use mathlib.Core.Logic.{_≢_, _⊎_}
 use mathlib.Core.List.{List}
-use Prim.Native.Nat.{ℕ, zero, suc, _/_, _%_, _<_}
+use Prim.Native.Nat.{ℕ, zero, suc, _-_, _/_, _%_, _≤_, _<_}
 use lib.ListN.{length, getD}
 
 -- the levels of a queue: the limits from 0 to 255
@@ -33,11 +33,25 @@ pub record BitSet (q : List ℕ) (z y b : ℕ) (q′ : List ℕ) : Type 0 where
 abbrev pub Taken : List ℕ → ℕ → ℕ → List ℕ → Type 0
 Taken q z u q′ = ((u ≡ setBits) × ((y : ℕ) → waits q z y ≡ 0) × (q′ ≡ q)) ⊎ ((u < setBits) × (waits q z u ≡ 1) × BitSet q z u 0 q′)
 
--- none waits below level `low`
-abbrev pub Lowest : List ℕ → ℕ → Type 0
-Lowest q low = (x y : ℕ) → x < low → waits q x y ≡ 0
+-- the groups of four levels, the highest first: the group of level z
+abbrev pub groupOf : ℕ → ℕ
+groupOf z = (levels - 1 - z) / 4
 
--- a queue of all levels in which none waits below level `low`
-pub record IsQueue (q : List ℕ) (low : ℕ) : Type 0 where
+-- none waits in a group whose bit the summary does not have
+abbrev pub Covered : List ℕ → ℕ → Type 0
+Covered q summary = (x y : ℕ) → x < levels → bit summary (groupOf x) ≡ 0 → waits q x y ≡ 0
+
+-- a queue of all levels, and a summary that covers it
+pub record IsQueue (q : List ℕ) (summary : ℕ) : Type 0 where
   pub size : length q ≡ levels
-  pub lowest : Lowest q low
+  pub covered : Covered q summary
+
+-- a queue in which none waits
+pub record Empty (q : List ℕ) : Type 0 where
+  pub size : length q ≡ levels
+  pub none : (x y : ℕ) → waits q x y ≡ 0
+
+-- r is not above `past`, and the summary has no group of a level from r to below `past`
+pub record Skipped (summary past r : ℕ) : Type 0 where
+  pub lower : r ≤ past
+  pub none : (x : ℕ) → r ≤ x → x < past → bit summary (groupOf x) ≡ 0

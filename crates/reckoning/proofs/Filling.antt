@@ -1,34 +1,35 @@
 -- The table of reaches, filled row by row. Assumes nothing.
-use mathlib.Core.Path.{_≡_, refl, sym, ap, _∙_}
-use mathlib.Core.Logic.{_⊎_, inl, inr}
-use mathlib.Core.Bool.{Bool, true, false, _||_}
-use mathlib.Core.List.{List, _++_, List·Memᴰ·head, List·Memᴰ·tail}
-use Prim.Native.Nat.{ℕ, _+_, _*_, _-_, _≤_, _<_}
+use mathlib.Core.Path.{_≡_, refl, sym, ap, subst, _∙_}
+use mathlib.Core.Logic.{_≢_, _⊎_, inl, inr}
+use mathlib.Core.Bool.{true}
+use mathlib.Core.List.{List, _++_}
+use Prim.Native.Nat.{ℕ, _+_, _*_, _-_, _/_, _%_, _^_, _≤_, _<_, max}
+use native.Mathlib.Nat.{zero-add, add-zero}
 use native.Mathlib.Omega.{arith}
 use borrow.Author.Count.{below-more}
+use lib.Bits.{bitAnd, bitOr}
 use lib.ListN.{length, getD, set, take, drop, List·getD-append}
 use lib.Seq.{length-take-le, getD-append-add, getD-take, getD-drop, getD-set-same, getD-set-other}
-use borrow.Author.Tests.{eq-eqb}
-use lib.Dec.{eqb}
 use lib.IntN.{ℤ, pos}
-use Rattle.rules.specs.List.{_∈_}
+use Rattle.rules.specs.List.{_∈_, tabulate}
 use Rattle.rules.specs.Register.{Delegation, Register, marksOf}
 use Rattle.rules.specs.Reach.{reach}
-use Rattle.rules.specs.Pair.{receives}
 use Rattle.rules.specs.WellFormed.{WellFormed}
-use Rattle.rules.proofs.Lists.{clash}
 use Rattle.rules.proofs.Support.{allowed-reach}
 use Rattle.block.specs.Layout.{mostSubjects}
 use Rattle.block.specs.Bytes.{IsBytes}
 use Rattle.block.specs.Block.{countIn, decode}
 use Rattle.block.specs.WellFormed.{wellFormed}
-use Rattle.block.proofs.Bytes.{length-tabulate}
+use Rattle.block.specs.Records.{delegationAt}
+use Rattle.block.proofs.Bytes.{length-tabulate, tabulate-mem, mem-tabulate}
 use Rattle.block.proofs.Held.{delegations-held}
-use Rattle.block.specs.Records.{delegationsTo}
-use Rattle.search.specs.Search.{underMarks}
+use Rattle.queue.specs.Queue.{bit}
+use Rattle.queue.proofs.Buckets.{bit-small, bit-or, bit-here, bit-shr}
 use Rattle.runs.specs.Lent.{delegationsIn}
+use Rattle.search.specs.Search.{underMarks}
 use Rattle.search.specs.Found.{Searched}
-use Rattle.search.proofs.Searching.{reach-marks}
+use Rattle.search.specs.Named.{MarksIn, Names}
+use Rattle.search.proofs.Sharing.{reach-shared}
 use Rattle.reckoning.specs.Reckoned.{reachCount, reachAt, HasRow, Filled, Tabled, PlacesCopied, RowMade}
 
 -- a search finds the reach of each subject
@@ -76,38 +77,54 @@ copied-on b a n l m x before room e c = record {
     kept i (inl h) = getD-set-other m (a + n) i x (pos 0) (λ q. omega arith) ∙ c .rest i (inl h)
     kept i (inr h) = getD-set-other m (a + n) i x (pos 0) (λ q. omega arith) ∙ c .rest i (inr (omega arith))
 
--- the block's test of a receiver is the register's
-pub receives-held : (b : List ℕ) (bytes : IsBytes b) (formed : wellFormed b ≡ true) (v n : ℕ) (x : Bool) → n ≡ countIn b → x ≡ receives v (delegationsTo b n) → x ≡ receives v (decode b .delegations)
-receives-held b bytes formed v n x e h = rw (delegations-held b bytes formed, ← e) h
+-- what holds of each delegation at a place holds of each delegation of the register
+pub each-held : (P : Delegation → Type 0) (b : List ℕ) (bytes : IsBytes b) (formed : wellFormed b ≡ true) (n : ℕ) → n ≡ countIn b → ((k : ℕ) → k < n → P (delegationAt b k)) → (d : Delegation) → d ∈ decode b .delegations → P d
+each-held P b bytes formed n e h d m =
+    let (k, l, q) = tabulate-mem (delegationAt b) 0 (countIn b) (subst (λ (ds : List Delegation). d ∈ ds) (delegations-held b bytes formed) m) in
+    subst P (sym (q ∙ ap (delegationAt b) (zero-add k))) (h k (omega arith))
 
--- a receiver of some delegation receives
-receives-mem : {d : Delegation} {ds : List Delegation} → d ∈ ds → receives (d .receiver) ds ≡ true
-receives-mem {d} (List·Memᴰ·head {x = x} {xs = xs} e) = rw (eq-eqb (x .receiver) (d .receiver) (ap (λ (y : Delegation). y .receiver) (sym e)))
-receives-mem {d} (List·Memᴰ·tail {x = x} {xs = xs} m) = go (eqb (x .receiver) (d .receiver)) (receives-mem m)
+-- and the other way
+pub held-each : (P : Delegation → Type 0) (b : List ℕ) (bytes : IsBytes b) (formed : wellFormed b ≡ true) (n : ℕ) → n ≡ countIn b → ((d : Delegation) → d ∈ decode b .delegations → P d) → (k : ℕ) → k < n → P (delegationAt b k)
+held-each P b bytes formed n e h k l =
+    h (delegationAt b k)
+    (subst (λ (ds : List Delegation). delegationAt b k ∈ ds) (sym (delegations-held b bytes formed)) (subst (λ (m : ℕ). delegationAt b m ∈ tabulate (delegationAt b) 0 (countIn b)) (zero-add k) (mem-tabulate (delegationAt b) 0 (countIn b) k (omega arith))))
+
+-- the bit that is read after a shift
+pub bit-read : (n k : ℕ) → n / 2 ^ k % 2 ≡ bit n k
+bit-read n k = bit-shr n k 0 ∙ ap (bit n) (add-zero k)
+
+-- one more of a set
+pub set-on : (f : ℕ → ℕ) (set one k : ℕ) → one ≡ 1 * 2 ^ f k → ((j : ℕ) → j < k → bit set (f j) ≡ 1) → (j : ℕ) → j < k + 1 → bit (bitOr set one) (f j) ≡ 1
+set-on f set one k e h = below-more (λ j. bit (bitOr set one) (f j) ≡ 1) k
+    (λ j l. bit-or set one (f j) ∙ omega (arith, h j l, bit-small one (f j)))
+    (bit-or set one (f k) ∙ omega (arith, bit-small set (f k), ap (λ (x : ℕ). bit x (f k)) e ∙ bit-here (f k)))
+
+-- the marks of two more numbers
+pub names-on : (f g : ℕ → ℕ) (named k : ℕ) → ((j : ℕ) → j < k → MarksIn (f j) named × MarksIn (g j) named) → (j : ℕ) → j < k + 1
+    → MarksIn (f j) (bitOr (bitOr named (f k)) (g k)) × MarksIn (g j) (bitOr (bitOr named (f k)) (g k))
+names-on f g named k h = below-more (λ j. MarksIn (f j) (bitOr (bitOr named (f k)) (g k)) × MarksIn (g j) (bitOr (bitOr named (f k)) (g k))) k
+    (λ j l. ((λ y. omega (arith, wide y, h j l .0 y)), (λ y. omega (arith, wide y, h j l .1 y))))
+    ((λ y. omega (arith, wide y)), (λ y. omega (arith, wide y)))
   where
-    go : (b : Bool) → receives (d .receiver) xs ≡ true → (b || receives (d .receiver) xs) ≡ true
-    go true e = refl
-    go false e = e
+    wide : (y : ℕ) → bit (bitOr (bitOr named (f k)) (g k)) y ≡ max (max (bit named y) (bit (f k) y)) (bit (g k) y)
+    wide y = bit-or (bitOr named (f k)) (g k) y ∙ ap (λ (x : ℕ). max x (bit (g k) y)) (bit-or named (f k) y)
 
-module _ (t : List ℤ) (R : Register) where
-  pub filled-none : (l : List ℤ) → length l ≡ reachCount → Filled t R 0 l
+module _ (t : List ℤ) (R : Register) (set : ℕ) where
+  pub filled-none : (l : List ℤ) → length l ≡ reachCount → Filled t R set 0 l
   filled-none l size = record { size = size; rows = λ r h. absurd (omega arith) }
 
-  pub filled-skip : (v : ℕ) (l : List ℤ) → Filled t R v l → receives v (R .delegations) ≡ false → Filled t R (v + 1) l
-  filled-skip v l f n = record { size = f .size; rows = below-more (λ r. receives r (R .delegations) ≡ true → HasRow t R r l) v (f .rows) (λ k. clash (sym k ∙ n)) }
+  pub filled-skip : (v : ℕ) (l : List ℤ) → Filled t R set v l → bit set v ≢ 1 → Filled t R set (v + 1) l
+  filled-skip v l f n = record { size = f .size; rows = below-more (λ r. bit set r ≡ 1 → HasRow t R r l) v (f .rows) (λ k. absurd (n k)) }
 
-  pub filled-on : (v : ℕ) (l m : List ℤ) → Filled t R v l → length m ≡ length l → RowMade t R v l m → Filled t R (v + 1) m
+  pub filled-on : (v : ℕ) (l m : List ℤ) → Filled t R set v l → length m ≡ length l → RowMade t R v l m → Filled t R set (v + 1) m
   filled-on v l m f kept made = record {
     size = kept ∙ f .size;
-    rows = below-more (λ r. receives r (R .delegations) ≡ true → HasRow t R r m) v (λ r h k u q. made .rest (reachAt u r) (inl (omega arith)) ∙ f .rows r h k u q) (λ k. made .row);
+    rows = below-more (λ r. bit set r ≡ 1 → HasRow t R r m) v (λ r h k u q. made .rest (reachAt u r) (inl (omega arith)) ∙ f .rows r h k u q) (λ k. made .row);
   }
 
-  -- the row of another receiver of the same marks, copied
-  pub row-copied : (w v : ℕ) (l m : List ℤ) → HasRow t R w l → marksOf R w ≡ marksOf R v → PlacesCopied (mostSubjects * w) (mostSubjects * v) mostSubjects l m → RowMade t R v l m
-  row-copied w v l m row e c = record {
-    row = λ u h. c .there u h ∙ row u h ∙ reach-marks t R u w ∙ ap (λ (x : ℕ). reach t (underMarks (R .delegations) x) u 0) e ∙ sym (reach-marks t R u v);
-    rest = c .rest;
-  }
+  -- the row of another receiver whose marks agree on all that are named, copied
+  pub row-copied : (n w v : ℕ) (l m : List ℤ) → Names n (R .delegations) → HasRow t R w l → bitAnd (marksOf R w) n ≡ bitAnd (marksOf R v) n → PlacesCopied (mostSubjects * w) (mostSubjects * v) mostSubjects l m → RowMade t R v l m
+  row-copied n w v l m names row e c = record { row = λ u h. c .there u h ∙ row u h ∙ reach-shared t R n u w v names e; rest = c .rest }
 
-  pub filled-tabled : WellFormed R → (v : ℕ) → v ≡ R .subjects → (l : List ℤ) → Filled t R v l → Tabled t R l
-  filled-tabled w v e l f d m = f .rows (d .receiver) (omega (arith, w .each d m .receiver)) (receives-mem m) (d .giver) (omega (arith, w .each d m .giver, w .most)) ∙ sym (allowed-reach t R d)
+  pub filled-tabled : WellFormed R → ((d : Delegation) → d ∈ R .delegations → bit set (d .receiver) ≡ 1) → (v : ℕ) → v ≡ R .subjects → (l : List ℤ) → Filled t R set v l → Tabled t R l
+  filled-tabled w all v e l f d m = f .rows (d .receiver) (omega (arith, w .each d m .receiver)) (all d m) (d .giver) (omega (arith, w .each d m .giver, w .most)) ∙ sym (allowed-reach t R d)

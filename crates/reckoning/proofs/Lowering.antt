@@ -1,20 +1,23 @@
 -- The delegations decoded, lowered and read out, place by place. Assumes nothing.
-use mathlib.Core.Path.{_≡_, refl, sym, ap, _∙_}
-use mathlib.Core.Bool.{Bool, true, false, cond}
+use mathlib.Core.Path.{_≡_, refl, sym, ap, subst, _∙_}
+use mathlib.Core.Logic.{_⊎_, inl, inr}
+use mathlib.Core.Bool.{Bool, true, false, not, cond}
 use mathlib.Core.List.{List, [], _∷_, map, _++_}
-use Prim.Native.Nat.{ℕ, zero, suc, _+_, _≤_, _<_}
-use native.Mathlib.Nat.{not-suc-le-zero, le-of-suc-le-suc}
+use Prim.Native.Nat.{ℕ, zero, suc, _+_, _-_, _≤_, _<_}
+use native.Mathlib.Nat.{not-suc-le-zero, le-of-suc-le-suc, zero-add}
 use native.Mathlib.Omega.{arith}
 use borrow.Author.Count.{below-more}
+use lib.Dec.{T, ltb, ltb→lt, nltb→le}
 use lib.IntN.{ℤ, pos}
 use lib.Signed.{ltZ, mag}
 use mir.Syntax.{w16}
 use mir.Facts.{toZ-ofZ}
 use lib.ListN.{length, getD, set, take, drop, length-set, List·getD-eq-default}
+use lib.Seq.{getD-set-same, getD-set-other}
 use Rattle.rules.specs.Register.{Delegation}
-use Rattle.rules.proofs.Lists.{clash, set-more}
+use Rattle.rules.proofs.Lists.{clash, either}
 use Rattle.rules.proofs.Signed.{getD-within, kept}
-use Rattle.reckoning.specs.Reckoned.{noneDecoded, lesser, WeightsRead}
+use Rattle.reckoning.specs.Reckoned.{noneDecoded, Decoded, lesser, lowerOne, WeightsPut, WeightsRead, weightLeft, RunLowered}
 use Rattle.reckoning.specs.declared.Delegation.{Delegation as DecodedDelegation}
 
 -- ── lists ──
@@ -70,31 +73,90 @@ module _ (reaches : List ℤ) (at : ℕ) (w : ℤ) (fw : mag w < 32768) where
       both true = refl
       both false = refl
 
--- ── the weights read out ──
-module _ (f : ℕ → Delegation) (ds : List DecodedDelegation) where
-  pub read-none : (ws : List ℤ) → WeightsRead f ds 0 false ws
-  read-none ws = record {
+-- ── the weights put in their places ──
+module _ (f : ℕ → Delegation) (w : ℕ → ℤ) (first : ℕ) (l : List ℤ) where
+  pub put-none : WeightsPut f w first 0 false l l
+  put-none = record {
     each = λ k h. absurd (omega arith);
+    before = λ k h. refl;
     same = λ e k h. absurd (omega arith);
     less = λ e. clash (sym e);
   }
 
-  module _ (k : ℕ) (c : Bool) (ws : List ℤ) (s : WeightsRead f ds k c ws) (room : k < length ws) (v : ℤ) (e : v ≡ getD ds k noneDecoded .weight) where
-    each-on : (j : ℕ) → j < k + 1 → getD (set ws k v) j (pos 0) ≡ getD ds j noneDecoded .weight
-    each-on = set-more (λ j x. x ≡ getD ds j noneDecoded .weight) ws k v (pos 0) room (s .each) e
+  module _ (k : ℕ) (c : Bool) (m : List ℤ) (s : WeightsPut f w first k c l m) (room : first + k < length m) (v : ℤ) (e : v ≡ w k) where
+    each-on : (j : ℕ) → j < k + 1 → getD (set m (first + k) v) (first + j) (pos 0) ≡ w j
+    each-on = below-more (λ j. getD (set m (first + k) v) (first + j) (pos 0) ≡ w j) k
+        (λ j h. getD-set-other m (first + k) (first + j) v (pos 0) (λ q. omega arith) ∙ s .each j h)
+        (getD-set-same m (first + k) v (pos 0) room ∙ e)
+
+    before-on : (j : ℕ) → j < first → getD (set m (first + k) v) j (pos 0) ≡ getD l j (pos 0)
+    before-on j h = getD-set-other m (first + k) j v (pos 0) (λ q. omega arith) ∙ s .before j h
 
     -- the weight at place k is below the one before
-    pub read-less : ltZ v (pos (f k .weight)) ≡ true → WeightsRead f ds (k + 1) true (set ws k v)
-    read-less q = record {
+    pub put-less : ltZ v (pos (f (first + k) .weight)) ≡ true → WeightsPut f w first (k + 1) true l (set m (first + k) v)
+    put-less q = record {
       each = each-on;
+      before = before-on;
       same = λ z. clash z;
-      less = λ z. (k, omega arith, ap (λ (x : ℤ). ltZ x (pos (f k .weight))) (sym e) ∙ q);
+      less = λ z. (k, omega arith, ap (λ (x : ℤ). ltZ x (pos (f (first + k) .weight))) (sym e) ∙ q);
     }
 
     -- or is not
-    pub read-same : ltZ v (pos (f k .weight)) ≡ false → WeightsRead f ds (k + 1) c (set ws k v)
-    read-same q = record {
+    pub put-same : ltZ v (pos (f (first + k) .weight)) ≡ false → WeightsPut f w first (k + 1) c l (set m (first + k) v)
+    put-same q = record {
       each = each-on;
-      same = λ z. below-more (λ j. ltZ (getD ds j noneDecoded .weight) (pos (f j .weight)) ≡ false) k (s .same z) (ap (λ (x : ℤ). ltZ x (pos (f k .weight))) (sym e) ∙ q);
-      less = λ z. let (j, l, r) = s .less z in (j, omega arith, r);
+      before = before-on;
+      same = λ z. below-more (λ j. ltZ (w j) (pos (f (first + j) .weight)) ≡ false) k (s .same z) (ap (λ (x : ℤ). ltZ x (pos (f (first + k) .weight))) (sym e) ∙ q);
+      less = λ z. let (j, h, r) = s .less z in (j, omega arith, r);
     }
+
+-- a run as it was decoded, lowered and read out
+pub run-lowered : (reaches : List ℤ) (f : ℕ → Delegation) (first n : ℕ) (c : Bool) (l m : List ℤ) (ds : List DecodedDelegation) → n ≤ length ds → Decoded (λ k. f (first + k)) n ds
+    → WeightsRead f (map (lowerOne reaches) (take n ds) ++ drop n ds) first n c l m → RunLowered reaches f first n c l m
+run-lowered reaches f first n c l m ds room dec r = record {
+  each = λ k h. r .each k h ∙ at k h;
+  before = r .before;
+  same = λ z k h. ap (λ (x : ℤ). ltZ x (pos (f (first + k) .weight))) (sym (at k h)) ∙ r .same z k h;
+  less = λ z. let (k, h, q) = r .less z in (k, h, ap (λ (x : ℤ). ltZ x (pos (f (first + k) .weight))) (sym (at k h)) ∙ q);
+}
+  where
+    at : (k : ℕ) → k < n → getD (map (lowerOne reaches) (take n ds) ++ drop n ds) k noneDecoded .weight ≡ weightLeft reaches (f (first + k))
+    at k h = ap (λ (d : DecodedDelegation). d .weight) (each-at (lowerOne reaches) noneDecoded ds n k room h ∙ ap (lowerOne reaches) (dec k h))
+
+-- one run after another
+module _ (reaches : List ℤ) (f : ℕ → Delegation) (a n : ℕ) (l m p : List ℤ) where
+  each-then : (c d : Bool) → RunLowered reaches f 0 a c l m → RunLowered reaches f a n d m p → (k : ℕ) → k < a + n → getD p (0 + k) (pos 0) ≡ weightLeft reaches (f (0 + k))
+  each-then c d r s k h = go (either (ltb k a))
+    where
+      go : T (ltb k a) ⊎ T (not (ltb k a)) → getD p (0 + k) (pos 0) ≡ weightLeft reaches (f (0 + k))
+      go (inl q) = rw (zero-add k) (s .before k (ltb→lt k a q) ∙ (rw (zero-add k) at (r .each k (ltb→lt k a q))))
+      go (inr q) =
+          let i : 0 + k ≡ a + (k - a) = omega (arith, nltb→le k a q) in
+          subst (λ (x : ℕ). getD p x (pos 0) ≡ weightLeft reaches (f x)) (sym i) (s .each (k - a) (omega (arith, nltb→le k a q)))
+
+  same-then : (c d : Bool) → RunLowered reaches f 0 a c l m → RunLowered reaches f a n d m p → c ≡ false → d ≡ false → (k : ℕ) → k < a + n → ltZ (weightLeft reaches (f (0 + k))) (pos (f (0 + k) .weight)) ≡ false
+  same-then c d r s x y k h = go (either (ltb k a))
+    where
+      go : T (ltb k a) ⊎ T (not (ltb k a)) → ltZ (weightLeft reaches (f (0 + k))) (pos (f (0 + k) .weight)) ≡ false
+      go (inl q) = r .same x k (ltb→lt k a q)
+      go (inr q) =
+          let i : 0 + k ≡ a + (k - a) = omega (arith, nltb→le k a q) in
+          subst (λ (j : ℕ). ltZ (weightLeft reaches (f j)) (pos (f j .weight)) ≡ false) (sym i) (s .same y (k - a) (omega (arith, nltb→le k a q)))
+
+  pub then-less : (c d : Bool) (t : ℕ) → a + n ≡ t → d ≡ true → RunLowered reaches f 0 a c l m → RunLowered reaches f a n d m p → RunLowered reaches f 0 t true l p
+  then-less c d t e y r s = subst (λ (x : ℕ). RunLowered reaches f 0 x true l p) e record {
+    each = each-then c d r s;
+    before = λ k h. absurd (omega arith);
+    same = λ z. clash z;
+    less = λ z. let (k, h, q) = s .less y in
+        let i : a + k ≡ 0 + (a + k) = omega arith in
+        (a + k, omega arith, subst (λ (j : ℕ). ltZ (weightLeft reaches (f j)) (pos (f j .weight)) ≡ true) i q);
+  }
+
+  pub then-same : (c d : Bool) (t : ℕ) → a + n ≡ t → d ≡ false → RunLowered reaches f 0 a c l m → RunLowered reaches f a n d m p → RunLowered reaches f 0 t c l p
+  then-same c d t e y r s = subst (λ (x : ℕ). RunLowered reaches f 0 x c l p) e record {
+    each = each-then c d r s;
+    before = λ k h. absurd (omega arith);
+    same = λ z. same-then c d r s z y;
+    less = λ z. let (k, h, q) = r .less z in (k, omega arith, q);
+  }

@@ -2,7 +2,7 @@
 use mathlib.Core.Path.{_≡_, refl, sym, ap, subst, _∙_}
 use mathlib.Core.Logic.{_≢_}
 use mathlib.Core.Bool.{Bool, true, false, cond}
-use mathlib.Core.List.{List, [], _∷_, map, _++_, append-assoc, append-nil}
+use mathlib.Core.List.{List, [], _∷_, _++_, append-assoc, append-nil}
 use Prim.Native.Nat.{ℕ, zero, suc, _+_, _≤_, _<_, min}
 use native.Mathlib.Nat.{add-zero, add-suc, suc-add, zero-add}
 use native.Mathlib.Omega.{arith}
@@ -10,7 +10,7 @@ use borrow.Author.Tests.{ltb-true, ltb-false, le-ltb}
 use lib.Dec.{ltb}
 use lib.IntN.{ℤ, pos, negsuc}
 use lib.Signed.{ltZ}
-use lib.ListN.{length, getD, take, drop}
+use lib.ListN.{length, getD}
 use Rattle.rules.specs.List.{_∈_, tabulate, concatMap}
 use Rattle.rules.specs.Limit.{code, _≼_}
 use Rattle.rules.specs.Register.{Delegation, reweigh, withDelegations}
@@ -18,16 +18,13 @@ use Rattle.rules.specs.Support.{allowed}
 use Rattle.rules.specs.Round.{placed, capped, round}
 use Rattle.rules.proofs.Rounds.{round-stays, round-changes}
 use Rattle.rules.proofs.Signed.{getD-within, below-weight}
-use Rattle.block.specs.Layout.{mostRecords}
 use Rattle.block.specs.Bytes.{IsBytes}
 use Rattle.block.specs.Block.{countIn, decode}
 use Rattle.block.specs.WellFormed.{wellFormed}
 use Rattle.block.proofs.Bytes.{tabulate-mem, mem-tabulate}
-use Rattle.block.proofs.Held.{count-most, held-formed, delegations-held}
+use Rattle.block.proofs.Held.{held-formed, delegations-held}
 use Rattle.block.specs.Records.{delegationAt, leftTo}
-use Rattle.reckoning.specs.Reckoned.{reachCount, reachAt, Tabled, noneDecoded, Decoded, lesser, lowerOne, WeightsRead, Reckoned}
-use Rattle.reckoning.specs.declared.Delegation.{Delegation as DecodedDelegation}
-use Rattle.reckoning.proofs.Lowering.{each-at}
+use Rattle.reckoning.specs.Reckoned.{reachCount, reachAt, Tabled, lesser, weightLeft, RunLowered, Reckoned}
 
 -- ── lists ──
 tabulate-last : {A : Type 0} (f : ℕ → A) (i n : ℕ) → tabulate f i (suc n) ≡ tabulate f i n ++ (f (i + n) ∷ [])
@@ -77,8 +74,7 @@ lesser-less l w = go (ltZ l (pos w)) refl
     go false e = below-weight (pos w) w ∙ le-ltb (suc w) (suc w) (omega arith)
 
 -- ── the round ──
-module _ (t : List ℤ) (b : List ℕ) (bytes : IsBytes b) (formed : wellFormed b ≡ true) (reaches : List ℤ) (size : length reaches ≡ reachCount) (tabled : Tabled t (decode b) reaches)
-    (ds : List DecodedDelegation) (all : length ds ≡ mostRecords) (dec : Decoded (delegationAt b) (countIn b) ds) where
+module _ (t : List ℤ) (b : List ℕ) (bytes : IsBytes b) (formed : wellFormed b ≡ true) (reaches : List ℤ) (size : length reaches ≡ reachCount) (tabled : Tabled t (decode b) reaches) where
   member : (k : ℕ) → k < countIn b → delegationAt b k ∈ decode b .delegations
   member k h = subst (λ (ds : List Delegation). delegationAt b k ∈ ds) (sym (delegations-held b bytes formed)) (subst (λ (m : ℕ). delegationAt b m ∈ tabulate (delegationAt b) 0 (countIn b)) (zero-add k) (mem-tabulate (delegationAt b) 0 (countIn b) k h))
 
@@ -89,18 +85,12 @@ module _ (t : List ℤ) (b : List ℕ) (bytes : IsBytes b) (formed : wellFormed 
       let d = f .each (delegationAt b k) (member k h) in
       getD-within reaches (reachAt (delegationAt b k .giver) (delegationAt b k .receiver)) z (pos 0) (omega (arith, size, d .giver, d .receiver, f .most)) ∙ tabled (delegationAt b k) (member k h)
 
-  -- the run that the round leaves
-  abbrev run-left : List DecodedDelegation
-  run-left = map (lowerOne reaches) (take (countIn b) ds) ++ drop (countIn b) ds
+  entry-left : (k : ℕ) → k < countIn b → weightLeft reaches (delegationAt b k) ≡ lesser (allowed t (decode b) (delegationAt b k)) (pos (delegationAt b k .weight))
+  entry-left k h = ap (λ (l : ℤ). lesser l (pos (delegationAt b k .weight))) (counts-for k h (pos (delegationAt b k .weight)))
 
-  entry-left : (k : ℕ) → k < countIn b → getD run-left k noneDecoded .weight ≡ lesser (allowed t (decode b) (delegationAt b k)) (pos (delegationAt b k .weight))
-  entry-left k h =
-      ap (λ (d : DecodedDelegation). d .weight) (each-at (lowerOne reaches) noneDecoded ds (countIn b) k (omega (arith, all, count-most b bytes formed)) h ∙ ap (lowerOne reaches) (dec k h))
-      ∙ ap (λ (l : ℤ). lesser l (pos (delegationAt b k .weight))) (counts-for k h (pos (delegationAt b k .weight)))
-
-  module _ (c : Bool) (after : List ℤ) (left : WeightsRead (delegationAt b) run-left (countIn b) c after) where
+  module _ (c : Bool) (was after : List ℤ) (left : RunLowered reaches (delegationAt b) 0 (countIn b) c was after) where
     weight-left : (k : ℕ) (h : k < countIn b) → getD after k (pos 0) ≡ lesser (allowed t (decode b) (delegationAt b k)) (pos (delegationAt b k .weight))
-    weight-left k h = left .each k h ∙ entry-left k h
+    weight-left k h = subst (λ (j : ℕ). getD after j (pos 0) ≡ weightLeft reaches (delegationAt b j)) (zero-add k) (left .each k h) ∙ entry-left k h
 
     weights-most : (k : ℕ) → k < countIn b → code (getD after k (pos 0)) ≤ 256
     weights-most k h =
@@ -114,7 +104,7 @@ module _ (t : List ℤ) (b : List ℕ) (bytes : IsBytes b) (formed : wellFormed 
         ap (withDelegations (decode b))
         (left-all (delegationAt b) g after (countIn b) (λ k h. ap (placed (delegationAt b k)) (weight-left k h) ∙ placed-lesser (delegationAt b k) (allowed t (decode b) (delegationAt b k))) ∙ ap (concatMap g) (sym (delegations-held b bytes formed)))
 
-    test : (k : ℕ) (h : k < countIn b) → ltZ (getD run-left k noneDecoded .weight) (pos (delegationAt b k .weight)) ≡ ltb (code (allowed t (decode b) (delegationAt b k))) (suc (delegationAt b k .weight))
+    test : (k : ℕ) (h : k < countIn b) → ltZ (weightLeft reaches (delegationAt b k)) (pos (delegationAt b k .weight)) ≡ ltb (code (allowed t (decode b) (delegationAt b k))) (suc (delegationAt b k .weight))
     test k h = ap (λ (z : ℤ). ltZ z (pos (delegationAt b k .weight))) (entry-left k h) ∙ lesser-less (allowed t (decode b) (delegationAt b k)) (delegationAt b k .weight) ∙ below-weight (allowed t (decode b) (delegationAt b k)) (delegationAt b k .weight)
 
     round-same : c ≡ false → round t (decode b) ≡ decode b
@@ -124,11 +114,12 @@ module _ (t : List ℤ) (b : List ℕ) (bytes : IsBytes b) (formed : wellFormed 
         each d m =
             let (k, h, q) = tabulate-mem (delegationAt b) 0 (countIn b) (subst (λ (ds : List Delegation). d ∈ ds) (delegations-held b bytes formed) m) in
             let p = q ∙ ap (delegationAt b) (zero-add k) in
-            subst (λ (x : Delegation). pos (x .weight) ≼ allowed t (decode b) x) (sym p) (ltb-false (code (allowed t (decode b) (delegationAt b k))) (suc (delegationAt b k .weight)) (sym (test k h) ∙ left .same e k h))
+            subst (λ (x : Delegation). pos (x .weight) ≼ allowed t (decode b) x) (sym p) (ltb-false (code (allowed t (decode b) (delegationAt b k))) (suc (delegationAt b k .weight)) (sym (test k h) ∙ subst (λ (j : ℕ). ltZ (weightLeft reaches (delegationAt b j)) (pos (delegationAt b j .weight)) ≡ false) (zero-add k) (left .same e k h)))
 
     round-change : c ≡ true → round t (decode b) ≢ decode b
     round-change e =
-        let (k, h, q) = left .less e in
+        let (k, h, r) = left .less e in
+        let q = subst (λ (j : ℕ). ltZ (weightLeft reaches (delegationAt b j)) (pos (delegationAt b j .weight)) ≡ true) (zero-add k) r in
         let l = ltb-true (code (allowed t (decode b) (delegationAt b k))) (suc (delegationAt b k .weight)) (sym (test k h) ∙ q) in
         round-changes t (decode b) (delegationAt b k) (member k h) (omega arith)
 

@@ -11,12 +11,13 @@ use Rattle.rules.specs.List.{_∈_}
 use Rattle.rules.specs.Limit.{_≼_}
 use Rattle.rules.specs.Register.{Delegation, Register, withDelegations, noDelegation}
 use Rattle.rules.specs.Reach.{reach}
-use Rattle.rules.specs.Pair.{receives}
 use Rattle.rules.specs.Support.{allowed}
 use Rattle.rules.specs.Round.{round}
 use Rattle.block.specs.Layout.{mostSubjects}
 use Rattle.block.specs.Records.{delegationAt, leftTo}
 use Rattle.block.specs.Block.{countIn, decode}
+use Rattle.queue.specs.Queue.{bit}
+use Rattle.search.specs.Named.{MarksIn}
 use Rattle.reckoning.specs.declared.Delegation.{Delegation as DecodedDelegation}
 
 -- how many reaches the table of reaches has: one for each giver and receiver
@@ -27,14 +28,22 @@ reachCount = mostSubjects * mostSubjects
 abbrev pub reachAt : ℕ → ℕ → ℕ
 reachAt g r = mostSubjects * r + g
 
+-- the set has the receiver of each of the first n delegations f
+abbrev pub HasReceivers : (ℕ → Delegation) → ℕ → ℕ → Type 0
+HasReceivers f n set = (k : ℕ) → k < n → bit set (f k .receiver) ≡ 1
+
+-- every mark that a condition of the first n delegations f names is a mark of m
+abbrev pub NamesFirst : (ℕ → Delegation) → ℕ → ℕ → Type 0
+NamesFirst f n m = (k : ℕ) → k < n → MarksIn (f k .need) m × MarksIn (f k .bar) m
+
 -- row r of the table of reaches holds the reach of every giver for the receiver r
 abbrev pub HasRow : List ℤ → Register → ℕ → List ℤ → Type 0
 HasRow t R r l = (u : ℕ) → u < mostSubjects → getD l (reachAt u r) (pos 0) ≡ reach t R u r
 
--- each subject below v that holds a delegation has its row in the table of reaches
-pub record Filled (t : List ℤ) (R : Register) (v : ℕ) (l : List ℤ) : Type 0 where
+-- each subject below v that is in the set has its row in the table of reaches
+pub record Filled (t : List ℤ) (R : Register) (set v : ℕ) (l : List ℤ) : Type 0 where
   pub size : length l ≡ reachCount
-  pub rows : (r : ℕ) → r < v → receives r (R .delegations) ≡ true → HasRow t R r l
+  pub rows : (r : ℕ) → r < v → bit set r ≡ 1 → HasRow t R r l
 
 -- the table of reaches holds what counts for every delegation
 abbrev pub Tabled : List ℤ → Register → List ℤ → Type 0
@@ -62,6 +71,10 @@ decodedAs d = record { giver = d .giver; receiver = d .receiver; weight = pos (d
 abbrev pub noneDecoded : DecodedDelegation
 noneDecoded = decodedAs noDelegation
 
+-- how many delegations are decoded and lowered together
+abbrev pub runSize : ℕ
+runSize = 16
+
 -- the first n of the delegations f, decoded
 abbrev pub Decoded : (ℕ → Delegation) → ℕ → List DecodedDelegation → Type 0
 Decoded f n ds = (k : ℕ) → k < n → getD ds k noneDecoded ≡ decodedAs (f k)
@@ -78,11 +91,24 @@ loweredTo reaches g r w = lesser (getD reaches (reachAt g r) w) w
 abbrev pub lowerOne : List ℤ → DecodedDelegation → DecodedDelegation
 lowerOne reaches d = record { giver = d .giver; receiver = d .receiver; weight = loweredTo reaches (d .giver) (d .receiver) (d .weight); need = d .need; bar = d .bar }
 
--- the weights of the first n of ds; the answer says whether one is below the weight that f has
-pub record WeightsRead (f : ℕ → Delegation) (ds : List DecodedDelegation) (n : ℕ) (changed : Bool) (weights : List ℤ) : Type 0 where
-  pub each : (k : ℕ) → k < n → getD weights k (pos 0) ≡ getD ds k noneDecoded .weight
-  pub same : changed ≡ false → (k : ℕ) → k < n → ltZ (getD ds k noneDecoded .weight) (pos (f k .weight)) ≡ false
-  pub less : changed ≡ true → (k : ℕ) × (k < n) × (ltZ (getD ds k noneDecoded .weight) (pos (f k .weight)) ≡ true)
+-- m is l with the weights w at the n places from `first` on; the answer says whether one is below the weight that f has
+pub record WeightsPut (f : ℕ → Delegation) (w : ℕ → ℤ) (first n : ℕ) (changed : Bool) (l m : List ℤ) : Type 0 where
+  pub each : (k : ℕ) → k < n → getD m (first + k) (pos 0) ≡ w k
+  pub before : (k : ℕ) → k < first → getD m k (pos 0) ≡ getD l k (pos 0)
+  pub same : changed ≡ false → (k : ℕ) → k < n → ltZ (w k) (pos (f (first + k) .weight)) ≡ false
+  pub less : changed ≡ true → (k : ℕ) × (k < n) × (ltZ (w k) (pos (f (first + k) .weight)) ≡ true)
+
+-- the weights of the first n of ds
+abbrev pub WeightsRead : (ℕ → Delegation) → List DecodedDelegation → ℕ → ℕ → Bool → List ℤ → List ℤ → Type 0
+WeightsRead f ds first n changed l m = WeightsPut f (λ k. getD ds k noneDecoded .weight) first n changed l m
+
+-- the weight of a delegation, lowered to its reach
+abbrev pub weightLeft : List ℤ → Delegation → ℤ
+weightLeft reaches d = loweredTo reaches (d .giver) (d .receiver) (pos (d .weight))
+
+-- the weights of the n delegations from `first` on, lowered to their reaches
+abbrev pub RunLowered : List ℤ → (ℕ → Delegation) → ℕ → ℕ → Bool → List ℤ → List ℤ → Type 0
+RunLowered reaches f first n changed l m = WeightsPut f (λ k. weightLeft reaches (f (first + k))) first n changed l m
 
 -- the weights that a round on the block b leaves; the answer says whether one changed
 pub record Reckoned (t : List ℤ) (b : List ℕ) (changed : Bool) (weights : List ℤ) : Type 0 where

@@ -5,8 +5,10 @@ mod reaches;
 ghost use mathlib.Core.Path.{_≡_};
 ghost use lib.ListN.{length};
 ghost use Rattle.block.specs.Layout.{mostRecords};
+ghost use Rattle.queue.specs.Queue.{Empty};
 ghost use Rattle.search.specs.Found.{Searchable};
-ghost use Rattle.reckoning.specs.Reckoned.{Reckoned};
+ghost use Rattle.reckoning.specs.Reckoned.{reachCount, Reckoned};
+pub use reaches::REACHES;
 
 // A decoded delegation; a round lowers the weight of one that it removes to -1.
 struct Delegation {
@@ -18,14 +20,18 @@ struct Delegation {
 }
 
 // The weights that a round leaves, all together, every reach from the block as the round began; whether one changed.
-pub fn reckon(block: &[u8], table: &[i16], weights: &mut [i16]) -> bool
-    requires { ⌜ Searchable (now table) (now block) × (length (now weights) ≡ mostRecords) ⌝ }
-    ensures { λ r. ⌜ Reckoned (now (table .entry)) (now (block .entry)) r (now (weights .exit)) ⌝ }
+// What the table of reaches held before is not read; the queue is lent empty and left empty.
+pub fn reckon(
+    block: &[u8],
+    table: &[i16],
+    reaches: &mut [i16],
+    waiting: &mut [u64],
+    weights: &mut [i16],
+) -> bool
+    requires { ⌜ Searchable (now table) (now block) × (length (now reaches) ≡ reachCount) × Empty (now waiting) × (length (now weights) ≡ mostRecords) ⌝ }
+    ensures { λ r. ⌜ Reckoned (now (table .entry)) (now (block .entry)) r (now (weights .exit)) × Empty (now (waiting .exit)) ⌝ }
 {
-    let mut reaches = [-1i16; reaches::REACHES];
-    reaches::fill_reaches(block, table, &mut reaches);
+    reaches::fill_reaches(block, table, reaches, waiting);
     let n = block::count(block);
-    let ds = lower::decoded(block, n);
-    let left = lower::lowered(ds, n, &reaches);
-    lower::read_weights(block, left, n, weights)
+    lower::lower_all(block, reaches, n, weights)
 }

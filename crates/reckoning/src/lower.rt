@@ -5,9 +5,12 @@ ghost use Prim.Native.Nat.{_+_, _*_, _≤_};
 ghost use lib.ListN.{length, take, drop};
 ghost use Rattle.block.specs.Layout.{mostRecords};
 ghost use Rattle.block.specs.Records.{HasRecord, HasRecords, delegationAt};
-ghost use Rattle.reckoning.specs.Reckoned.{decodedAs, Decoded, loweredTo, lowerOne, WeightsRead};
+ghost use Rattle.reckoning.specs.Reckoned.{runSize, decodedAs, Decoded, loweredTo, lowerOne, WeightsRead, RunLowered};
 use crate::Delegation;
 use block::layout;
+
+// The delegations that are decoded and lowered together.
+const RUN: usize = 16;
 
 // The delegation of record k, decoded.
 fn decoded_at(block: &[u8], k: usize) -> Delegation
@@ -24,10 +27,10 @@ fn decoded_at(block: &[u8], k: usize) -> Delegation
     }
 }
 
-// The delegations of the first `n` records, decoded.
-pub fn decoded(block: &[u8], n: usize) -> [Delegation; layout::MOST_RECORDS]
-    requires { ⌜ HasRecords (now block) n × (n ≤ mostRecords) ⌝ }
-    ensures { λ r. ⌜ Decoded (delegationAt (now (block .entry))) n r ⌝ }
+// The delegations of the `n` records from `first` on, decoded.
+fn decoded(block: &[u8], first: usize, n: usize) -> [Delegation; RUN]
+    requires { ⌜ HasRecords (now block) (first + n) × (first + n ≤ mostRecords) × (n ≤ runSize) ⌝ }
+    ensures { λ r. ⌜ Decoded (λ k. delegationAt (now (block .entry)) (first + k)) n r ⌝ }
 {
     let none = Delegation {
         giver: 0,
@@ -36,10 +39,10 @@ pub fn decoded(block: &[u8], n: usize) -> [Delegation; layout::MOST_RECORDS]
         need: 0,
         bar: 0,
     };
-    let mut ds = [none; layout::MOST_RECORDS];
+    let mut ds = [none; RUN];
     let mut k: usize = 0;
     while k < n {
-        let d = decoded_at(block, k);
+        let d = decoded_at(block, first + k);
         ds[k] = d;
         k += 1;
     }
@@ -73,13 +76,9 @@ fn lower(ds: &mut [Delegation], reaches: &[i16])
     }
 }
 
-// The first `n` delegations of a table, lent as a run and lowered.
-pub fn lowered(
-    ds: [Delegation; layout::MOST_RECORDS],
-    n: usize,
-    reaches: &[i16],
-) -> [Delegation; layout::MOST_RECORDS]
-    requires { ⌜ n ≤ mostRecords ⌝ }
+// The first `n` delegations of an array, lent as a run and lowered.
+fn lowered(ds: [Delegation; RUN], n: usize, reaches: &[i16]) -> [Delegation; RUN]
+    requires { ⌜ n ≤ runSize ⌝ }
     ensures { λ r. ⌜ r ≡ map (lowerOne (now (reaches .entry))) (take n ds) ++ drop n ds ⌝ }
 {
     let mut run = ds;
@@ -87,26 +86,56 @@ pub fn lowered(
     run
 }
 
-// The weights of the first `n` delegations; whether one is below the weight that its record has.
-pub fn read_weights(
+// The weights of `n` delegations, stored from the place `first` on; whether one is below the weight that its record has.
+fn read_weights(
     block: &[u8],
-    ds: [Delegation; layout::MOST_RECORDS],
+    ds: [Delegation; RUN],
+    first: usize,
     n: usize,
     weights: &mut [i16],
 ) -> bool
-    requires { ⌜ HasRecords (now block) n × (n ≤ mostRecords) × (length (now weights) ≡ mostRecords) ⌝ }
-    ensures { λ r. ⌜ WeightsRead (delegationAt (now (block .entry))) ds n r (now (weights .exit)) ⌝ }
+    requires { ⌜ HasRecords (now block) (first + n) × (first + n ≤ mostRecords) × (n ≤ runSize) × (length (now weights) ≡ mostRecords) ⌝ }
+    ensures { λ r. ⌜ WeightsRead (delegationAt (now (block .entry))) ds first n r (now (weights .entry)) (now (weights .exit)) ⌝ }
 {
     let mut changed = false;
     let mut k: usize = 0;
     while k < n {
         let d = ds[k];
         let weight = d.weight;
-        weights[k] = weight;
-        if weight < block::weight(block, k) as i16 {
+        weights[first + k] = weight;
+        if weight < block::weight(block, first + k) as i16 {
             changed = true;
         }
         k += 1;
+    }
+    changed
+}
+
+// The weights of the `n` delegations from the place `first` on, lowered to their reaches; whether one was.
+fn lower_run(block: &[u8], reaches: &[i16], first: usize, n: usize, weights: &mut [i16]) -> bool
+    requires { ⌜ HasRecords (now block) (first + n) × (first + n ≤ mostRecords) × (n ≤ runSize) × (length (now weights) ≡ mostRecords) ⌝ }
+    ensures { λ r. ⌜ RunLowered (now (reaches .entry)) (delegationAt (now (block .entry))) first n r (now (weights .entry)) (now (weights .exit)) ⌝ }
+{
+    let ds = decoded(block, first, n);
+    let left = lowered(ds, n, reaches);
+    read_weights(block, left, first, n, weights)
+}
+
+// The weights of the first `n` delegations, lowered to their reaches, run by run; whether one was.
+pub fn lower_all(block: &[u8], reaches: &[i16], n: usize, weights: &mut [i16]) -> bool
+    requires { ⌜ HasRecords (now block) n × (n ≤ mostRecords) × (length (now weights) ≡ mostRecords) ⌝ }
+    ensures { λ r. ⌜ RunLowered (now (reaches .entry)) (delegationAt (now (block .entry))) 0 n r (now (weights .entry)) (now (weights .exit)) ⌝ }
+{
+    let mut changed = false;
+    let mut k: usize = 0;
+    while RUN <= n - k {
+        if lower_run(block, reaches, k, RUN, weights) {
+            changed = true;
+        }
+        k += RUN;
+    }
+    if lower_run(block, reaches, k, n - k, weights) {
+        changed = true;
     }
     changed
 }

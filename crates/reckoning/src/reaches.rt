@@ -1,30 +1,70 @@
 // The table of reaches, by receiver and giver.
 ghost use mathlib.Core.Path.{_≡_};
-ghost use Prim.Native.Nat.{_*_, _<_};
+ghost use Prim.Native.Nat.{ℕ, _*_, _<_};
 ghost use lib.ListN.{length};
 ghost use Rattle.block.specs.Layout.{mostSubjects};
 ghost use Rattle.block.specs.Block.{subjectsIn, decode};
+ghost use Rattle.block.specs.Records.{HasRecords, delegationAt};
+ghost use Rattle.queue.specs.Queue.{setBits, Empty};
 ghost use Rattle.search.specs.Found.{Searchable, Prepared};
-ghost use Rattle.reckoning.specs.Reckoned.{reachCount, Filled, Tabled, PlacesCopied, RowMade};
+ghost use Rattle.search.specs.Named.{Names};
+ghost use Rattle.reckoning.specs.Reckoned.{reachCount, HasReceivers, NamesFirst, Filled, Tabled, PlacesCopied, RowMade};
 use block::layout;
 
 // A reach for each giver and receiver.
 pub const REACHES: usize = layout::SUBJECTS * layout::SUBJECTS;
 
+// The receivers of the first `n` delegations, in the bits of a number.
+fn receivers(block: &[u8], n: usize) -> u64
+    requires { ⌜ HasRecords (now block) n × ((k : ℕ) → k < n → delegationAt (now block) k .receiver < setBits) ⌝ }
+    ensures { λ r. ⌜ HasReceivers (delegationAt (now (block .entry))) n r ⌝ }
+{
+    let mut set: u64 = 0;
+    let mut k: usize = 0;
+    while k < n {
+        let receiver = block::receiver(block, k) as usize;
+        set = set | (1u64 << receiver);
+        k += 1;
+    }
+    set
+}
+
+// The marks that some condition of the first `n` delegations names.
+fn named_marks(block: &[u8], n: usize) -> u16
+    requires { ⌜ HasRecords (now block) n ⌝ }
+    ensures { λ r. ⌜ NamesFirst (delegationAt (now (block .entry))) n r ⌝ }
+{
+    let mut named: u16 = 0;
+    let mut k: usize = 0;
+    while k < n {
+        named = named | block::need(block, k) | block::bar(block, k);
+        k += 1;
+    }
+    named
+}
+
 // The row of one receiver, by a search.
-fn search_row(block: &[u8], starts: &[u16], table: &[i16], receiver: usize, reaches: &mut [i16])
-    requires { ⌜ Prepared (now table) (now block) (now starts) × (receiver < subjectsIn (now block)) × (length (now reaches) ≡ reachCount) ⌝ }
-    ensures { λ _. ⌜ RowMade (now (table .entry)) (decode (now (block .entry))) receiver (now (reaches .entry)) (now (reaches .exit)) ⌝ }
+fn search_row(
+    block: &[u8],
+    starts: &[u16],
+    table: &[i16],
+    receiver: usize,
+    reaches: &mut [i16],
+    waiting: &mut [u64],
+)
+    requires { ⌜ Prepared (now table) (now block) (now starts) × (receiver < subjectsIn (now block)) × (length (now reaches) ≡ reachCount) × Empty (now waiting) ⌝ }
+    ensures { λ _. ⌜ RowMade (now (table .entry)) (decode (now (block .entry))) receiver (now (reaches .entry)) (now (reaches .exit)) × Empty (now (waiting .exit)) ⌝ }
 {
     let mut parents = [0u16; layout::SUBJECTS];
     let at = layout::SUBJECTS * receiver;
-    search::limits_for(
+    search::limits_by(
         block,
         starts,
         table,
         receiver,
         &mut reaches[at..at + layout::SUBJECTS],
         &mut parents,
+        waiting,
     );
 }
 
@@ -41,37 +81,56 @@ fn copy_row(reaches: &mut [i16], from: usize, to: usize)
     }
 }
 
-// The row of one receiver: a copy of the row of the last one of the same marks before it, as a reach looks at nothing else of its receiver; by a search if there is none.
-fn fill_row(block: &[u8], starts: &[u16], table: &[i16], receiver: u8, reaches: &mut [i16])
-    requires { ⌜ Prepared (now table) (now block) (now starts) × (receiver < subjectsIn (now block)) × Filled (now table) (decode (now block)) receiver (now reaches) ⌝ }
-    ensures { λ _. ⌜ RowMade (now (table .entry)) (decode (now (block .entry))) receiver (now (reaches .entry)) (now (reaches .exit)) ⌝ }
+// The row of one receiver: a copy of the row of the last one before it whose marks agree with its own on all that are named, as a reach looks at nothing else of its receiver; by a search if there is none.
+fn fill_row(
+    block: &[u8],
+    starts: &[u16],
+    table: &[i16],
+    named: u16,
+    set: u64,
+    receiver: usize,
+    reaches: &mut [i16],
+    waiting: &mut [u64],
+)
+    requires { ⌜ Prepared (now table) (now block) (now starts) × Names named ((decode (now block)) .delegations) × (receiver < subjectsIn (now block)) × Filled (now table) (decode (now block)) set receiver (now reaches) × Empty (now waiting) ⌝ }
+    ensures { λ _. ⌜ RowMade (now (table .entry)) (decode (now (block .entry))) receiver (now (reaches .entry)) (now (reaches .exit)) × Empty (now (waiting .exit)) ⌝ }
 {
-    let records = block::count(block);
-    let marks = block::marks(block, receiver as usize);
+    let marks = block::marks(block, receiver) & named;
     let mut other = receiver;
     while other > 0 {
         other -= 1;
-        if block::marks(block, other as usize) == marks && block::receives(block, records, other) {
-            copy_row(reaches, other as usize, receiver as usize);
+        if (set >> other) % 2 == 1 && (block::marks(block, other) & named) == marks {
+            copy_row(reaches, other, receiver);
             return;
         }
     }
-    search_row(block, starts, table, receiver as usize, reaches);
+    search_row(block, starts, table, receiver, reaches, waiting);
 }
 
-// The rows of all receivers that hold a delegation: one search for those of the same marks.
-pub fn fill_reaches(block: &[u8], table: &[i16], reaches: &mut [i16])
-    requires { ⌜ Searchable (now table) (now block) × (length (now reaches) ≡ reachCount) ⌝ }
-    ensures { λ _. ⌜ Tabled (now (table .entry)) (decode (now (block .entry))) (now (reaches .exit)) ⌝ }
+// The rows of all receivers that hold a delegation: one search for those whose marks agree on all that are named.
+pub fn fill_reaches(block: &[u8], table: &[i16], reaches: &mut [i16], waiting: &mut [u64])
+    requires { ⌜ Searchable (now table) (now block) × (length (now reaches) ≡ reachCount) × Empty (now waiting) ⌝ }
+    ensures { λ _. ⌜ Tabled (now (table .entry)) (decode (now (block .entry))) (now (reaches .exit)) × Empty (now (waiting .exit)) ⌝ }
 {
-    let n = block::subjects(block);
+    let n = block::subjects(block) as usize;
     let records = block::count(block);
+    let set = receivers(block, records);
+    let named = named_marks(block, records);
     let mut starts = [0u16; runs::STARTS];
     search::starts_of(block, &mut starts);
-    let mut receiver: u8 = 0;
+    let mut receiver: usize = 0;
     while receiver < n {
-        if block::receives(block, records, receiver) {
-            fill_row(block, &starts, table, receiver, reaches);
+        if (set >> receiver) % 2 == 1 {
+            fill_row(
+                block,
+                &starts,
+                table,
+                named,
+                set,
+                receiver,
+                reaches,
+                waiting,
+            );
         }
         receiver += 1;
     }

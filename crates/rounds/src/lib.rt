@@ -3,9 +3,13 @@ mod counted;
 
 ghost use mathlib.Core.Path.{_≡_};
 ghost use mathlib.Core.Bool.{true};
+ghost use lib.ListN.{length};
 ghost use Rattle.rules.specs.Table.{TableRule};
+ghost use Rattle.block.specs.Layout.{mostRecords};
 ghost use Rattle.block.specs.Block.{decode};
 ghost use Rattle.block.specs.WellFormed.{wellFormed};
+ghost use Rattle.queue.specs.Queue.{Empty};
+ghost use Rattle.reckoning.specs.Reckoned.{reachCount};
 ghost use Rattle.rounds.specs.Rounded.{RoundMade};
 ghost use Rattle.rounds.specs.Settled.{SettledMade};
 use block::layout;
@@ -23,16 +27,21 @@ pub struct Tally {
     pub rounds: u32,
 }
 
-// One round; whether it changed something.
-fn round(block: &mut [u8], table: &[i16]) -> bool
-    requires { ⌜ (wellFormed (now block) ≡ true) × TableRule (now table) ⌝ }
-    ensures { λ r. ⌜ RoundMade (now (table .entry)) (decode (now (block .entry))) r (now (block .exit)) ⌝ }
+// One round; whether it changed something. What the lent tables held before is not read; the queue is lent empty and left empty.
+fn round(
+    block: &mut [u8],
+    table: &[i16],
+    reaches: &mut [i16],
+    waiting: &mut [u64],
+    weights: &mut [i16],
+) -> bool
+    requires { ⌜ (wellFormed (now block) ≡ true) × TableRule (now table) × (length (now reaches) ≡ reachCount) × Empty (now waiting) × (length (now weights) ≡ mostRecords) ⌝ }
+    ensures { λ r. ⌜ RoundMade (now (table .entry)) (decode (now (block .entry))) r (now (block .exit)) × Empty (now (waiting .exit)) ⌝ }
 {
-    let mut weights = [0i16; layout::MOST_RECORDS];
-    if !reckoning::reckon(block, table, &mut weights) {
+    if !reckoning::reckon(block, table, reaches, waiting, weights) {
         return false;
     }
-    change::write_left(block, &weights);
+    change::write_left(block, weights);
     true
 }
 
@@ -43,8 +52,11 @@ pub fn settled(block: &mut [u8], table: &[i16]) -> Tally
 {
     let mut before = [0u8; layout::BLOCK_SIZE];
     change::copy(block, &mut before);
+    let mut reaches = [0i16; reckoning::REACHES];
+    let mut waiting = [0u64; queue::LEVELS];
+    let mut weights = [0i16; layout::MOST_RECORDS];
     let mut changed: u32 = 0;
-    while round(block, table) {
+    while round(block, table, &mut reaches, &mut waiting, &mut weights) {
         changed += 1;
     }
     let counts = counted::counts(&before, block);

@@ -15,7 +15,7 @@ use Rattle.rules.specs.Register.{Delegation}
 use Rattle.rules.proofs.Lists.{either}
 use Rattle.block.specs.Layout.{mostSubjects, mostRecords, recordSize}
 use Rattle.runs.specs.Lent.{recordCount, recordAt, Lent}
-use Rattle.runs.specs.Steps.{SteppedTo, Sought, Indexed, part, Gave}
+use Rattle.runs.specs.Steps.{SteppedTo, Sought, startCount, Ended, Indexed, part, Gave}
 use Rattle.runs.proofs.Records.{record-part, delegation-mem}
 
 module _ (s : List ℕ) (a e : ℕ) (h : a ≤ e) (l : e ≤ recordCount s) where
@@ -28,6 +28,18 @@ module _ (s : List ℕ) (a e : ℕ) (h : a ≤ e) (l : e ≤ recordCount s) wher
   part-receivers t lent k b =
       let c : a + k < recordCount s = omega (arith, part-count) in
       subst (λ (d : Delegation). d .receiver < mostSubjects) (sym (record-part s a (recordSize * e - recordSize * a) k (omega (arith, part-count)))) (lent .receivers (recordAt s (a + k)) (delegation-mem s (recordCount s) (a + k) c))
+
+-- where no record is left, every later run starts at the end
+pub ended : (s l m : List ℕ) (from end : ℕ) → end ≡ recordCount s → Sought s from end → ((g : ℕ) → g < from → Sought s g (getD l g 0)) → Ended from end l m → (g : ℕ) → g < startCount → Sought s g (getD m g 0)
+ended s l m from end all found begun e g h = go (either (ltb g from))
+  where
+    go : T (ltb g from) ⊎ T (not (ltb g from)) → Sought s g (getD m g 0)
+    go (inl q) = subst (Sought s g) (sym (e .before g (ltb→lt g from q))) (begun g (ltb→lt g from q))
+    go (inr q) = subst (Sought s g) (sym (e .rest g (nltb→le g from q) h)) record {
+      within = found .within;
+      below = λ k b. omega (arith, found .below k b, nltb→le g from q);
+      above = λ k a b. absurd (omega arith);
+    }
 
 -- a run does not end before it starts
 run-order : (s : List ℕ) (giver a e : ℕ) → Sought s giver a → Sought s (giver + 1) e → a ≤ e

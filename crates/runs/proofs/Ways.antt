@@ -19,20 +19,20 @@ use Rattle.rules.specs.Register.{Delegation}
 use Rattle.rules.specs.Condition.{meets}
 use Rattle.rules.proofs.Lists.{eqOr, yes, no}
 use Rattle.rules.proofs.Limits.{next-top}
-use Rattle.queue.specs.Queue.{levels, BitSet, Lowest}
+use Rattle.queue.specs.Queue.{levels, BitSet, Covered}
 use Rattle.runs.specs.Steps.{Stepped, Waiting}
 use Rattle.rules.proofs.Signed.{kept, more, read-limit, live-natural}
 
-module _ (t : List ℤ) (d : Delegation) (place : ℕ) (limit : ℤ) (marks : ℕ) (l : List ℤ) (p q : List ℕ) (low need bar : ℕ) (m : Bool)
-    (en : need ≡ d .need) (eb : bar ≡ d .bar) (em : m ≡ meets marks need bar) (w : Waiting l q low) where
+module _ (t : List ℤ) (d : Delegation) (place : ℕ) (limit : ℤ) (marks : ℕ) (l : List ℤ) (p q : List ℕ) (summary need bar : ℕ) (m : Bool)
+    (en : need ≡ d .need) (eb : bar ≡ d .bar) (em : m ≡ meets marks need bar) (w : Waiting l q summary) where
   -- what the step makes of the limits, parents and queue
   abbrev Made : List ℤ → List ℕ → List ℕ → ℕ → Type 0
-  Made l′ p′ q′ low′ = Stepped t limit marks d place l p q l′ p′ q′ × Waiting l′ q′ low′
+  Made l′ p′ q′ summary′ = Stepped t limit marks d place l p q l′ p′ q′ × Waiting l′ q′ summary′
 
   met : m ≡ meets marks (d .need) (d .bar)
   met = em ∙ (λ i. meets marks (en i) (eb i))
 
-  pub step-unmet : m ≡ false → Made l p q low
+  pub step-unmet : m ≡ false → Made l p q summary
   step-unmet f = (inl ((λ k. no f (subst T (sym met) (k .0))), refl, refl, refl), w)
 
   module _ (who weight : ℕ) (er : who ≡ d .receiver) (ew : weight ≡ d .weight) (given : ℤ) (f : SFits w16 limit) (h : who < length l) (b : mag (getD l who (pos 0)) < 32768)
@@ -43,7 +43,7 @@ module _ (t : List ℤ) (d : Delegation) (place : ℕ) (limit : ℤ) (marks : �
     test : ltZ (kept (getD l who (pos 0))) (kept given) ≡ ltZ (getD l (d .receiver) none) (next t limit (d .weight))
     test = (λ i. ltZ (read-limit l who h b i) (gives i)) ∙ ap (λ (x : ℕ). ltZ (getD l x none) (next t limit (d .weight))) er
 
-    pub step-not-raised : ltZ (kept (getD l who (pos 0))) (kept given) ≡ false → Made l p q low
+    pub step-not-raised : ltZ (kept (getD l who (pos 0))) (kept given) ≡ false → Made l p q summary
     step-not-raised k = (inl ((λ r. no k (subst T (sym test) (r .1))), refl, refl, refl), w)
 
     module _ (k : ltZ (kept (getD l who (pos 0))) (kept given) ≡ true) where
@@ -55,10 +55,10 @@ module _ (t : List ℤ) (d : Delegation) (place : ℕ) (limit : ℤ) (marks : �
       pub given-level : TableRule t → limit ≼ pos 255 → T (nonNeg (kept given)) × (natAbs (kept given) < levels)
       given-level rule small = live-natural (kept given) given-live (subst (λ (z : ℤ). z ≼ pos 255) (sym gives) (next-top t rule limit (d .weight) small))
 
-      pub step-raised : m ≡ true → (q′ : List ℕ) (low′ : ℕ) → BitSet q (natAbs (kept given)) who 1 q′ → Lowest q′ low′ → Made (set l who (kept given)) (set p who place) q′ low′
-      step-raised y q′ low′ put lowest = (
+      pub step-raised : m ≡ true → (q′ : List ℕ) (summary′ : ℕ) → BitSet q (natAbs (kept given)) who 1 q′ → Covered q′ summary′ → Made (set l who (kept given)) (set p who place) q′ summary′
+      step-raised y q′ summary′ put covered = (
         inr ((subst T met (yes y), subst T test (yes k)), (λ i. set l (er i) (gives i)), (λ i. set p (er i) place), subst (λ (z : ℤ). BitSet q (natAbs z) (d .receiver) 1 q′) gives (subst (λ (x : ℕ). BitSet q (natAbs (kept given)) x 1 q′) er put)),
-        record { queue = record { size = put .size ∙ w .queue .size; lowest = lowest }; limits = λ y. go y (eqOr who y) },
+        record { queue = record { size = put .size ∙ w .queue .size; covered = covered }; limits = λ y. go y (eqOr who y) },
       )
         where
           go : (y : ℕ) → (who ≡ y) ⊎ (who ≢ y) → (getD (set l who (kept given)) y none ≡ none) ⊎ (pos 0 ≼ getD (set l who (kept given)) y none)

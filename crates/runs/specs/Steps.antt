@@ -46,6 +46,11 @@ pub record Starts (s starts : List ℕ) : Type 0 where
   pub size : length starts ≡ startCount
   pub each : (g : ℕ) → g < startCount → Sought s g (getD starts g 0)
 
+-- m is the starts l with those from the giver `from` on at the place `end`
+pub record Ended (from end : ℕ) (l m : List ℕ) : Type 0 where
+  pub before : (g : ℕ) → g < from → getD m g 0 ≡ getD l g 0
+  pub rest : (g : ℕ) → from ≤ g → g < startCount → getD m g 0 ≡ end
+
 -- what is lent to a search, and where the run of each giver starts
 pub record Indexed (t : List ℤ) (s places : List ℕ) : Type 0 where
   pub lent : Lent t s (recordCount s)
@@ -66,13 +71,13 @@ pub record Gave (t : List ℤ) (s : List ℕ) (marks giver : ℕ) (l : List ℤ)
   pub after : (k : ℕ) → past ≤ k → k < recordCount s → giver < recordAt s k .giver
   pub stepped : SteppedTo t (getD l giver none) marks (part s first past) first l p q (past - first) l′ p′ q′
 
--- what holds between two records: each subject has no limit or one from 0 on, and none waits below level `low`
-pub record Waiting (l : List ℤ) (q : List ℕ) (low : ℕ) : Type 0 where
-  pub queue : IsQueue q low
+-- what holds between two records: each subject has no limit or one from 0 on, and the summary covers the queue
+pub record Waiting (l : List ℤ) (q : List ℕ) (summary : ℕ) : Type 0 where
+  pub queue : IsQueue q summary
   pub limits : (y : ℕ) → (getD l y none ≡ none) ⊎ (pos 0 ≼ getD l y none)
 
 -- the limit of a giver, and the lists that its records change
-pub record Ready (limit : ℤ) (l : List ℤ) (p q : List ℕ) (low : ℕ) : Type 0 where
+pub record Ready (limit : ℤ) (l : List ℤ) (p q : List ℕ) (summary : ℕ) : Type 0 where
   pub most : limit ≼ pos 255
   pub lists : SubjectLists l p
-  pub waiting : Waiting l q low
+  pub waiting : Waiting l q summary

@@ -8,7 +8,7 @@ ghost use Rattle.rules.specs.WellFormed.{Rising};
 ghost use Rattle.block.specs.Layout.{mostSubjects, mostRecords};
 ghost use Rattle.block.specs.Block.{delegationIn};
 ghost use Rattle.runs.specs.Lent.{recordCount, recordAt, delegationsIn, RunLent, RecordLent};
-ghost use Rattle.runs.specs.Steps.{Stepped, SteppedTo, Sought, startCount, Starts, Indexed, Gave, Waiting, Ready};
+ghost use Rattle.runs.specs.Steps.{Stepped, SteppedTo, Sought, startCount, Starts, Ended, Indexed, Gave, Waiting, Ready};
 use block::layout;
 
 // A start for each giver, and the end of the last run.
@@ -25,9 +25,9 @@ fn relax_at(
     limits: &mut [i16],
     parents: &mut [u16],
     waiting: &mut [u64],
-    low: usize,
-) -> usize
-    requires { ⌜ TableRule (now table) × RecordLent (now run) at place × Ready limit (now limits) (now parents) (now waiting) low ⌝ }
+    summary: u64,
+) -> u64
+    requires { ⌜ TableRule (now table) × RecordLent (now run) at place × Ready limit (now limits) (now parents) (now waiting) summary ⌝ }
     ensures { λ r. ⌜ Stepped (now (table .entry)) limit marks (delegationIn (drop at (now (run .entry)))) place (now (limits .entry)) (now (parents .entry)) (now (waiting .entry)) (now (limits .exit)) (now (parents .exit)) (now (waiting .exit)) × Waiting (now (limits .exit)) (now (waiting .exit)) r ⌝ }
 {
     let need = block::read_two(run, at + layout::NEED);
@@ -38,10 +38,10 @@ fn relax_at(
         if limits[receiver] < given {
             limits[receiver] = given;
             parents[receiver] = place as u16;
-            return queue::join(waiting, given as usize, receiver, low);
+            return queue::join(waiting, given as usize, receiver, summary);
         }
     }
-    low
+    summary
 }
 
 // A run of records, from a giver of this limit; the first of them is at the place `first`.
@@ -54,16 +54,16 @@ fn relax_run(
     limits: &mut [i16],
     parents: &mut [u16],
     waiting: &mut [u64],
-    low: usize,
-) -> usize
-    requires { ⌜ TableRule (now table) × RunLent (now run) first × Ready limit (now limits) (now parents) (now waiting) low ⌝ }
+    summary: u64,
+) -> u64
+    requires { ⌜ TableRule (now table) × RunLent (now run) first × Ready limit (now limits) (now parents) (now waiting) summary ⌝ }
     ensures { λ r. ⌜ SteppedTo (now (table .entry)) limit marks (now (run .entry)) first (now (limits .entry)) (now (parents .entry)) (now (waiting .entry)) (recordCount (now (run .entry))) (now (limits .exit)) (now (parents .exit)) (now (waiting .exit)) × Waiting (now (limits .exit)) (now (waiting .exit)) r ⌝ }
 {
     let n = run.len() / layout::RECORD_SIZE;
-    let mut lowest = low;
+    let mut groups = summary;
     let mut k: usize = 0;
     while k < n {
-        lowest = relax_at(
+        groups = relax_at(
             run,
             layout::RECORD_SIZE * k,
             first + k,
@@ -73,11 +73,11 @@ fn relax_run(
             limits,
             parents,
             waiting,
-            lowest,
+            groups,
         );
         k += 1;
     }
-    lowest
+    groups
 }
 
 // The place of the first record whose giver is not below `bound`, sought from `low` on.
@@ -97,15 +97,32 @@ fn seek(records: &[u8], low: usize, bound: usize) -> usize
     k
 }
 
-// Where the run of each giver starts, in one pass: each is sought from the one before it.
+// The starts from the giver `from` on, all at one place.
+fn fill_end(starts: &mut [u16], from: usize, end: u16)
+    requires { ⌜ (length (now starts) ≡ startCount) × (from ≤ startCount) ⌝ }
+    ensures { λ _. ⌜ Ended from end (now (starts .entry)) (now (starts .exit)) ⌝ }
+{
+    let mut giver = from;
+    while giver < STARTS {
+        starts[giver] = end;
+        giver += 1;
+    }
+}
+
+// Where the run of each giver starts, in one pass: each is sought from the one before it, until no record is left.
 pub fn fill_starts(records: &[u8], starts: &mut [u16])
     requires { ⌜ (recordCount (now records) ≤ mostRecords) × Rising (delegationsIn (now records)) × (length (now starts) ≡ startCount) ⌝ }
     ensures { λ _. ⌜ Starts (now (records .entry)) (now (starts .exit)) ⌝ }
 {
+    let n = records.len() / layout::RECORD_SIZE;
     let mut k: usize = 0;
     let mut giver: usize = 0;
     while giver < STARTS {
         k = seek(records, k, giver);
+        if k == n {
+            fill_end(starts, giver, k as u16);
+            return;
+        }
         starts[giver] = k as u16;
         giver += 1;
     }
@@ -121,9 +138,9 @@ pub fn relax_giver(
     limits: &mut [i16],
     parents: &mut [u16],
     waiting: &mut [u64],
-    low: usize,
-) -> usize
-    requires { ⌜ Indexed (now table) (now records) (now starts) × (giver < mostSubjects) × Ready (getD (now limits) giver none) (now limits) (now parents) (now waiting) low ⌝ }
+    summary: u64,
+) -> u64
+    requires { ⌜ Indexed (now table) (now records) (now starts) × (giver < mostSubjects) × Ready (getD (now limits) giver none) (now limits) (now parents) (now waiting) summary ⌝ }
     ensures { λ r. ⌜ Gave (now (table .entry)) (now (records .entry)) marks giver (now (limits .entry)) (now (parents .entry)) (now (waiting .entry)) (now (limits .exit)) (now (parents .exit)) (now (waiting .exit)) × Waiting (now (limits .exit)) (now (waiting .exit)) r ⌝ }
 {
     let a = starts[giver] as usize;
@@ -138,6 +155,6 @@ pub fn relax_giver(
         limits,
         parents,
         waiting,
-        low,
+        summary,
     )
 }

@@ -2,3 +2,4 @@ pub mod Fill
 pub mod State
 pub mod Whole
 pub mod Searching
+pub mod Sharing

@@ -49,11 +49,12 @@ settled-same l l′ q q′ u e w = ap (λ (z : ℤ). settledAt q′ u (code z)) 
     go zero w = refl
     go (suc z) w = ap (λ (x : ℕ). eqb x 0) (w z refl)
 
--- no open subject has a limit of `past` or more
+-- no open subject has a limit of `past` or more, and none waits from level `past` on
 pub record State (t : List ℤ) (s : List ℕ) (marks : ℕ) (settled : ℕ → Bool) (past : ℕ) (l : List ℤ) (p q : List ℕ) (pending : List Delegation) : Type 0 where
   pub limits : length l ≡ mostSubjects
   pub parents : length p ≡ mostSubjects
   pub most : (u : ℕ) → T (not (settled u)) → code (limitOf l u) ≤ past
+  pub above : (x u : ℕ) → past ≤ x → waits q x u ≡ 0
   pub same : (u : ℕ) → settled u ≡ isSettled l q u
   pub among : 0 < recordCount s → ParentsAmong p (recordCount s)
   pub search : Search t (underMarks (delegationsIn s) marks) 0 (limitOf l) settled (parentIn (delegationsIn s) p) pending
@@ -96,6 +97,7 @@ module _ (t : List ℤ) (rule : TableRule t) (s : List ℕ) (marks : ℕ) (settl
           limits = now .0 .limits;
           parents = now .0 .parents;
           most = now .0 .most;
+          above = now .0 .above;
           same = now .0 .same;
           among = now .0 .among;
           search = search-skip t rule (underMarks (delegationsIn s) marks) 0 (limitOf l) settled (parentIn (delegationsIn s) p) d rest (now .0 .search)
@@ -152,6 +154,7 @@ module _ (t : List ℤ) (rule : TableRule t) (s : List ℕ) (marks : ℕ) (settl
             limits = simp length-set (now .0 .limits);
             parents = simp length-set (now .0 .parents);
             most = λ y o. most y o (eqOr (d .receiver) y);
+            above = λ x y b. put .others x y (inl (λ e. omega (arith, b, below, level, ap code at, code-live given (omega arith)))) ∙ now .0 .above x y b;
             same = λ y. same q′ put y (eqOr (d .receiver) y);
             among = λ z y b. place (eqOr (d .receiver) y) (now .0 .among z y b);
             search = search-raise t rule (underMarks (delegationsIn s) marks) 0 (limitOf l) (limitOf l′) settled (parentIn (delegationsIn s) p)

@@ -24,12 +24,12 @@ use Rattle.block.specs.Layout.{mostSubjects}
 use Rattle.search.specs.Search.{underMarks, parentIn, mostLinks, Started}
 use Rattle.runs.specs.Lent.{recordCount, recordAt, Lent, SubjectLists, delegationsIn}
 use Rattle.runs.specs.Steps.{Gave, Waiting}
-use Rattle.queue.specs.Queue.{levels, setBits, waits, BitSet, Lowest}
+use Rattle.queue.specs.Queue.{levels, setBits, waits, BitSet, Covered, Empty, Skipped}
 use Rattle.search.specs.Found.{Searched}
 use Rattle.runs.proofs.Records.{delegation-mem, mem-delegation}
 use Rattle.search.proofs.State.{limitOf, settledAt, isSettled, settled-same, State, state-limit, state-top, ran}
 use Rattle.rules.proofs.Signed.{code-pos}
-use Rattle.queue.proofs.Buckets.{left, left-same, left-falls, members, members-few, members-fall, lowest-put}
+use Rattle.queue.proofs.Buckets.{left, left-same, left-falls, members, members-few, members-fall, covered-take}
 
 -- how many subjects are open
 abbrev pub unsettled : List ℤ → List ℕ → ℕ
@@ -39,16 +39,16 @@ unsettled l q = left (isSettled l q) mostSubjects
 abbrev pub measure : List ℤ → List ℕ → ℕ → ℕ
 measure l q past = suc setBits * suc levels * unsettled l q + suc setBits * past + members (getD q (past - 1) 0)
 
--- a subject taken from a level that is not below the lowest
-pub waiting-taken : (l : List ℤ) (q q′ : List ℕ) (z u low : ℕ) → Waiting l q low → BitSet q z u 0 q′ → low ≤ z → Waiting l q′ low
-waiting-taken l q q′ z u low w put h = record {
-  queue = record { size = put .size ∙ w .queue .size; lowest = lowest-put q q′ z u 0 low low (w .queue .lowest) put (le-refl low) h };
+-- a subject taken from a level
+pub waiting-taken : (l : List ℤ) (q q′ : List ℕ) (z u summary : ℕ) → Waiting l q summary → BitSet q z u 0 q′ → Waiting l q′ summary
+waiting-taken l q q′ z u summary w put = record {
+  queue = record { size = put .size ∙ w .queue .size; covered = covered-take q q′ z u summary (w .queue .covered) put };
   limits = w .limits;
 }
 
 module _ (t : List ℤ) (s : List ℕ) (lent : Lent t s (recordCount s)) (marks : ℕ) where
   -- ── the start ──
-  module _ (l : List ℤ) (p q₀ q : List ℕ) (room : SubjectLists l p) (st : Started l p) (put : BitSet q₀ 255 0 1 q) where
+  module _ (l : List ℤ) (p q₀ q : List ℕ) (room : SubjectLists l p) (st : Started l p) (empty : Empty q₀) (put : BitSet q₀ 255 0 1 q) where
     open-all : (y : ℕ) → isSettled l q y ≡ false
     open-all y = go (eqOr 0 y)
       where
@@ -61,6 +61,7 @@ module _ (t : List ℤ) (s : List ℕ) (lent : Lent t s (recordCount s)) (marks 
       limits = room .limits;
       parents = room .parents;
       most = λ y _. top y (eqOr 0 y);
+      above = λ x y b. put .others x y (inl (λ e. omega arith)) ∙ empty .none x y;
       same = λ y. refl;
       among = λ z u b. subst (λ (i : ℕ). i < recordCount s) (sym (st .places u)) z;
       search = search-start t (lent .rule) (underMarks (delegationsIn s) marks) 0 (limitOf l) (isSettled l q) (parentIn (delegationsIn s) p) (st .owner) (st .others) (λ y. subst (λ (b : Bool). T (not b)) (sym (open-all y)) tt);
@@ -70,8 +71,8 @@ module _ (t : List ℤ) (s : List ℕ) (lent : Lent t s (recordCount s)) (marks 
         top y (inl e) = subst (λ (i : ℕ). code (limitOf l i) ≤ levels) e (omega (arith, ap code (st .owner)))
         top y (inr n) = omega (arith, ap code (st .others y n))
 
-    pub waiting-start : length q₀ ≡ levels → (low : ℕ) → Lowest q low → Waiting l q low
-    waiting-start size low w = record { queue = record { size = put .size ∙ size; lowest = w }; limits = λ y. go (eqOr 0 y) }
+    pub waiting-start : (summary : ℕ) → Covered q summary → Waiting l q summary
+    waiting-start summary w = record { queue = record { size = put .size ∙ empty .size; covered = w }; limits = λ y. go (eqOr 0 y) }
       where
         go : {y : ℕ} → (0 ≡ y) ⊎ (0 ≢ y) → (limitOf l y ≡ none) ⊎ (pos 0 ≼ limitOf l y)
         go {y} (inl e) = inr (subst (λ (i : ℕ). pos 0 ≼ limitOf l i) e (subst (λ (z : ℤ). pos 0 ≼ z) (sym (st .owner)) (omega arith)))
@@ -81,30 +82,43 @@ module _ (t : List ℤ) (s : List ℕ) (lent : Lent t s (recordCount s)) (marks 
     abbrev level : ℕ
     level = past - 1
 
-    -- ── none waits at the level ──
-    pub lower-less : measure l q level < measure l q past
-    lower-less = omega (arith, members-few (getD q (level - 1) 0))
+    -- ── none waits at the level, nor from r up to it ──
+    module _ (summary r : ℕ) (top : past ≤ levels) (c : Covered q summary) (none-here : (y : ℕ) → waits q level y ≡ 0) (sk : Skipped summary level r) where
+      pub lower-less : measure l q r < measure l q past
+      lower-less = omega (arith, sk .lower, members-few (getD q (r - 1) 0))
 
-    pub state-lower : ((y : ℕ) → waits q level y ≡ 0) → State t s marks (isSettled l q) level l p q []
-    state-lower w = record {
-      limits = now .limits;
-      parents = now .parents;
-      most = λ y o. go y (code (limitOf l y)) refl o (now .most y o);
-      same = now .same;
-      among = now .among;
-      search = now .search;
-    }
-      where
-        go : (y c : ℕ) → code (limitOf l y) ≡ c → T (not (settledAt q y c)) → c ≤ past → code (limitOf l y) ≤ level
-        go y zero e o b = omega arith
-        go y (suc z) e o b = below (eqOr z level)
-          where
-            below : (z ≡ level) ⊎ (z ≢ level) → code (limitOf l y) ≤ level
-            below (inl d) = absurd (subst (λ (x : ℕ). T (not (eqb x 0))) (ap (λ (x : ℕ). waits q x y) d ∙ w y) o)
-            below (inr d) = omega (arith, d)
+      none-from : (x y : ℕ) → r ≤ x → waits q x y ≡ 0
+      none-from x y b = go (either (ltb x past)) (eqOr x level)
+        where
+          go : T (ltb x past) ⊎ T (not (ltb x past)) → (x ≡ level) ⊎ (x ≢ level) → waits q x y ≡ 0
+          go (inr n) e = now .above x y (nltb→le x past n)
+          go (inl i) (inl e) = ap (λ (z : ℕ). waits q z y) e ∙ none-here y
+          go (inl i) (inr n) = let h : x < level = omega (arith, n, ltb→lt x past i) in c x y (omega arith) (sk .none x b h)
+
+      pub state-lower : State t s marks (isSettled l q) r l p q []
+      state-lower = record {
+        limits = now .limits;
+        parents = now .parents;
+        most = λ y o. go y (code (limitOf l y)) refl o (now .most y o);
+        above = none-from;
+        same = now .same;
+        among = now .among;
+        search = now .search;
+      }
+        where
+          go : (y c : ℕ) → code (limitOf l y) ≡ c → T (not (settledAt q y c)) → c ≤ past → code (limitOf l y) ≤ r
+          go y zero e o b = omega arith
+          go y (suc z) e o b = below (either (ltb z r))
+            where
+              below : T (ltb z r) ⊎ T (not (ltb z r)) → code (limitOf l y) ≤ r
+              below (inl d) = omega (arith, ltb→lt z r d)
+              below (inr d) = absurd (subst (λ (x : ℕ). T (not (eqb x 0))) (none-from z y (nltb→le z r d)) o)
 
     -- ── one that waits at the level is taken ──
     module _ (u : ℕ) (q₁ : List ℕ) (put : BitSet q level u 0 q₁) where
+      above-taken : (x y : ℕ) → past ≤ x → waits q₁ x y ≡ 0
+      above-taken x y b = put .others x y (inl (λ e. omega arith)) ∙ now .above x y b
+
       others : (y : ℕ) → u ≢ y → isSettled l q₁ y ≡ isSettled l q y
       others y n = settled-same l l q q₁ y refl (λ z _. put .others z y (inr n))
 
@@ -122,6 +136,7 @@ module _ (t : List ℤ) (s : List ℕ) (lent : Lent t s (recordCount s)) (marks 
           limits = now .limits;
           parents = now .parents;
           most = now .most;
+          above = above-taken;
           same = λ y. sym (stale y);
           among = now .among;
           search = now .search;
@@ -176,6 +191,7 @@ module _ (t : List ℤ) (s : List ℕ) (lent : Lent t s (recordCount s)) (marks 
             limits = now .limits;
             parents = now .parents;
             most = λ y o. most y o (eqOr u y);
+            above = above-taken;
             same = λ y. refl;
             among = now .among;
             search = search-settle t (lent .rule) (underMarks (delegationsIn s) marks) 0 (limitOf l) (isSettled l q) after (parentIn (delegationsIn s) p) u gives (now .search)
@@ -203,13 +219,13 @@ module _ (t : List ℤ) (s : List ℕ) (lent : Lent t s (recordCount s)) (marks 
           settle-less top = omega (arith, left-same after (isSettled l′ q′) mostSubjects (closed .same), left-falls (isSettled l q) after mostSubjects u h was at others, members-few (getD q′ level 0))
 
   -- ── the end ──
-  module _ (l : List ℤ) (p q : List ℕ) (past low : ℕ) (now : State t s marks (isSettled l q) past l p q []) (w : Lowest q low) (h : past ≤ low) where
+  module _ (l : List ℤ) (p q : List ℕ) (past : ℕ) (now : State t s marks (isSettled l q) past l p q []) (h : past ≡ 0) where
     none-left : (y : ℕ) → T (not (isSettled l q y)) → limitOf l y ≡ none
     none-left y o = go (state-limit t (lent .rule) s marks (isSettled l q) past l p q [] now y)
       where
         waits-not : (c : ℕ) → c ≤ past → T (not (settledAt q y c)) → c ≡ 0
         waits-not zero b k = refl
-        waits-not (suc z) b k = absurd (subst (λ (x : ℕ). T (not (eqb x 0))) (w z y (omega arith)) k)
+        waits-not (suc z) b k = absurd (subst (λ (x : ℕ). T (not (eqb x 0))) (now .above z y (omega arith)) k)
 
         go : (limitOf l y ≡ none) ⊎ (pos 0 ≼ limitOf l y) → limitOf l y ≡ none
         go (inl e) = e
@@ -217,6 +233,9 @@ module _ (t : List ℤ) (s : List ℕ) (lent : Lent t s (recordCount s)) (marks 
 
     reached : (u : ℕ) → reach t (underMarks (delegationsIn s) marks) u 0 ≡ limitOf l u
     reached u = search-reach t (lent .rule) (underMarks (delegationsIn s) marks) 0 (limitOf l) (isSettled l q) (parentIn (delegationsIn s) p) (now .search) none-left u
+
+    pub empty-end : length q ≡ levels → Empty q
+    empty-end size = record { size = size; none = λ x y. now .above x y (omega arith) }
 
     pub state-end : Searched t s marks l p
     state-end = record {

@@ -7,6 +7,7 @@ ghost use Rattle.rules.specs.Register.{marksOf};
 ghost use Rattle.rules.specs.Reach.{reach};
 ghost use Rattle.block.specs.Block.{subjectsIn, recordsIn, decode};
 ghost use Rattle.block.specs.WellFormed.{wellFormed};
+ghost use Rattle.queue.specs.Queue.{Empty};
 ghost use Rattle.runs.specs.Lent.{SubjectLists};
 ghost use Rattle.runs.specs.Steps.{startCount, Starts};
 ghost use Rattle.search.specs.Found.{Searchable, Prepared, Searched};
@@ -21,7 +22,32 @@ pub fn starts_of(block: &[u8], starts: &mut [u16])
     runs::fill_starts(block::records(block), starts);
 }
 
-// The reach of every subject for a receiver, and the parents by which each is reached.
+// The reach of every subject for a receiver, and the parents by which each is reached, by a lent queue.
+pub fn limits_by(
+    block: &[u8],
+    starts: &[u16],
+    table: &[i16],
+    receiver: usize,
+    limits: &mut [i16],
+    parents: &mut [u16],
+    waiting: &mut [u64],
+)
+    requires { ⌜ Prepared (now table) (now block) (now starts) × (receiver < subjectsIn (now block)) × SubjectLists (now limits) (now parents) × Empty (now waiting) ⌝ }
+    ensures { λ _. ⌜ Searched (now (table .entry)) (recordsIn (now (block .entry))) (marksOf (decode (now (block .entry))) receiver) (now (limits .exit)) (now (parents .exit)) × Empty (now (waiting .exit)) ⌝ }
+{
+    let marks = block::marks(block, receiver);
+    search(
+        block::records(block),
+        starts,
+        table,
+        marks,
+        limits,
+        parents,
+        waiting,
+    );
+}
+
+// The same, by a queue of its own.
 pub fn limits_for(
     block: &[u8],
     starts: &[u16],
@@ -33,8 +59,16 @@ pub fn limits_for(
     requires { ⌜ Prepared (now table) (now block) (now starts) × (receiver < subjectsIn (now block)) × SubjectLists (now limits) (now parents) ⌝ }
     ensures { λ _. ⌜ Searched (now (table .entry)) (recordsIn (now (block .entry))) (marksOf (decode (now (block .entry))) receiver) (now (limits .exit)) (now (parents .exit)) ⌝ }
 {
-    let marks = block::marks(block, receiver);
-    search(block::records(block), starts, table, marks, limits, parents);
+    let mut waiting = [0u64; queue::LEVELS];
+    limits_by(
+        block,
+        starts,
+        table,
+        receiver,
+        limits,
+        parents,
+        &mut waiting,
+    );
 }
 
 // The reach of one pair.

@@ -12,11 +12,11 @@ use Rattle.runs.proofs.relax_run.Statement.{statement}
 use Rattle.runs.proofs.relax_run.Tie as tie
 
 abbrev Inv-loop : tie.InvT-loop
-Inv-loop run first limit marks table limits₀ parents₀ waiting₀ low n lowest₀ k₀ limits parents waiting lowest k =
-    (n ≡ recordCount run) × (k ≤ n) × SubjectLists limits parents × SteppedTo table (toZ w16 limit) marks run first limits₀ parents₀ waiting₀ k limits parents waiting × Waiting limits waiting lowest
+Inv-loop run first limit marks table limits₀ parents₀ waiting₀ summary n groups₀ k₀ limits parents waiting groups k =
+    (n ≡ recordCount run) × (k ≤ n) × SubjectLists limits parents × SteppedTo table (toZ w16 limit) marks run first limits₀ parents₀ waiting₀ k limits parents waiting × Waiting limits waiting groups
 
 abbrev μ-loop : tie.MeasureT-loop
-μ-loop run first limit marks table limits₀ parents₀ waiting₀ low n lowest₀ k₀ limits parents waiting lowest k = n - k
+μ-loop run first limit marks table limits₀ parents₀ waiting₀ summary n groups₀ k₀ limits parents waiting groups k = n - k
 
 loop-holds : tie.Need-loop-holds Inv-loop μ-loop
 loop-holds c =

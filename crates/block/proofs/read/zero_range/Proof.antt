@@ -1,32 +1,26 @@
--- `block::zero_range` is the test `zeros`. The loop: the answer is the answer from i on. Assumes nothing.
+-- `block::zero_range` is the test `zeros`. The loop: the answer is whether none was met so far and none is from i on. Assumes nothing.
+use mathlib.Core.Bool.{_&&_}
 use mathlib.Core.Path.{_≡_, refl}
 use Prim.Native.Nat.{ℕ, _-_}
 use native.Mathlib.Omega.{arith}
 use lib.Dec.{eqb}
 use lib.ListN.{getD}
-use borrow.Author.Tests.{eq-eqb, ne-eqb}
 use Rattle.block.specs.Bytes.{zeros}
-use Rattle.block.proofs.Loops.{all-end, all-stop, all-on}
+use Rattle.block.proofs.Loops.{none-on, none-end}
 use Rattle.block.proofs.read.zero_range.Statement.{statement}
 use Rattle.block.proofs.read.zero_range.Tie as tie
 
 abbrev Inv-loop : tie.InvT-loop
-Inv-loop s from to i₀ i = zeros s from (to - from) ≡ zeros s i (to - i)
+Inv-loop s from to any₀ i₀ any i = zeros s from (to - from) ≡ (eqb any 0 && zeros s i (to - i))
 
 abbrev μ-loop : tie.MeasureT-loop
-μ-loop s from to i₀ i = to - i
+μ-loop s from to any₀ i₀ any i = to - i
 
 loop-holds : tie.Need-loop-holds Inv-loop μ-loop
 loop-holds c = refl
 
-shared-slice-read-if1 : tie.Need-shared-slice-read-if1 Inv-loop μ-loop
-shared-slice-read-if1 c = omega arith
-
-returns : tie.Need-returns Inv-loop μ-loop
-returns c =
-    let a = c .before .before .before .before .args in
-    let l = c .before .before .before .loop in
-    all-stop (λ (k : ℕ). eqb (getD (a .s .now) k 0) 0) (l .i) _ (l .inv) (omega arith) (ne-eqb _ _ (c .if1 .taken))
+shared-slice-read-any : tie.Need-shared-slice-read-any Inv-loop μ-loop
+shared-slice-read-any c = omega arith
 
 add-i : tie.Need-add-i Inv-loop μ-loop
 add-i c = omega arith
@@ -36,15 +30,15 @@ loop-less c = omega arith
 
 loop-again : tie.Need-loop-again Inv-loop μ-loop
 loop-again c =
-    let a = c .before .before .before .before .args in
-    let l = c .before .before .before .loop in
-    all-on (λ (k : ℕ). eqb (getD (a .s .now) k 0) 0) (l .i) _ (l .inv) (omega arith) (eq-eqb _ _ (c .if1 .left))
+    let a = c .before .before .before .args in
+    let l = c .before .before .loop in
+    none-on (λ k. getD (a .s .now) k 0) (l .any) (l .i) _ (l .inv) (omega arith)
 
-returns-2 : tie.Need-returns-2 Inv-loop μ-loop
-returns-2 c =
+returns : tie.Need-returns Inv-loop μ-loop
+returns c =
     let a = c .before .before .args in
     let l = c .before .loop in
-    all-end (λ (k : ℕ). eqb (getD (a .s .now) k 0) 0) (l .i) _ (l .inv) (omega arith)
+    none-end (λ k. getD (a .s .now) k 0) (l .any) (l .i) _ (l .inv) (omega arith)
 
 pub zero-range-spec : {M : Type 1} → statement M
 zero-range-spec =
@@ -53,9 +47,8 @@ zero-range-spec =
     Inv-loop
     μ-loop
     loop-holds
-    shared-slice-read-if1
-    returns
+    shared-slice-read-any
     add-i
     loop-less
     loop-again
-    returns-2)
+    returns)

@@ -1,23 +1,25 @@
--- `reckoning::decoded` decodes the first records. Assumes nothing.
+-- `reckoning::decoded` decodes a run of records. Assumes nothing.
 use mathlib.Core.Path.{_≡_, refl}
-use Prim.Native.Nat.{_-_, _≤_}
+use Prim.Native.Nat.{_+_, _-_, _≤_}
 use native.Mathlib.Omega.{arith}
 use lib.ListN.{length, length-set}
 use Rattle.rules.proofs.Lists.{set-more}
-use Rattle.block.specs.Layout.{mostRecords}
 use Rattle.block.specs.Records.{delegationAt}
-use Rattle.reckoning.specs.Reckoned.{decodedAs, noneDecoded, Decoded}
+use Rattle.reckoning.specs.Reckoned.{runSize, decodedAs, noneDecoded, Decoded}
 use Rattle.reckoning.proofs.lower.decoded.Statement.{statement}
 use Rattle.reckoning.proofs.lower.decoded.Tie as tie
 
 abbrev Inv-loop : tie.InvT-loop
-Inv-loop block n ds₀ k₀ ds k = (k ≤ n) × (length ds ≡ mostRecords) × Decoded (delegationAt block) k ds
+Inv-loop block first n ds₀ k₀ ds k = (k ≤ n) × (length ds ≡ runSize) × Decoded (λ j. delegationAt block (first + j)) k ds
 
 abbrev μ-loop : tie.MeasureT-loop
-μ-loop block n ds₀ k₀ ds k = n - k
+μ-loop block first n ds₀ k₀ ds k = n - k
 
 loop-holds : tie.Need-loop-holds Inv-loop μ-loop
 loop-holds c = (omega arith, refl, λ k h. absurd (omega arith))
+
+add-decoded-at : tie.Need-add-decoded-at Inv-loop μ-loop
+add-decoded-at c = omega arith
 
 decoded-at-requires : tie.Need-decoded-at-requires Inv-loop μ-loop
 decoded-at-requires c κs = omega arith
@@ -38,7 +40,7 @@ loop-again : tie.Need-loop-again Inv-loop μ-loop
 loop-again c =
     let l = c .before .before .loop in
     let s = c .before .before .before .before in
-    (omega arith, simp length-set (l .inv .1), set-more (λ j x. x ≡ decodedAs (delegationAt (s .args .block .now) j)) (l .ds) (l .k) _ noneDecoded (omega arith) (l .inv .2) (c .decoded-at .ensures))
+    (omega arith, simp length-set (l .inv .1), set-more (λ j x. x ≡ decodedAs (delegationAt (s .args .block .now) (s .args .first + j))) (l .ds) (l .k) _ noneDecoded (omega arith) (l .inv .2) (c .decoded-at .ensures))
 
 returns : tie.Need-returns Inv-loop μ-loop
 returns c =
@@ -54,6 +56,7 @@ decoded-spec =
     Inv-loop
     μ-loop
     loop-holds
+    add-decoded-at
     decoded-at-requires
     mul-ds
     array-set-from-ds

@@ -45,8 +45,7 @@ use denote.Triple.Spec.{Meets, tripleOf}
 use denote.Triple.Table.{entered, cited}
 use denote.Triple.Walked.{says, needs, Stays, stay-none, stay-none-slice, walkOf, AllGo, goes-none, goes-none-slice, Walks, ends-at, walked, walk-meets}
 use denote.Exit.{yes}
-use Rattle.block.specs.Layout.{mostRecords}
-use Rattle.reckoning.specs.Reckoned.{lowerOne}
+use Rattle.reckoning.specs.Reckoned.{runSize, lowerOne}
 use Rattle.reckoning.specs.declared.Delegation.{Delegation}
 use Rattle.reckoning.proofs.Delegation as T
 use Rattle.reckoning.proofs.Delegation.Laws as T′
@@ -64,7 +63,7 @@ abbrev R : RattleType
 R = T.the-row
 
 abbrev Run : RattleType
-Run = Array R mostRecords
+Run = Array R runSize
 
 abbrev vals-of : Delegation → List Val
 vals-of = LL.vals T.the-type T′.the-laws
@@ -72,15 +71,15 @@ vals-of = LL.vals T.the-type T′.the-laws
 abbrev stayed : Stays (f.ended .signature .params) (f.ended .kept)
 stayed = (stay-none (λ _. Run) yes, (stay-none (λ _. usize) yes, (stay-none-slice (0 ∷ []) tt (plain (λ _. i16)) yes, tt)))
 
-small : {n m : ℕ} → n ≤ m → m ≡ mostRecords → (n < 2 ^ 64) × (n * 8 < 2 ^ 63)
+small : {n m : ℕ} → n ≤ m → m ≡ runSize → (n < 2 ^ 64) × (n * 8 < 2 ^ 63)
 small le e = (omega (arith, le, e), omega (arith, le, e))
 
 -- the contract that the proof cites
 abbrev Lower : {M : Type 1} (𝓤 : URA M) (H : Heap 𝓤) (A : Atoms 𝓤) (mem : Memory → SProp 𝓤) (run : Routine → Fun 𝓤) → Contract 𝓤
 Lower 𝓤 H A mem run = tripleOf 𝓤 H A lower.signature (lower.spec 𝓤 H A mem run)
 
-module _ {M : Type 1} (𝓤 : URA M) (H : Heap 𝓤) (A : Atoms 𝓤) (W : Given 𝓤 H A) (mem : Memory → SProp 𝓤) (run : Routine → Fun 𝓤) (κ : Lft) (q : Share) (xs : List Delegation) (v : Val) (n : ℕ) (n-fits : n < 2 ^ 64) (reaches : RefT (List ℤ)) (is : Is Run xs (v ∷ [])) (room′ : Room i16 (length (reaches .now))) (fewer : n ≤ mostRecords) where
-  long : length xs ≡ mostRecords
+module _ {M : Type 1} (𝓤 : URA M) (H : Heap 𝓤) (A : Atoms 𝓤) (W : Given 𝓤 H A) (mem : Memory → SProp 𝓤) (run : Routine → Fun 𝓤) (κ : Lft) (q : Share) (xs : List Delegation) (v : Val) (n : ℕ) (n-fits : n < 2 ^ 64) (reaches : RefT (List ℤ)) (is : Is Run xs (v ∷ [])) (room′ : Room i16 (length (reaches .now))) (fewer : n ≤ runSize) where
+  long : length xs ≡ runSize
   long = is .1 .0 .1
 
   le : n ≤ length xs
@@ -141,10 +140,10 @@ module _ {M : Type 1} (𝓤 : URA M) (H : Heap 𝓤) (A : Atoms 𝓤) (W : Given
   exits zs w e =
       qed W ((‵ (flft κ q) ⊛ ‵ ftrue) ∷ ‵ Shr ∷ ‵ (Run .own (zs ++ drop-list n xs) (w ∷ [])) ∷ []) ∵
       suffices ! _ (ends-at 𝓤 H A f.ended stayed (f.clauses 𝓤 H A mem run) W (((κ, tt), (q, tt), tt, a, at), tt) w (zs ++ drop-list n xs) (tt, (tt, (tt, tt))) (tt, (tt, (tt, tt)))) $ says ! (ap (λ (l : List Delegation). l ++ drop-list n xs) e) $ frame ! $
-      nothing ! $ move ! (1 ∷ 0 ∷ []) $ fjoin ! $ owned ! usize (Is usize) (uint-makes 𝓤 H A W w64) n _ (refl, n-fits) $ fjoin ! $ owned ! Run (Is Run) (array-makes 𝓤 H A W R (LL.makes T.the-type T′.the-plain 𝓤 H A) mostRecords) xs (v ∷ []) is $ fjoin ! $ done !
+      nothing ! $ move ! (1 ∷ 0 ∷ []) $ fjoin ! $ owned ! usize (Is usize) (uint-makes 𝓤 H A W w64) n _ (refl, n-fits) $ fjoin ! $ owned ! Run (Is Run) (array-makes 𝓤 H A W R (LL.makes T.the-type T′.the-plain 𝓤 H A) runSize) xs (v ∷ []) is $ fjoin ! $ done !
 
-  typed : (zs : List Delegation) (w : Val) → Is Run zs (w ∷ []) → Holds (hasTy (tyArray (lone (R .mir)) mostRecords) w) × WT w
-  typed zs w p = array-lawful 𝓤 H A W R (LL.lawful T.the-type T′.the-laws 𝓤 H A W) mostRecords .typed zs (w ∷ []) p .0
+  typed : (zs : List Delegation) (w : Val) → Is Run zs (w ∷ []) → Holds (hasTy (tyArray (lone (R .mir)) runSize) w) × WT w
+  typed zs w p = array-lawful 𝓤 H A W R (LL.lawful T.the-type T′.the-laws 𝓤 H A W) runSize .typed zs (w ∷ []) p .0
 
   module _ (C : Calls 𝓤 H) (Λ : Loops 𝓤 H) (fm : FmC 𝓤 H (W .laws) C) (known : Triple 𝓤 (C #reckoning·lower·lower) (Lower 𝓤 H A mem run)) where
     walk : ent 𝓤 (onEntry 𝓤 H A f.signature (κ, tt) (q, tt) a at) (WpFn 𝓤 H C Λ code.function (v ∷ vint w64 n ∷ s′ ∷ []) Post)
@@ -158,8 +157,8 @@ module _ {M : Type 1} (𝓤 : URA M) (H : Heap 𝓤) (A : Atoms 𝓤) (W : Given
         assigns ! (agg ! (and-then ! (load ! (from ! (stop !)) (look ! 2 refl)) (and-then ! (load ! (from ! (stop !)) (look ! 10 refl)) (no-more !)))) (from ! (stop !)) (init ! 0 refl (tt, (tt, (record { fits = n-fits }, tt)))) $
         rewrite ! 0 (λ (m : ℕ). ‵ (fat fullShare (sliceTy (tyRef erased mut (pointee (R .written)))) l₇ 0 (sliceVal (l₄, 0) m))) (sym count) refl $
         -- the first n elements of the array are lent, for a lifetime ν of the call
-        move ! (17 ∷ []) $ fsplit ! $ move ! (8 ∷ 0 ∷ []) $ use2 W (‵ (cells (memory R) xs l₄ 0)) (apart 𝓤 H A W R tt mostRecords l₄ xs v) $
-        use1 W (‵ (cells (memory R) ys l₄ 0) ⊛ ‵ (cells (memory R) (drop-list n xs) l₄ (past 𝓤 H A W R tt mostRecords l₄ n xs))) (front 𝓤 H A W R tt mostRecords l₄ n xs) $ split ! $
+        move ! (17 ∷ []) $ fsplit ! $ move ! (8 ∷ 0 ∷ []) $ use2 W (‵ (cells (memory R) xs l₄ 0)) (apart 𝓤 H A W R tt runSize l₄ xs v) $
+        use1 W (‵ (cells (memory R) ys l₄ 0) ⊛ ‵ (cells (memory R) (drop-list n xs) l₄ (past 𝓤 H A W R tt runSize l₄ n xs))) (front 𝓤 H A W R tt runSize l₄ n xs) $ split ! $
         lft-new ! tt (λ ν. move ! (1 ∷ []) $
         use1 W (later (some (λ (δ : GName). ‵ (Mut l₄ ν δ) ⊛ ‵ (flent (ν ∷ []) (Held R (length ys) l₄ 0 δ))))) (lends-slice 𝓤 H A W R (named 0) (ν ∷ []) ys l₄ 0 room) $ await ! tt $ pick ! (λ δ. split ! $
         -- of reaches a copy is passed
@@ -175,9 +174,9 @@ module _ {M : Type 1} (𝓤 : URA M) (H : Heap 𝓤) (A : Atoms 𝓤) (W : Given
         -- the lifetime is ended, and the array is whole again
         split ! $ lft-end ! tt $ move ! (0 ∷ 7 ∷ 2 ∷ []) $
         use3 W (later (‵ (Arr (memory R) (length ys) .lies (zs .0) l₄ 0))) (slice-back 𝓤 H A W R (ν ∷ []) δ (zs .0) (length ys) l₄ 0) $ await ! tt $
-        move ! (0 ∷ 6 ∷ []) $ use2 W (‵ (Arr (memory R) mostRecords .lies (zs .0 ++ drop-list n xs) l₄ 0)) (back-in 𝓤 H A W R tt mostRecords l₄ n xs (zs .0) long) $
-        use1 W (‵ (fat fullShare (τ 𝓤 H A W R tt mostRecords l₄) l₄ 0 (val 𝓤 H A W R tt mostRecords l₄ vals-of (LL.tells T.the-type T′.the-laws) (zs .0 ++ drop-list n xs))) ⊛ ‵ (Run .own (zs .0 ++ drop-list n xs) (val 𝓤 H A W R tt mostRecords l₄ vals-of (LL.tells T.the-type T′.the-laws) (zs .0 ++ drop-list n xs) ∷ [])))
-        (again 𝓤 H A W R tt mostRecords l₄ vals-of (LL.tells T.the-type T′.the-laws) (zs .0 ++ drop-list n xs)) $ split ! $
+        move ! (0 ∷ 6 ∷ []) $ use2 W (‵ (Arr (memory R) runSize .lies (zs .0 ++ drop-list n xs) l₄ 0)) (back-in 𝓤 H A W R tt runSize l₄ n xs (zs .0) long) $
+        use1 W (‵ (fat fullShare (τ 𝓤 H A W R tt runSize l₄) l₄ 0 (val 𝓤 H A W R tt runSize l₄ vals-of (LL.tells T.the-type T′.the-laws) (zs .0 ++ drop-list n xs))) ⊛ ‵ (Run .own (zs .0 ++ drop-list n xs) (val 𝓤 H A W R tt runSize l₄ vals-of (LL.tells T.the-type T′.the-laws) (zs .0 ++ drop-list n xs) ∷ [])))
+        (again 𝓤 H A W R tt runSize l₄ vals-of (LL.tells T.the-type T′.the-laws) (zs .0 ++ drop-list n xs)) $ split ! $
         move ! (1 ∷ []) $ peeks ! Run (Is Run) (shows 𝓤 H A Run) (zs .0 ++ drop-list n xs) _ (λ is′.
         -- [what the array owns; _4; the token; …; reaches; true; _7; …; _6; …; _5; …; that _4 dies; _3; …; _2; …; _1; …; room for _0; …]
         assigns ! (of-opd ! (load ! (from ! (stop !)) (look ! 1 refl))) (from ! (stop !)) (init ! 20 refl (typed (zs .0 ++ drop-list n xs) _ is′)) $
@@ -187,8 +186,8 @@ module _ {M : Type 1} (𝓤 : URA M) (H : Heap 𝓤) (A : Atoms 𝓤) (W : Given
 
 module _ {M : Type 1} (𝓤 : URA M) (H : Heap 𝓤) (A : Atoms 𝓤) (W : Given 𝓤 H A) (mem : Memory → SProp 𝓤) (run : Routine → Fun 𝓤) where
   lowered-walks : (C : Calls 𝓤 H) (Λ : Loops 𝓤 H) → FmC 𝓤 H (W .laws) C → Triple 𝓤 (C #reckoning·lower·lower) (Lower 𝓤 H A mem run) → Walks 𝓤 H A f.ended stayed (WpFn 𝓤 H C Λ code.function) (f.clauses 𝓤 H A mem run)
-  lowered-walks C Λ fm known = walked 𝓤 H A f.ended stayed (f.clauses 𝓤 H A mem run) (WpFn 𝓤 H C Λ code.function) (λ κs. (array-vals vals-of, (uint-vals w64, (slice-vals, tt)))) (λ κs. (array-tells R vals-of (LL.tells T.the-type T′.the-laws) mostRecords, (uint-tells w64, (shr-slice-tells (named 0) (κs .0) i16, tt))))
-      (λ κs qs bounds a g are. needs 𝓤 (a .1 .0 ≤ mostRecords) _ (λ le.
+  lowered-walks C Λ fm known = walked 𝓤 H A f.ended stayed (f.clauses 𝓤 H A mem run) (WpFn 𝓤 H C Λ code.function) (λ κs. (array-vals vals-of, (uint-vals w64, (slice-vals, tt)))) (λ κs. (array-tells R vals-of (LL.tells T.the-type T′.the-laws) runSize, (uint-tells w64, (shr-slice-tells (named 0) (κs .0) i16, tt))))
+      (λ κs qs bounds a g are. needs 𝓤 (a .1 .0 ≤ runSize) _ (λ le.
       walk 𝓤 H A W mem run (κs .0) (qs .0) (a .0) _ (a .1 .0) (are .1 .0 .1) (a .1 .1 .0) (are .0) (are .1 .1 .0 .0 .1) le C Λ fm known))
 
   goes : AllGo 𝓤 H A W 1 (f.signature .params) (f.ended .kept) stayed

@@ -13,58 +13,70 @@ use Rattle.reckoning.proofs.Filling.{row-length, put-in, put-out}
 use Rattle.reckoning.proofs.reaches.search_row.Statement.{statement}
 use Rattle.reckoning.proofs.reaches.search_row.Tie as tie
 
+-- the row lies in the table
+room : (s : tie.After-shared-slice-known) → mostSubjects * (s .before .args .receiver) + mostSubjects ≤ length (s .before .args .reaches .now)
+room s = let a = s .before .args in omega (arith, rules-of (a .block .now) (fits-bytes (a .block .now) (s .shared-slice-known .given)) (s .before .pre .0 .block .formed) .most, s .before .pre .1, s .before .pre .2)
+
 mul-at : tie.Need-mul-at
-mul-at c = omega (arith, rules-of (c .before .before .args .block .now) (fits-bytes (c .before .before .args .block .now) (c .before .shared-slice-known .given)) (c .before .before .pre .0 .block .formed) .most, c .before .before .pre .1)
+mul-at c = omega (arith, room (c .before .before), c .before .before .before .pre .2)
 
-add-limits-for : tie.Need-add-limits-for
-add-limits-for c = omega (arith, rules-of (c .before .before .args .block .now) (fits-bytes (c .before .before .args .block .now) (c .before .shared-slice-known .given)) (c .before .before .pre .0 .block .formed) .most, c .before .before .pre .1)
+add-limits-by : tie.Need-add-limits-by
+add-limits-by c = omega (arith, room (c .before .before), c .before .before .before .pre .2)
 
-mul-limits-for : tie.Need-mul-limits-for
-mul-limits-for c = omega (arith, rules-of (c .before .before .args .block .now) (fits-bytes (c .before .before .args .block .now) (c .before .shared-slice-known .given)) (c .before .before .pre .0 .block .formed) .most, c .before .before .pre .1)
+mul-limits-by : tie.Need-mul-limits-by
+mul-limits-by c = omega (arith, room (c .before .before), c .before .before .before .pre .2)
 
-sub-limits-for : tie.Need-sub-limits-for
-sub-limits-for c = search needs
+sub-limits-by : tie.Need-sub-limits-by
+sub-limits-by c = search needs
 
-part-limits-for-start : tie.Need-part-limits-for-start
-part-limits-for-start c = search needs
+part-limits-by-start : tie.Need-part-limits-by-start
+part-limits-by-start c = search needs
 
-part-limits-for-end : tie.Need-part-limits-for-end
-part-limits-for-end c = omega (arith, rules-of (c .before .before .args .block .now) (fits-bytes (c .before .before .args .block .now) (c .before .shared-slice-known .given)) (c .before .before .pre .0 .block .formed) .most, c .before .before .pre .1, c .before .before .pre .2)
+part-limits-by-end : tie.Need-part-limits-by-end
+part-limits-by-end c = omega (arith, room (c .before .before))
 
-slice-aggregate-limits-for : tie.Need-slice-aggregate-limits-for
-slice-aggregate-limits-for c = search needs
+slice-aggregate-limits-by : tie.Need-slice-aggregate-limits-by
+slice-aggregate-limits-by c = search needs
 
-limits-for-requires : tie.Need-limits-for-requires
-limits-for-requires c κs = search needs
+limits-by-requires : tie.Need-limits-by-requires
+limits-by-requires c κs = search needs
 
 same-length : tie.Need-same-length
 same-length c = search needs
 
+same-length-2 : tie.Need-same-length-2
+same-length-2 c = search needs
+
 returns : tie.Need-returns
 returns c =
-    let a = c .before .before .before .before .before .before .before .args in
+    let k = c .before .before .before .before .before .before .before .before .before .before in
+    let a = k .before .args in
     let r = a .receiver in
-    let row = c .before .before .limits-for .last .1 .1 .1 .1 .0 in
-    let s = c .before .before .limits-for .ensures in
+    let f = c .before .before .before .before .limits-by in
+    let row = f .last .1 .1 .1 .1 .0 in
     let w : mostSubjects * r + mostSubjects - mostSubjects * r ≡ mostSubjects = omega arith in
-    let fits : mostSubjects * r + mostSubjects ≤ length (a .reaches .now) = omega (arith, rules-of (c .before .before .before .before .before .before .before .args .block .now) (fits-bytes (c .before .before .before .before .before .before .before .args .block .now) (c .before .before .before .before .before .before .shared-slice-known .given)) (c .before .before .before .before .before .before .before .pre .0 .block .formed) .most, c .before .before .before .before .before .before .before .pre .1, c .before .before .before .before .before .before .before .pre .2) in
-    let size : length row ≡ mostSubjects = row-length _ _ _ row _ s in
-    rw w record {
-      row = λ u h. put-in (a .reaches .now) row (mostSubjects * r) mostSubjects (pos 0) fits size u h ∙ reach-found (a .block .now) (fits-bytes (c .before .before .before .before .before .before .before .args .block .now) (c .before .before .before .before .before .before .shared-slice-known .given)) (c .before .before .before .before .before .before .before .pre .0 .block .formed) (a .table .now) r row _ s u h;
-      rest = λ i h. put-out (a .reaches .now) row (mostSubjects * r) mostSubjects (pos 0) fits size i h;
-    }
+    let size : length row ≡ mostSubjects = row-length _ _ _ row _ (f .ensures .0) in
+    rw w (
+      record {
+        row = λ u h. put-in (a .reaches .now) row (mostSubjects * r) mostSubjects (pos 0) (room k) size u h
+            ∙ reach-found (a .block .now) (fits-bytes (a .block .now) (k .shared-slice-known .given)) (k .before .pre .0 .block .formed) (a .table .now) r row _ (f .ensures .0) u h;
+        rest = λ i h. put-out (a .reaches .now) row (mostSubjects * r) mostSubjects (pos 0) (room k) size i h;
+      },
+      f .ensures .1,
+    )
 
 pub search-row-spec : {M : Type 1} → statement M
 search-row-spec =
     tie.close
     (tie.spec
     mul-at
-    add-limits-for
-    mul-limits-for
-    sub-limits-for
-    part-limits-for-start
-    part-limits-for-end
-    slice-aggregate-limits-for
-    limits-for-requires
+    add-limits-by
+    mul-limits-by
+    sub-limits-by
+    part-limits-by-start
+    part-limits-by-end
+    slice-aggregate-limits-by
+    limits-by-requires
     same-length
+    same-length-2
     returns)

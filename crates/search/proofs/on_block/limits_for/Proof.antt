@@ -1,27 +1,16 @@
--- `search::limits_for` finds the reaches of a receiver. Assumes nothing.
+-- `search::limits_for` finds the reaches of a receiver by a queue of its own. Assumes nothing.
+use mathlib.Core.Path.{refl}
 use borrow.Author.Needs.{needs}
-use Rattle.block.specs.Bytes.{IsBytes}
-use Rattle.block.proofs.Bytes.{fits-bytes}
-use Rattle.block.proofs.Held.{has-marks, has-records}
-use Rattle.search.proofs.Searching.{lent-held, marks-held}
+use Rattle.queue.specs.Queue.{levels}
+use Rattle.queue.proofs.Buckets.{empty-waits}
 use Rattle.search.proofs.on_block.limits_for.Statement.{statement}
 use Rattle.search.proofs.on_block.limits_for.Tie as tie
 
-bytes : (c : tie.After-shared-slice-known) → IsBytes (c .before .args .block .now)
-bytes c = fits-bytes (c .before .args .block .now) (c .shared-slice-known .given)
+slice-aggregate-limits-by : tie.Need-slice-aggregate-limits-by
+slice-aggregate-limits-by c = search needs
 
-marks-requires : tie.Need-marks-requires
-marks-requires c κs =
-    let s = c .before .before .before in
-    has-marks (s .args .block .now) (bytes (c .before .before)) (s .pre .0 .block .formed) (s .args .receiver) (s .pre .1)
-
-records-requires : tie.Need-records-requires
-records-requires c κs = has-records (c .before .before .before .before .args .block .now) (bytes (c .before .before .before)) (c .before .before .before .before .pre .0 .block .formed)
-
-search-requires : tie.Need-search-requires
-search-requires c κs =
-    let s = c .before .before .before .before .before .before .before in
-    rw (c .before .before .records .ensures) (record { lent = lent-held (s .args .block .now) (bytes (c .before .before .before .before .before .before)) (s .pre .0 .block .formed) (s .args .table .now) (s .pre .0 .block .rule); starts = s .pre .0 .starts }, s .pre .2)
+limits-by-requires : tie.Need-limits-by-requires
+limits-by-requires c κs = let s = c .before .before .before .before .before .before in (s .pre .0, s .pre .1, s .pre .2, record { size = refl; none = empty-waits levels })
 
 same-length : tie.Need-same-length
 same-length c = search needs
@@ -30,10 +19,9 @@ same-length-2 : tie.Need-same-length-2
 same-length-2 c = search needs
 
 returns : tie.Need-returns
-returns c =
-    let s = c .before .before .before .before .before .before .before .before .before .before .before in
-    rw (c .before .before .before .before .before .before .records .ensures, c .before .before .before .before .before .before .before .marks .ensures, marks-held (s .args .block .now) (bytes (c .before .before .before .before .before .before .before .before .before .before)) (s .pre .0 .block .formed) (s .args .receiver) (s .pre .1)) at (c .before .before .before .search .ensures)
+returns c = search needs
 
 pub limits-for-spec : {M : Type 1} → statement M
 limits-for-spec =
-    tie.close (tie.spec marks-requires records-requires search-requires same-length same-length-2 returns)
+    tie.close
+    (tie.spec slice-aggregate-limits-by limits-by-requires same-length same-length-2 returns)
