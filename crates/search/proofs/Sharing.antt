@@ -8,7 +8,6 @@ use native.Mathlib.Omega.{arith}
 use lib.Bits.{bitAnd}
 use lib.Dec.{T, eqb}
 use lib.IntN.{ℤ}
-use Rattle.rules.specs.List.{_∈_}
 use Rattle.rules.specs.Limit.{none}
 use Rattle.rules.specs.Register.{Delegation, Register, marksOf}
 use Rattle.rules.specs.Condition.{meets}

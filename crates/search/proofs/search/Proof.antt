@@ -1,5 +1,5 @@
 -- `search::search` meets its contract: each turn keeps the state of a search and settles a subject, drops one that was raised since, or goes down to the next level at which one may wait. Assumes nothing.
-use mathlib.Core.Path.{_≡_, refl, sym, ap, subst, _∙_}
+use mathlib.Core.Path.{_≡_, sym, ap, subst, _∙_}
 use mathlib.Core.Logic.{_≢_}
 use mathlib.Core.List.{List, []}
 use Prim.Native.Nat.{ℕ, _-_, _≤_, _<_}

@@ -1,5 +1,5 @@
 -- `reckoning::named_marks` collects the marks that the conditions of the first records name. Assumes nothing.
-use Prim.Native.Nat.{ℕ, _-_, _≤_}
+use Prim.Native.Nat.{_-_, _≤_}
 use native.Mathlib.Omega.{arith}
 use Rattle.block.specs.Records.{delegationAt}
 use Rattle.reckoning.specs.Reckoned.{NamesFirst}
