@@ -13,11 +13,12 @@ use Rattle.rules.specs.Register.{Delegation, Register, withDelegations, noDeleg
 use Rattle.rules.specs.Reach.{reach}
 use Rattle.rules.specs.Support.{allowed}
 use Rattle.rules.specs.Round.{round}
-use Rattle.block.specs.Layout.{mostSubjects}
-use Rattle.block.specs.Records.{delegationAt, leftTo}
-use Rattle.block.specs.Block.{countIn, decode}
-use Rattle.queue.specs.Queue.{bit}
-use Rattle.search.specs.Named.{MarksIn}
+use Rattle.block.specs.Layout.{mostSubjects, mostRecords}
+use Rattle.block.specs.Records.{HasRecords, delegationAt, leftTo}
+use Rattle.block.specs.Block.{subjectsIn, countIn, decode}
+use Rattle.queue.specs.Queue.{bit, Empty}
+use Rattle.search.specs.Found.{Prepared}
+use Rattle.search.specs.Named.{MarksIn, Names}
 use Rattle.reckoning.specs.declared.Delegation.{Delegation as DecodedDelegation}
 
 -- how many reaches the table of reaches has: one for each giver and receiver
@@ -63,6 +64,30 @@ pub record RowMade (t : List ℤ) (R : Register) (r : ℕ) (l m : List ℤ) : Ty
   pub row : HasRow t R r m
   pub rest : Besides (mostSubjects * r) mostSubjects l m
 
+-- how many delegations are decoded and lowered together
+abbrev pub runSize : ℕ
+runSize = 16
+
+-- the tables that a round is lent: room for every reach, and a queue in which none waits
+pub record TablesLent (reaches : List ℤ) (waiting : List ℕ) : Type 0 where
+  pub size : length reaches ≡ reachCount
+  pub queue : Empty waiting
+
+-- what filling the row of the receiver r asks: the block with its starts, the marks that its conditions name, and the rows of the receivers before r
+pub record RowAsked (t : List ℤ) (b places : List ℕ) (named set r : ℕ) (reaches : List ℤ) (waiting : List ℕ) : Type 0 where
+  pub block : Prepared t b places
+  pub names : Names named (decode b .delegations)
+  pub receiver : r < subjectsIn b
+  pub filled : Filled t (decode b) set r reaches
+  pub queue : Empty waiting
+
+-- n delegations from `first` on that can be lowered together, and room for their weights
+pub record RunAsked (b : List ℕ) (first n : ℕ) (weights : List ℤ) : Type 0 where
+  pub records : HasRecords b (first + n)
+  pub few : first + n ≤ mostRecords
+  pub run : n ≤ runSize
+  pub room : length weights ≡ mostRecords
+
 -- a delegation, decoded
 abbrev pub decodedAs : Delegation → DecodedDelegation
 decodedAs d = record { giver = d .giver; receiver = d .receiver; weight = pos (d .weight); need = d .need; bar = d .bar }
@@ -70,10 +95,6 @@ decodedAs d = record { giver = d .giver; receiver = d .receiver; weight = pos (d
 -- what is read past the end of decoded delegations
 abbrev pub noneDecoded : DecodedDelegation
 noneDecoded = decodedAs noDelegation
-
--- how many delegations are decoded and lowered together
-abbrev pub runSize : ℕ
-runSize = 16
 
 -- the first n of the delegations f, decoded
 abbrev pub Decoded : (ℕ → Delegation) → ℕ → List DecodedDelegation → Type 0

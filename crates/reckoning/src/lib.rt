@@ -7,7 +7,7 @@ ghost use lib.ListN.{length};
 ghost use Rattle.block.specs.Layout.{mostRecords};
 ghost use Rattle.queue.specs.Queue.{Empty};
 ghost use Rattle.search.specs.Found.{Searchable};
-ghost use Rattle.reckoning.specs.Reckoned.{reachCount, Reckoned};
+ghost use Rattle.reckoning.specs.Reckoned.{TablesLent, Reckoned};
 pub use reaches::REACHES;
 
 // A decoded delegation; a round lowers the weight of one that it removes to -1.
@@ -28,7 +28,7 @@ pub fn reckon(
     waiting: &mut [u64],
     weights: &mut [i16],
 ) -> bool
-    requires { ⌜ Searchable (now table) (now block) × (length (now reaches) ≡ reachCount) × Empty (now waiting) × (length (now weights) ≡ mostRecords) ⌝ }
+    requires { ⌜ Searchable (now table) (now block) × TablesLent (now reaches) (now waiting) × (length (now weights) ≡ mostRecords) ⌝ }
     ensures { λ r. ⌜ Reckoned (now (table .entry)) (now (block .entry)) r (now (weights .exit)) × Empty (now (waiting .exit)) ⌝ }
 {
     reaches::fill_reaches(block, table, reaches, waiting);

@@ -5,7 +5,7 @@ ghost use Prim.Native.Nat.{_+_, _*_, _≤_};
 ghost use lib.ListN.{length, take, drop};
 ghost use Rattle.block.specs.Layout.{mostRecords};
 ghost use Rattle.block.specs.Records.{HasRecord, HasRecords, delegationAt};
-ghost use Rattle.reckoning.specs.Reckoned.{runSize, decodedAs, Decoded, loweredTo, lowerOne, WeightsRead, RunLowered};
+ghost use Rattle.reckoning.specs.Reckoned.{runSize, RunAsked, decodedAs, Decoded, loweredTo, lowerOne, WeightsRead, RunLowered};
 use crate::Delegation;
 use block::layout;
 
@@ -94,7 +94,7 @@ fn read_weights(
     n: usize,
     weights: &mut [i16],
 ) -> bool
-    requires { ⌜ HasRecords (now block) (first + n) × (first + n ≤ mostRecords) × (n ≤ runSize) × (length (now weights) ≡ mostRecords) ⌝ }
+    requires { ⌜ RunAsked (now block) first n (now weights) ⌝ }
     ensures { λ r. ⌜ WeightsRead (delegationAt (now (block .entry))) ds first n r (now (weights .entry)) (now (weights .exit)) ⌝ }
 {
     let mut changed = false;
@@ -113,7 +113,7 @@ fn read_weights(
 
 // The weights of the `n` delegations from the place `first` on, lowered to their reaches; whether one was.
 fn lower_run(block: &[u8], reaches: &[i16], first: usize, n: usize, weights: &mut [i16]) -> bool
-    requires { ⌜ HasRecords (now block) (first + n) × (first + n ≤ mostRecords) × (n ≤ runSize) × (length (now weights) ≡ mostRecords) ⌝ }
+    requires { ⌜ RunAsked (now block) first n (now weights) ⌝ }
     ensures { λ r. ⌜ RunLowered (now (reaches .entry)) (delegationAt (now (block .entry))) first n r (now (weights .entry)) (now (weights .exit)) ⌝ }
 {
     let ds = decoded(block, first, n);

@@ -7,8 +7,7 @@ ghost use Rattle.block.specs.Block.{subjectsIn, decode};
 ghost use Rattle.block.specs.Records.{HasRecords, delegationAt};
 ghost use Rattle.queue.specs.Queue.{setBits, Empty};
 ghost use Rattle.search.specs.Found.{Searchable, Prepared};
-ghost use Rattle.search.specs.Named.{Names};
-ghost use Rattle.reckoning.specs.Reckoned.{reachCount, HasReceivers, NamesFirst, Filled, Tabled, PlacesCopied, RowMade};
+ghost use Rattle.reckoning.specs.Reckoned.{reachCount, HasReceivers, NamesFirst, TablesLent, RowAsked, Tabled, PlacesCopied, RowMade};
 use block::layout;
 
 // A reach for each giver and receiver.
@@ -52,7 +51,7 @@ fn search_row(
     reaches: &mut [i16],
     waiting: &mut [u64],
 )
-    requires { ⌜ Prepared (now table) (now block) (now starts) × (receiver < subjectsIn (now block)) × (length (now reaches) ≡ reachCount) × Empty (now waiting) ⌝ }
+    requires { ⌜ Prepared (now table) (now block) (now starts) × (receiver < subjectsIn (now block)) × TablesLent (now reaches) (now waiting) ⌝ }
     ensures { λ _. ⌜ RowMade (now (table .entry)) (decode (now (block .entry))) receiver (now (reaches .entry)) (now (reaches .exit)) × Empty (now (waiting .exit)) ⌝ }
 {
     let mut parents = [0u16; layout::SUBJECTS];
@@ -92,7 +91,7 @@ fn fill_row(
     reaches: &mut [i16],
     waiting: &mut [u64],
 )
-    requires { ⌜ Prepared (now table) (now block) (now starts) × Names named ((decode (now block)) .delegations) × (receiver < subjectsIn (now block)) × Filled (now table) (decode (now block)) set receiver (now reaches) × Empty (now waiting) ⌝ }
+    requires { ⌜ RowAsked (now table) (now block) (now starts) named set receiver (now reaches) (now waiting) ⌝ }
     ensures { λ _. ⌜ RowMade (now (table .entry)) (decode (now (block .entry))) receiver (now (reaches .entry)) (now (reaches .exit)) × Empty (now (waiting .exit)) ⌝ }
 {
     let marks = block::marks(block, receiver) & named;
@@ -109,7 +108,7 @@ fn fill_row(
 
 // The rows of all receivers that hold a delegation: one search for those whose marks agree on all that are named.
 pub fn fill_reaches(block: &[u8], table: &[i16], reaches: &mut [i16], waiting: &mut [u64])
-    requires { ⌜ Searchable (now table) (now block) × (length (now reaches) ≡ reachCount) × Empty (now waiting) ⌝ }
+    requires { ⌜ Searchable (now table) (now block) × TablesLent (now reaches) (now waiting) ⌝ }
     ensures { λ _. ⌜ Tabled (now (table .entry)) (decode (now (block .entry))) (now (reaches .exit)) × Empty (now (waiting .exit)) ⌝ }
 {
     let n = block::subjects(block) as usize;

@@ -9,7 +9,8 @@ ghost use Rattle.block.specs.Layout.{mostRecords};
 ghost use Rattle.block.specs.Block.{decode};
 ghost use Rattle.block.specs.WellFormed.{wellFormed};
 ghost use Rattle.queue.specs.Queue.{Empty};
-ghost use Rattle.reckoning.specs.Reckoned.{reachCount};
+ghost use Rattle.search.specs.Found.{Searchable};
+ghost use Rattle.reckoning.specs.Reckoned.{TablesLent};
 ghost use Rattle.rounds.specs.Rounded.{RoundMade};
 ghost use Rattle.rounds.specs.Settled.{SettledMade};
 use block::layout;
@@ -35,7 +36,7 @@ fn round(
     waiting: &mut [u64],
     weights: &mut [i16],
 ) -> bool
-    requires { ⌜ (wellFormed (now block) ≡ true) × TableRule (now table) × (length (now reaches) ≡ reachCount) × Empty (now waiting) × (length (now weights) ≡ mostRecords) ⌝ }
+    requires { ⌜ Searchable (now table) (now block) × TablesLent (now reaches) (now waiting) × (length (now weights) ≡ mostRecords) ⌝ }
     ensures { λ r. ⌜ RoundMade (now (table .entry)) (decode (now (block .entry))) r (now (block .exit)) × Empty (now (waiting .exit)) ⌝ }
 {
     if !reckoning::reckon(block, table, reaches, waiting, weights) {

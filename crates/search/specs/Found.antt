@@ -9,7 +9,8 @@ use Rattle.rules.specs.Table.{TableRule}
 use Rattle.block.specs.Layout.{mostSubjects}
 use Rattle.block.specs.Block.{recordsIn}
 use Rattle.block.specs.WellFormed.{wellFormed}
-use Rattle.runs.specs.Lent.{recordCount, delegationsIn}
+use Rattle.queue.specs.Queue.{Empty}
+use Rattle.runs.specs.Lent.{recordCount, delegationsIn, SubjectLists}
 use Rattle.runs.specs.Steps.{Starts}
 use Rattle.search.specs.Search.{reaches, LeadBack}
 
@@ -22,6 +23,11 @@ pub record Searchable (t : List ℤ) (b : List ℕ) : Type 0 where
 pub record Prepared (t : List ℤ) (b places : List ℕ) : Type 0 where
   pub block : Searchable t b
   pub starts : Starts (recordsIn b) places
+
+-- what a search fills, and a queue in which none waits
+pub record SearchLent (l : List ℤ) (p q : List ℕ) : Type 0 where
+  pub lists : SubjectLists l p
+  pub queue : Empty q
 
 -- the parent of every subject is the place of one of n records
 abbrev pub ParentsAmong : List ℕ → ℕ → Type 0

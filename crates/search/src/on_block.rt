@@ -10,7 +10,7 @@ ghost use Rattle.block.specs.WellFormed.{wellFormed};
 ghost use Rattle.queue.specs.Queue.{Empty};
 ghost use Rattle.runs.specs.Lent.{SubjectLists};
 ghost use Rattle.runs.specs.Steps.{startCount, Starts};
-ghost use Rattle.search.specs.Found.{Searchable, Prepared, Searched};
+ghost use Rattle.search.specs.Found.{Searchable, Prepared, SearchLent, Searched};
 use crate::search;
 use block::layout;
 
@@ -32,7 +32,7 @@ pub fn limits_by(
     parents: &mut [u16],
     waiting: &mut [u64],
 )
-    requires { ⌜ Prepared (now table) (now block) (now starts) × (receiver < subjectsIn (now block)) × SubjectLists (now limits) (now parents) × Empty (now waiting) ⌝ }
+    requires { ⌜ Prepared (now table) (now block) (now starts) × (receiver < subjectsIn (now block)) × SearchLent (now limits) (now parents) (now waiting) ⌝ }
     ensures { λ _. ⌜ Searched (now (table .entry)) (recordsIn (now (block .entry))) (marksOf (decode (now (block .entry))) receiver) (now (limits .exit)) (now (parents .exit)) × Empty (now (waiting .exit)) ⌝ }
 {
     let marks = block::marks(block, receiver);

@@ -26,7 +26,7 @@ lower-all-requires c κs =
     let g = fits-bytes b (k .shared-slice-known .given) in
     let e = c .before .before .count .ensures in
     let m = count-most b g (k .before .pre .0 .formed) in
-    (omega (arith, e, m, size-held b g (k .before .pre .0 .formed)), omega (arith, e, m), k .before .pre .3)
+    (omega (arith, e, m, size-held b g (k .before .pre .0 .formed)), omega (arith, e, m), k .before .pre .2)
 
 same-length : tie.Need-same-length
 same-length c = search needs
@@ -47,7 +47,7 @@ returns c =
     let b = a .block .now in
     let after = r .last .1 .1 .1 .0 in
     let left = subst (λ (m : ℕ). RunLowered (f .last .1 .1 .0) (delegationAt b) 0 m (r .result) (a .weights .now) after) (n .count .ensures) (r .ensures) in
-    (reckoned (a .table .now) b (fits-bytes b (k .shared-slice-known .given)) (k .before .pre .0 .formed) (f .last .1 .1 .0) (f .kept .1 .1 .0 ∙ k .before .pre .1) (f .ensures .0) (r .result) (a .weights .now) after left, f .ensures .1)
+    (reckoned (a .table .now) b (fits-bytes b (k .shared-slice-known .given)) (k .before .pre .0 .formed) (f .last .1 .1 .0) (f .kept .1 .1 .0 ∙ k .before .pre .1 .size) (f .ensures .0) (r .result) (a .weights .now) after left, f .ensures .1)
 
 pub reckon-spec : {M : Type 1} → statement M
 reckon-spec =

@@ -25,7 +25,7 @@ returns : tie.Need-returns
 returns c =
     let s = c .before .before .before .before .before .before .before .before .before .before .before .before in
     let o = c .before .before .before .before .before .reckon in
-    (round-none (s .args .table .now) (s .args .block .now) (fits-bytes (s .args .block .now) (c .before .before .before .before .before .before .before .before .before .before .before .slice-known .given)) (s .pre .0) (o .result) (o .last .1 .1 .1 .1 .0) (o .ensures .0) (not-true (o .result) (c .if1 .taken)), o .ensures .1)
+    (round-none (s .args .table .now) (s .args .block .now) (fits-bytes (s .args .block .now) (c .before .before .before .before .before .before .before .before .before .before .before .slice-known .given)) (s .pre .0 .formed) (o .result) (o .last .1 .1 .1 .1 .0) (o .ensures .0) (not-true (o .result) (c .if1 .taken)), o .ensures .1)
 
 write-left-requires : tie.Need-write-left-requires
 write-left-requires c κs = search needs

@@ -54,7 +54,7 @@ round-requires : tie.Need-round-requires Inv-loop μ-loop
 round-requires c κs =
     let s = c .before .before .before .before .before .before .before .before .before .before in
     let l = c .before .before .before .before .loop in
-    (on-formed (s .args .table .now) (decode (s .args .block .now)) (l .changed) (l .block) (l .inv .1), s .pre .1, l .inv .2, l .inv .3, l .inv .4)
+    (record { formed = on-formed (s .args .table .now) (decode (s .args .block .now)) (l .changed) (l .block) (l .inv .1); rule = s .pre .1 }, record { size = l .inv .2; queue = l .inv .3 }, l .inv .4)
 
 add-changed : tie.Need-add-changed Inv-loop μ-loop
 add-changed c =

@@ -28,7 +28,7 @@ lower-run-requires c κs =
     let s = c .before .before .before .before in
     let l = c .before .before .loop in
     let e : l .k + runSize ≤ s .args .n = omega (arith, c .before .loop-test .taken) in
-    (omega (arith, s .pre .0), omega (arith, s .pre .1), omega arith, l .inv .1)
+    record { records = omega (arith, s .pre .0); few = omega (arith, s .pre .1); run = omega arith; room = l .inv .1 }
 
 add-k : tie.Need-add-k Inv-loop μ-loop
 add-k c = omega (arith, c .before .before .before .before .loop-test .taken, c .before .before .before .before .before .before .before .pre .1)
@@ -55,7 +55,7 @@ lower-run-requires-2 c κs =
     let s = c .before .before .before .before in
     let l = c .before .before .loop in
     let e : l .k + (s .args .n - l .k) ≡ s .args .n = omega (arith, l .inv .0) in
-    (rw e (s .pre .0), rw e (s .pre .1), omega (arith, c .before .loop-test .left), l .inv .1)
+    record { records = rw e (s .pre .0); few = rw e (s .pre .1); run = omega (arith, c .before .loop-test .left); room = l .inv .1 }
 
 same-length : tie.Need-same-length Inv-loop μ-loop
 same-length c = c .before .before .lower-run2 .kept .1 .1 .1 .1 .0 ∙ c .before .before .before .before .before .loop .inv .1 ∙ sym (c .before .before .before .before .before .before .before .pre .2)

@@ -27,7 +27,7 @@ returns c =
     let d = c .before .before .before .before .decoded in
     let s = c .before .before .before .before .before .before in
     let a = s .args in
-    let room : a .n ≤ length (d .result) = omega (arith, d .ok .1 .0 .1, s .pre .2) in
+    let room : a .n ≤ length (d .result) = omega (arith, d .ok .1 .0 .1, s .pre .run) in
     run-lowered (a .reaches .now) (delegationAt (a .block .now)) (a .first) (a .n) (r .result) (a .weights .now) _ (d .result) room (d .ensures) (rw (← o .ensures) (r .ensures))
 
 pub lower-run-spec : {M : Type 1} → statement M

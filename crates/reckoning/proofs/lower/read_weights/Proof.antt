@@ -25,7 +25,7 @@ abbrev μ-loop : tie.MeasureT-loop
 loop-holds : tie.Need-loop-holds Inv-loop μ-loop
 loop-holds c =
     let s = c .before in
-    (omega arith, s .pre .3, put-none (delegationAt (s .args .block .now)) (λ k. getD (s .args .t2) k noneDecoded .weight) (s .args .first) (s .args .weights .now))
+    (omega arith, s .pre .room, put-none (delegationAt (s .args .block .now)) (λ k. getD (s .args .t2) k noneDecoded .weight) (s .args .first) (s .args .weights .now))
 
 mul-d : tie.Need-mul-d Inv-loop μ-loop
 mul-d c = omega arith
@@ -74,7 +74,7 @@ loop-again c =
     (c .if1 .came)
 
 same-length : tie.Need-same-length Inv-loop μ-loop
-same-length c = c .before .loop .inv .1 ∙ sym (c .before .before .before .pre .3)
+same-length c = c .before .loop .inv .1 ∙ sym (c .before .before .before .pre .room)
 
 returns : tie.Need-returns Inv-loop μ-loop
 returns c =

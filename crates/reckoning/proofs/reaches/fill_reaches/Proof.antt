@@ -63,7 +63,7 @@ starts-of-requires c κs = search needs
 loop-holds : tie.Need-loop-holds Inv-loop μ-loop
 loop-holds c =
     let s = c .before .before .before .before .before .before .before .before .before in
-    (omega arith, filled-none (s .args .table .now) (decode (s .args .block .now)) _ (s .args .reaches .now) (s .pre .1), s .pre .2)
+    (omega arith, filled-none (s .args .table .now) (decode (s .args .block .now)) _ (s .args .reaches .now) (s .pre .1 .size), s .pre .1 .queue)
 
 shr-if1 : tie.Need-shr-if1 Inv-loop μ-loop
 shr-if1 c =
@@ -80,13 +80,14 @@ fill-row-requires c κs =
     let s = c .before .before .before .before .before .before .before .before .before .before .before .before .before .before .before in
     let b = s .args .block .now in
     let g = fits-bytes b (c .before .before .before .before .before .before .before .before .before .before .before .before .before .before .shared-slice-known .given) in
-    let l = c .before .before .before .before .before in (
-      record { block = s .pre .0; starts = l .before .before .starts-of .ensures },
-      each-held (λ d. MarksIn (d .need) _ × MarksIn (d .bar) _) b g (s .pre .0 .formed) _ (c .before .before .before .before .before .before .before .before .before .before .before .count .ensures) (c .before .before .before .before .before .before .before .before .before .named-marks .ensures),
-      omega (arith, c .before .before .before .before .before .before .before .before .before .before .before .before .subjects .ensures, c .before .before .before .before .loop-test .taken),
-      l .loop .inv .1,
-      l .loop .inv .2,
-    )
+    let l = c .before .before .before .before .before in
+    record {
+      block = record { block = s .pre .0; starts = l .before .before .starts-of .ensures };
+      names = each-held (λ d. MarksIn (d .need) _ × MarksIn (d .bar) _) b g (s .pre .0 .formed) _ (c .before .before .before .before .before .before .before .before .before .before .before .count .ensures) (c .before .before .before .before .before .before .before .before .before .named-marks .ensures);
+      receiver = omega (arith, c .before .before .before .before .before .before .before .before .before .before .before .before .subjects .ensures, c .before .before .before .before .loop-test .taken);
+      filled = l .loop .inv .1;
+      queue = l .loop .inv .2;
+    }
 
 add-receiver : tie.Need-add-receiver Inv-loop μ-loop
 add-receiver c = omega (arith, c .before .loop-test .taken, c .before .before .before .before .before .before .before .before .before .subjects .ok)
@@ -105,10 +106,10 @@ loop-again c =
     (c .if1 .came)
 
 same-length : tie.Need-same-length Inv-loop μ-loop
-same-length c = c .before .loop .inv .1 .size ∙ sym (c .before .before .before .before .before .before .before .before .before .before .before .pre .1)
+same-length c = c .before .loop .inv .1 .size ∙ sym (c .before .before .before .before .before .before .before .before .before .before .before .pre .1 .size)
 
 same-length-2 : tie.Need-same-length-2 Inv-loop μ-loop
-same-length-2 c = c .before .loop .inv .2 .size ∙ sym (c .before .before .before .before .before .before .before .before .before .before .before .pre .2 .size)
+same-length-2 c = c .before .loop .inv .2 .size ∙ sym (c .before .before .before .before .before .before .before .before .before .before .before .pre .1 .queue .size)
 
 returns : tie.Need-returns Inv-loop μ-loop
 returns c =

@@ -23,8 +23,8 @@ abbrev μ-loop : tie.MeasureT-loop
 marks-requires : tie.Need-marks-requires Inv-loop μ-loop
 marks-requires c κs =
     let s = c .before .before .before in
-    let r = rules-of (s .args .block .now) (fits-bytes (s .args .block .now) (c .before .before .shared-slice-known .given)) (s .pre .0 .block .formed) in
-    omega (arith, r .size, r .most, s .pre .2)
+    let r = rules-of (s .args .block .now) (fits-bytes (s .args .block .now) (c .before .before .shared-slice-known .given)) (s .pre .block .block .formed) in
+    omega (arith, r .size, r .most, s .pre .receiver)
 
 loop-holds : tie.Need-loop-holds Inv-loop μ-loop
 loop-holds c = (omega arith, refl)
@@ -35,21 +35,21 @@ sub-other c = omega (arith, c .loop-test .taken)
 shr-if1 : tie.Need-shr-if1 Inv-loop μ-loop
 shr-if1 c =
     let s = c .before .before .before .before .before .before in
-    let r = rules-of (s .args .block .now) (fits-bytes (s .args .block .now) (c .before .before .before .before .before .shared-slice-known .given)) (s .pre .0 .block .formed) in
-    omega (arith, r .most, s .pre .2, c .before .loop .inv .0)
+    let r = rules-of (s .args .block .now) (fits-bytes (s .args .block .now) (c .before .before .before .before .before .shared-slice-known .given)) (s .pre .block .block .formed) in
+    omega (arith, r .most, s .pre .receiver, c .before .loop .inv .0)
 
 marks-requires-2 : tie.Need-marks-requires-2 Inv-loop μ-loop
 marks-requires-2 c κs =
     let s = c .before .before .before .before .before .before .before in
-    let r = rules-of (s .args .block .now) (fits-bytes (s .args .block .now) (c .before .before .before .before .before .before .shared-slice-known .given)) (s .pre .0 .block .formed) in
-    omega (arith, r .size, r .most, s .pre .2, c .before .before .loop .inv .0)
+    let r = rules-of (s .args .block .now) (fits-bytes (s .args .block .now) (c .before .before .before .before .before .before .shared-slice-known .given)) (s .pre .block .block .formed) in
+    omega (arith, r .size, r .most, s .pre .receiver, c .before .before .loop .inv .0)
 
 copy-row-requires : tie.Need-copy-row-requires Inv-loop μ-loop
 copy-row-requires c κs =
     let s = c .before .before .before .before .before .before .before .before .before .before in
     let l = c .before .before .before .before in
-    let r = rules-of (s .args .block .now) (fits-bytes (s .args .block .now) (c .before .before .before .before .before .before .before .before .before .shared-slice-known .given)) (s .pre .0 .block .formed) in
-    (omega (arith, l .loop-test .taken, l .before .loop .inv .0), omega (arith, r .most, s .pre .2), ap length (l .before .loop .inv .1) ∙ s .pre .3 .size)
+    let r = rules-of (s .args .block .now) (fits-bytes (s .args .block .now) (c .before .before .before .before .before .before .before .before .before .shared-slice-known .given)) (s .pre .block .block .formed) in
+    (omega (arith, l .loop-test .taken, l .before .loop .inv .0), omega (arith, r .most, s .pre .receiver), ap length (l .before .loop .inv .1) ∙ s .pre .filled .size)
 
 same-length : tie.Need-same-length Inv-loop μ-loop
 same-length c = c .before .copy-row .kept .0 ∙ ap length (c .before .before .before .before .before .before .before .loop .inv .1)
@@ -64,11 +64,11 @@ returns c =
     let j = l .before .loop .other - 1 in
     let v = s .args .receiver in
     let o : j < v = omega (arith, l .loop-test .taken, l .before .loop .inv .0) in
-    let other = sym (marks-held b g (s .pre .0 .block .formed) j (omega (arith, o, s .pre .2))) ∙ sym (c .before .before .before .before .marks2 .ensures) in
-    let own = l .before .before .marks .ensures ∙ marks-held b g (s .pre .0 .block .formed) v (s .pre .2) in
+    let other = sym (marks-held b g (s .pre .block .block .formed) j (omega (arith, o, s .pre .receiver))) ∙ sym (c .before .before .before .before .marks2 .ensures) in
+    let own = l .before .before .marks .ensures ∙ marks-held b g (s .pre .block .block .formed) v (s .pre .receiver) in
     let e = ap (λ (x : ℕ). bitAnd x n) other ∙ eqb→eq (bitAnd (c .before .before .before .before .marks2 .result) n) (bitAnd (l .before .before .marks .result) n) (yes (c .before .before .before .if2 .taken)) ∙ ap (λ (x : ℕ). bitAnd x n) own in
     let h = sym (bit-read (s .args .set) j) ∙ c .before .before .before .before .before .if1 .taken in
-    (row-copied (s .args .table .now) (decode b) (s .args .set) n j v (s .args .reaches .now) (c .before .copy-row .last .0) (s .pre .1) (s .pre .3 .rows j o h) e (rw (l .before .loop .inv .1) at (c .before .copy-row .ensures)), s .pre .4)
+    (row-copied (s .args .table .now) (decode b) (s .args .set) n j v (s .args .reaches .now) (c .before .copy-row .last .0) (s .pre .names) (s .pre .filled .rows j o h) e (rw (l .before .loop .inv .1) at (c .before .copy-row .ensures)), s .pre .queue)
 
 loop-less : tie.Need-loop-less Inv-loop μ-loop
 loop-less c = omega (arith, c .before .loop-test .taken)
@@ -79,7 +79,7 @@ loop-again c = (omega (arith, c .before .before .loop .inv .0), c .before .befor
 search-row-requires : tie.Need-search-row-requires Inv-loop μ-loop
 search-row-requires c κs =
     let s = c .before .before .before .before .before .before .before .before in
-    (s .pre .0, s .pre .2, ap length (c .before .before .before .loop .inv .1) ∙ s .pre .3 .size, s .pre .4)
+    (s .pre .block, s .pre .receiver, record { size = ap length (c .before .before .before .loop .inv .1) ∙ s .pre .filled .size; queue = s .pre .queue })
 
 same-length-2 : tie.Need-same-length-2 Inv-loop μ-loop
 same-length-2 c = c .before .before .before .search-row .kept .1 .1 .1 .1 .0 ∙ ap length (c .before .before .before .before .before .before .before .loop .inv .1)

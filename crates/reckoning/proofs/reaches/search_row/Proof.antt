@@ -15,16 +15,16 @@ use Rattle.reckoning.proofs.reaches.search_row.Tie as tie
 
 -- the row lies in the table
 room : (s : tie.After-shared-slice-known) → mostSubjects * (s .before .args .receiver) + mostSubjects ≤ length (s .before .args .reaches .now)
-room s = let a = s .before .args in omega (arith, rules-of (a .block .now) (fits-bytes (a .block .now) (s .shared-slice-known .given)) (s .before .pre .0 .block .formed) .most, s .before .pre .1, s .before .pre .2)
+room s = let a = s .before .args in omega (arith, rules-of (a .block .now) (fits-bytes (a .block .now) (s .shared-slice-known .given)) (s .before .pre .0 .block .formed) .most, s .before .pre .1, s .before .pre .2 .size)
 
 mul-at : tie.Need-mul-at
-mul-at c = omega (arith, room (c .before .before), c .before .before .before .pre .2)
+mul-at c = omega (arith, room (c .before .before), c .before .before .before .pre .2 .size)
 
 add-limits-by : tie.Need-add-limits-by
-add-limits-by c = omega (arith, room (c .before .before), c .before .before .before .pre .2)
+add-limits-by c = omega (arith, room (c .before .before), c .before .before .before .pre .2 .size)
 
 mul-limits-by : tie.Need-mul-limits-by
-mul-limits-by c = omega (arith, room (c .before .before), c .before .before .before .pre .2)
+mul-limits-by c = omega (arith, room (c .before .before), c .before .before .before .pre .2 .size)
 
 sub-limits-by : tie.Need-sub-limits-by
 sub-limits-by c = search needs
@@ -39,7 +39,7 @@ slice-aggregate-limits-by : tie.Need-slice-aggregate-limits-by
 slice-aggregate-limits-by c = search needs
 
 limits-by-requires : tie.Need-limits-by-requires
-limits-by-requires c κs = search needs
+limits-by-requires c κs = (search needs, search needs, record { lists = search needs; queue = search needs })
 
 same-length : tie.Need-same-length
 same-length c = search needs

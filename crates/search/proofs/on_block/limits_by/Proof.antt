@@ -21,7 +21,7 @@ records-requires c κs = has-records (c .before .before .before .before .before 
 search-requires : tie.Need-search-requires
 search-requires c κs =
     let s = c .before .before .before .before .before .before .before .before .before in
-    rw (c .before .before .before .records .ensures) (record { lent = lent-held (s .args .block .now) (bytes (c .before .before .before .before .before .before .before .before)) (s .pre .0 .block .formed) (s .args .table .now) (s .pre .0 .block .rule); starts = s .pre .0 .starts }, s .pre .2, s .pre .3)
+    rw (c .before .before .before .records .ensures) (record { lent = lent-held (s .args .block .now) (bytes (c .before .before .before .before .before .before .before .before)) (s .pre .0 .block .formed) (s .args .table .now) (s .pre .0 .block .rule); starts = s .pre .0 .starts }, s .pre .2 .lists, s .pre .2 .queue)
 
 same-length : tie.Need-same-length
 same-length c = search needs

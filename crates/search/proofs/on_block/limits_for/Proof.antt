@@ -10,7 +10,7 @@ slice-aggregate-limits-by : tie.Need-slice-aggregate-limits-by
 slice-aggregate-limits-by c = search needs
 
 limits-by-requires : tie.Need-limits-by-requires
-limits-by-requires c κs = let s = c .before .before .before .before .before .before in (s .pre .0, s .pre .1, s .pre .2, record { size = refl; none = empty-waits levels })
+limits-by-requires c κs = let s = c .before .before .before .before .before .before in (s .pre .0, s .pre .1, record { lists = s .pre .2; queue = record { size = refl; none = empty-waits levels } })
 
 same-length : tie.Need-same-length
 same-length c = search needs
