@@ -28,7 +28,7 @@ use Rattle.queue.proofs.Buckets.{bit-small, bit-or, bit-here, bit-shr}
 use Rattle.runs.specs.Lent.{delegationsIn}
 use Rattle.search.specs.Search.{underMarks}
 use Rattle.search.specs.Found.{Searched}
-use Rattle.search.specs.Named.{MarksIn, Names}
+use Rattle.search.specs.Named.{MarksAmong, AllNamed}
 use Rattle.search.proofs.Sharing.{reach-shared}
 use Rattle.reckoning.specs.Reckoned.{reachCount, reachAt, HasRow, Filled, Tabled, PlacesCopied, RowMade}
 
@@ -100,9 +100,9 @@ set-on f set one k e h = below-more (λ j. bit (bitOr set one) (f j) ≡ 1) k
     (bit-or set one (f k) ∙ omega (arith, bit-small set (f k), ap (λ (x : ℕ). bit x (f k)) e ∙ bit-here (f k)))
 
 -- the marks of two more numbers
-pub names-on : (f g : ℕ → ℕ) (named k : ℕ) → ((j : ℕ) → j < k → MarksIn (f j) named × MarksIn (g j) named) → (j : ℕ) → j < k + 1
-    → MarksIn (f j) (bitOr (bitOr named (f k)) (g k)) × MarksIn (g j) (bitOr (bitOr named (f k)) (g k))
-names-on f g named k h = below-more (λ j. MarksIn (f j) (bitOr (bitOr named (f k)) (g k)) × MarksIn (g j) (bitOr (bitOr named (f k)) (g k))) k
+pub names-on : (f g : ℕ → ℕ) (named k : ℕ) → ((j : ℕ) → j < k → MarksAmong (f j) named × MarksAmong (g j) named) → (j : ℕ) → j < k + 1
+    → MarksAmong (f j) (bitOr (bitOr named (f k)) (g k)) × MarksAmong (g j) (bitOr (bitOr named (f k)) (g k))
+names-on f g named k h = below-more (λ j. MarksAmong (f j) (bitOr (bitOr named (f k)) (g k)) × MarksAmong (g j) (bitOr (bitOr named (f k)) (g k))) k
     (λ j l. ((λ y. omega (arith, wide y, h j l .0 y)), (λ y. omega (arith, wide y, h j l .1 y))))
     ((λ y. omega (arith, wide y)), (λ y. omega (arith, wide y)))
   where
@@ -123,7 +123,7 @@ module _ (t : List ℤ) (R : Register) (set : ℕ) where
   }
 
   -- the row of another receiver whose marks agree on all that are named, copied
-  pub row-copied : (n w v : ℕ) (l m : List ℤ) → Names n (R .delegations) → HasRow t R w l → bitAnd (marksOf R w) n ≡ bitAnd (marksOf R v) n → PlacesCopied (mostSubjects * w) (mostSubjects * v) mostSubjects l m → RowMade t R v l m
+  pub row-copied : (n w v : ℕ) (l m : List ℤ) → AllNamed n (R .delegations) → HasRow t R w l → bitAnd (marksOf R w) n ≡ bitAnd (marksOf R v) n → PlacesCopied (mostSubjects * w) (mostSubjects * v) mostSubjects l m → RowMade t R v l m
   row-copied n w v l m names row e c = record { row = λ u h. c .there u h ∙ row u h ∙ reach-shared t R n u w v names e; rest = c .rest }
 
   pub filled-tabled : WellFormed R → ((d : Delegation) → d ∈ R .delegations → bit set (d .receiver) ≡ 1) → (v : ℕ) → v ≡ R .subjects → (l : List ℤ) → Filled t R set v l → Tabled t R l

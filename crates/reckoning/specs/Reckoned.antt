@@ -18,7 +18,7 @@ use Rattle.block.specs.Records.{HasRecords, delegationAt, leftTo}
 use Rattle.block.specs.Block.{subjectsIn, countIn, decode}
 use Rattle.queue.specs.Queue.{bit, Empty}
 use Rattle.search.specs.Found.{Prepared}
-use Rattle.search.specs.Named.{MarksIn, Names}
+use Rattle.search.specs.Named.{MarksAmong, AllNamed}
 use Rattle.reckoning.specs.declared.Delegation.{Delegation as DecodedDelegation}
 
 -- how many reaches the table of reaches has: one for each giver and receiver
@@ -34,8 +34,8 @@ abbrev pub HasReceivers : (ℕ → Delegation) → ℕ → ℕ → Type 0
 HasReceivers f n set = (k : ℕ) → k < n → bit set (f k .receiver) ≡ 1
 
 -- every mark that a condition of the first n delegations f names is a mark of m
-abbrev pub NamesFirst : (ℕ → Delegation) → ℕ → ℕ → Type 0
-NamesFirst f n m = (k : ℕ) → k < n → MarksIn (f k .need) m × MarksIn (f k .bar) m
+abbrev pub FirstNamed : (ℕ → Delegation) → ℕ → ℕ → Type 0
+FirstNamed f n m = (k : ℕ) → k < n → MarksAmong (f k .need) m × MarksAmong (f k .bar) m
 
 -- row r of the table of reaches holds the reach of every giver for the receiver r
 abbrev pub HasRow : List ℤ → Register → ℕ → List ℤ → Type 0
@@ -76,7 +76,7 @@ pub record TablesLent (reaches : List ℤ) (waiting : List ℕ) : Type 0 where
 -- what filling the row of the receiver r asks: the block with its starts, the marks that its conditions name, and the rows of the receivers before r
 pub record RowAsked (t : List ℤ) (b places : List ℕ) (named set r : ℕ) (reaches : List ℤ) (waiting : List ℕ) : Type 0 where
   pub block : Prepared t b places
-  pub names : Names named (decode b .delegations)
+  pub names : AllNamed named (decode b .delegations)
   pub receiver : r < subjectsIn b
   pub filled : Filled t (decode b) set r reaches
   pub queue : Empty waiting

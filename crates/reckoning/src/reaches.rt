@@ -7,7 +7,7 @@ ghost use Rattle.block.specs.Block.{subjectsIn, decode};
 ghost use Rattle.block.specs.Records.{HasRecords, delegationAt};
 ghost use Rattle.queue.specs.Queue.{setBits, Empty};
 ghost use Rattle.search.specs.Found.{Searchable, Prepared};
-ghost use Rattle.reckoning.specs.Reckoned.{reachCount, HasReceivers, NamesFirst, TablesLent, RowAsked, Tabled, PlacesCopied, RowMade};
+ghost use Rattle.reckoning.specs.Reckoned.{reachCount, HasReceivers, FirstNamed, TablesLent, RowAsked, Tabled, PlacesCopied, RowMade};
 use block::layout;
 
 // A reach for each giver and receiver.
@@ -31,7 +31,7 @@ fn receivers(block: &[u8], n: usize) -> u64
 // The marks that some condition of the first `n` delegations names.
 fn named_marks(block: &[u8], n: usize) -> u16
     requires { ⌜ HasRecords (now block) n ⌝ }
-    ensures { λ r. ⌜ NamesFirst (delegationAt (now (block .entry))) n r ⌝ }
+    ensures { λ r. ⌜ FirstNamed (delegationAt (now (block .entry))) n r ⌝ }
 {
     let mut named: u16 = 0;
     let mut k: usize = 0;

@@ -17,22 +17,22 @@ use Rattle.rules.proofs.Reach.{reach-is, reach-only}
 use Rattle.queue.specs.Queue.{bit}
 use Rattle.queue.proofs.Buckets.{bit-small, bit-and, bits-same}
 use Rattle.search.specs.Search.{underMarks}
-use Rattle.search.specs.Named.{MarksIn, Names}
+use Rattle.search.specs.Named.{MarksAmong, AllNamed}
 use Rattle.search.proofs.Searching.{reach-marks}
 
 module _ (n m m′ : ℕ) (agree : bitAnd m n ≡ bitAnd m′ n) where
   -- the same marks of x, where all of x are among n
-  and-named : (x : ℕ) → MarksIn x n → bitAnd m x ≡ bitAnd m′ x
+  and-named : (x : ℕ) → MarksAmong x n → bitAnd m x ≡ bitAnd m′ x
   and-named x h = bits-same (bitAnd m x) (bitAnd m′ x) (λ y. bit-and m x y ∙ same y ∙ sym (bit-and m′ x y))
     where
       same : (y : ℕ) → min (bit m y) (bit x y) ≡ min (bit m′ y) (bit x y)
       same y = omega (arith, h y, bit-small n y, bit-small m y, bit-small m′ y, sym (bit-and m n y) ∙ ap (λ (z : ℕ). bit z y) agree ∙ bit-and m′ n y)
 
-  pub meets-named : (need bar : ℕ) → MarksIn need n → MarksIn bar n → meets m need bar ≡ meets m′ need bar
+  pub meets-named : (need bar : ℕ) → MarksAmong need n → MarksAmong bar n → meets m need bar ≡ meets m′ need bar
   unfolding meets
   meets-named need bar h k = λ i. eqb (and-named need h i) need && eqb (and-named bar k i) 0
 
-module _ (t : List ℤ) (ds : List Delegation) (n : ℕ) (names : Names n ds) (u : ℕ) where
+module _ (t : List ℤ) (ds : List Delegation) (n : ℕ) (names : AllNamed n ds) (u : ℕ) where
   chain-named : (m m′ : ℕ) → bitAnd m n ≡ bitAnd m′ n → (cs : List Delegation) → IsChain t (underMarks ds m) u 0 cs → IsChain t (underMarks ds m′) u 0 cs
   chain-named m m′ agree cs c = record {
     standing = c .standing;
@@ -54,5 +54,5 @@ module _ (t : List ℤ) (ds : List Delegation) (n : ℕ) (names : Names n ds) (u
       go (inr (cs, c, e)) = inr (cs, chain-named m′ m (sym agree) cs c, e)
 
 -- two receivers whose marks agree on all that are named
-pub reach-shared : (t : List ℤ) (R : Register) (n u w v : ℕ) → Names n (R .delegations) → bitAnd (marksOf R w) n ≡ bitAnd (marksOf R v) n → reach t R u w ≡ reach t R u v
+pub reach-shared : (t : List ℤ) (R : Register) (n u w v : ℕ) → AllNamed n (R .delegations) → bitAnd (marksOf R w) n ≡ bitAnd (marksOf R v) n → reach t R u w ≡ reach t R u v
 reach-shared t R n u w v names agree = reach-marks t R u w ∙ reach-named t (R .delegations) n names u (marksOf R w) (marksOf R v) agree ∙ sym (reach-marks t R u v)

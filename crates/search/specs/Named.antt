@@ -6,9 +6,9 @@ use Rattle.rules.specs.Register.{Delegation}
 use Rattle.queue.specs.Queue.{bit}
 
 -- every mark of m is a mark of n
-abbrev pub MarksIn : ℕ → ℕ → Type 0
-MarksIn m n = (y : ℕ) → bit m y ≤ bit n y
+abbrev pub MarksAmong : ℕ → ℕ → Type 0
+MarksAmong m n = (y : ℕ) → bit m y ≤ bit n y
 
 -- every mark that a condition of ds names is a mark of n
-abbrev pub Names : ℕ → List Delegation → Type 0
-Names n ds = (d : Delegation) → d ∈ ds → MarksIn (d .need) n × MarksIn (d .bar) n
+abbrev pub AllNamed : ℕ → List Delegation → Type 0
+AllNamed n ds = (d : Delegation) → d ∈ ds → MarksAmong (d .need) n × MarksAmong (d .bar) n

@@ -8,7 +8,7 @@ use Rattle.block.specs.Block.{decode}
 use Rattle.block.proofs.Bytes.{fits-bytes}
 use Rattle.block.proofs.Held.{size-held, count-most, held-formed, subjects-held}
 use Rattle.queue.specs.Queue.{setBits, bit, Empty}
-use Rattle.search.specs.Named.{MarksIn}
+use Rattle.search.specs.Named.{MarksAmong}
 use Rattle.reckoning.specs.Reckoned.{Filled}
 use Rattle.reckoning.proofs.Filling.{each-held, held-each, bit-read, filled-none, filled-skip, filled-on, filled-tabled}
 use Rattle.reckoning.proofs.reaches.fill_reaches.Statement.{statement}
@@ -83,7 +83,7 @@ fill-row-requires c κs =
     let l = c .before .before .before .before .before in
     record {
       block = record { block = s .pre .0; starts = l .before .before .starts-of .ensures };
-      names = each-held (λ d. MarksIn (d .need) _ × MarksIn (d .bar) _) b g (s .pre .0 .formed) _ (c .before .before .before .before .before .before .before .before .before .before .before .count .ensures) (c .before .before .before .before .before .before .before .before .before .named-marks .ensures);
+      names = each-held (λ d. MarksAmong (d .need) _ × MarksAmong (d .bar) _) b g (s .pre .0 .formed) _ (c .before .before .before .before .before .before .before .before .before .before .before .count .ensures) (c .before .before .before .before .before .before .before .before .before .named-marks .ensures);
       receiver = omega (arith, c .before .before .before .before .before .before .before .before .before .before .before .before .subjects .ensures, c .before .before .before .before .loop-test .taken);
       filled = l .loop .inv .1;
       queue = l .loop .inv .2;

@@ -2,13 +2,13 @@
 use Prim.Native.Nat.{_-_, _≤_}
 use native.Mathlib.Omega.{arith}
 use Rattle.block.specs.Records.{delegationAt}
-use Rattle.reckoning.specs.Reckoned.{NamesFirst}
+use Rattle.reckoning.specs.Reckoned.{FirstNamed}
 use Rattle.reckoning.proofs.Filling.{names-on}
 use Rattle.reckoning.proofs.reaches.named_marks.Statement.{statement}
 use Rattle.reckoning.proofs.reaches.named_marks.Tie as tie
 
 abbrev Inv-loop : tie.InvT-loop
-Inv-loop block n named₀ k₀ named k = (k ≤ n) × NamesFirst (delegationAt block) k named
+Inv-loop block n named₀ k₀ named k = (k ≤ n) × FirstNamed (delegationAt block) k named
 
 abbrev μ-loop : tie.MeasureT-loop
 μ-loop block n named₀ k₀ named k = n - k
