@@ -5,7 +5,7 @@ use Prim.Native.Nat.{ℕ, zero, suc, _+_, _*_, _-_, _≤_, _<_}
 use native.Mathlib.Nat.{not-suc-le-zero, le-of-suc-le-suc}
 use native.Mathlib.Omega.{arith}
 use lib.ListN.{length, getD, take, drop, set, replicate, length-append, length-drop, length-replicate, take-append-drop, replicate-append-replicate}
-use lib.Seq.{sets, sets-eq, length-take-le, drop-cons, drop-append-add, drop-append-le, set-at, take-at}
+use lib.Seq.{sets, sets-eq, length-take-le, drop-at, drop-cons, drop-drop, drop-append-add, drop-append-le, set-at, take-at}
 use Rattle.rules.specs.List.{concatMap}
 use Rattle.rules.specs.Register.{Delegation, Register, reweigh, withDelegations, granted}
 use Rattle.rules.specs.WellFormed.{WellFormed}
@@ -16,7 +16,7 @@ use Rattle.block.specs.Block.{recordBytes, encode}
 use Rattle.block.specs.Records.{markPlace, recordPlace}
 use Rattle.change.specs.Shift.{movedUp, movedDown}
 use Rattle.block.proofs.Bytes.{length-written}
-use Rattle.block.proofs.Encode.{headOf, marksPart, middlePart, afterMarks, encode-records, encode-marks, record-wide, length-middlePart, front-encode}
+use Rattle.block.proofs.Encode.{headOf, marksPart, middlePart, afterMarks, encode-records, encode-marks, record-wide, length-middlePart, records-encode, front-encode}
 use Rattle.change.proofs.Splice.{spliced-in, spliced-out}
 
 pub concatMap-append : {A : Type 0} (f : A → List ℕ) (xs ys : List A) → concatMap f (xs ++ ys) ≡ concatMap f xs ++ concatMap f ys
@@ -131,6 +131,16 @@ module _ (R : Register) (f : WellFormed R) where
         ∙ set-at P (e .weight) rest w (recordPlace k + weightByte) p
         ∙ sym (group w)
         ∙ sym (encode-parts xs (reweigh e w ∷ []) ys n same)
+
+  -- zeros after the last record
+  pub zeros-encode : drop (recordPlace (length (R .delegations))) (encode R) ≡ zerosAfter (length (R .delegations))
+  zeros-encode =
+      let n = size (R .delegations) in
+      let D = concatMap recordBytes (R .delegations) in
+      sym (drop-drop (recordSize * length (R .delegations)) recordsAt (encode R))
+      ∙ ap (drop (recordSize * length (R .delegations))) (records-encode R f)
+      ∙ drop-at D (replicate (recordsSize - length D) 0) (recordSize * length (R .delegations)) n
+      ∙ ap (λ (k : ℕ). replicate (recordsSize - k) 0) n
 
   -- other delegations written after what stands before the records
   pub encode-with : (ds : List Delegation) → sets (take recordsAt (encode R) ++ (concatMap recordBytes ds ++ zerosAfter (length ds))) countAt (twoBytes (length ds)) ≡ encode (withDelegations R ds)

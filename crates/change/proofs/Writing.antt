@@ -1,20 +1,20 @@
 -- The records that are left, written from the first place on, and the block of the register with them. Assumes nothing.
 use mathlib.Core.Path.{_≡_, refl, sym, ap, _∙_}
 use mathlib.Core.Bool.{true, false}
-use mathlib.Core.List.{List, [], _++_, append-assoc, append-nil}
+use mathlib.Core.List.{List, [], _++_, append-assoc}
 use Prim.Native.Nat.{ℕ, zero, suc, _+_, _*_, _-_, _≤_, _<_}
 use native.Mathlib.Nat.{not-suc-le-zero}
 use native.Mathlib.Numerals.{add-one}
 use native.Mathlib.Omega.{arith}
 use borrow.Author.Tests.{ltb-true, lt-ltb}
-use borrow.Rule.Slice.PartMut.{midOf, putMid}
+use borrow.Rule.Slice.PartMut.{midOf, putMid, mid-len, post-is}
 use mir.Syntax.{w8, w16}
 use mir.Val.{Fits, SFits}
 use mir.Facts.{toZ-ofZ}
 use lib.Dec.{T, ltb}
 use lib.IntN.{ℤ, pos, negsuc, natAbs}
 use lib.Signed.{nonNeg, ltZ, mag}
-use lib.ListN.{length, getD, take, drop, replicate, length-append, length-drop, drop-of-length-le, take-append-drop}
+use lib.ListN.{length, getD, take, drop, replicate, length-append, length-drop, take-append-drop, replicate-append-replicate}
 use lib.Seq.{sets, sets-eq, length-take-le, take-at, drop-drop, drop-append-add}
 use Rattle.rules.specs.List.{concatMap}
 use Rattle.rules.specs.Limit.{code, _≼_}
@@ -29,9 +29,9 @@ use Rattle.block.specs.Records.{recordPlace, HasRecord, HasRecords, delegationA
 use Rattle.block.specs.WellFormed.{wellFormed}
 use Rattle.block.proofs.Bytes.{length-written}
 use Rattle.block.proofs.Encode.{record-wide}
-use Rattle.block.proofs.Held.{size-held, count-most, held-formed, held-written}
+use Rattle.block.proofs.Held.{size-held, count-most, count-held, held-formed, held-written}
 use Rattle.change.specs.Left.{LeftWritten}
-use Rattle.change.proofs.Rewrite.{concatMap-append, zerosAfter, encode-with}
+use Rattle.change.proofs.Rewrite.{concatMap-append, zerosAfter, zeros-encode, encode-with}
 
 -- ── a weight as the machine holds it ──
 negative : (z : ℤ) → ltZ z (pos 0) ≡ true → (d : Delegation) → (false ≡ ltb 0 (code z)) × ([] ≡ placed d z)
@@ -163,30 +163,33 @@ module _ (b : List ℕ) (bytes : IsBytes b) (formed : wellFormed b ≡ true) (ws
   within : HasRecords b k
   within = omega (arith, count-most b bytes formed, size-held b bytes formed)
 
-  pub left-most-all : n ≤ mostRecords
-  left-most-all = omega (arith, left-few b ws k n x s within, count-most b bytes formed)
+  pub left-bounds : (n ≤ k) × (k ≤ mostRecords) × (length x ≡ blockSize)
+  left-bounds = (left-few b ws k n x s within, omega (arith, count-most b bytes formed), left-length b ws k n x s within ∙ size-held b bytes formed)
 
-  pub left-size : length x ≡ blockSize
-  left-size = left-length b ws k n x s within ∙ size-held b bytes formed
+  place-within : recordPlace n ≤ recordPlace k
+  place-within = omega (arith, left-bounds .0)
 
-  -- the bytes after it set to zero, then the count stored
-  module _ (ys : List ℕ) (zeros : ys ≡ replicate (length (midOf (recordPlace n) (length x - recordPlace n) x)) 0) where
-    zeros-all : ys ≡ zerosAfter n
-    zeros-all =
-        let a = recordPlace n in
-        let m = length-take-le (length x - a) (drop a x) (omega (arith, length-drop a x)) in
-        let e : length (midOf (recordPlace n) (length x - recordPlace n) x) ≡ recordsSize - recordSize * n = omega (arith, m, left-size) in
-        zeros ∙ ap (λ (i : ℕ). replicate i 0) e
+  -- the zeros after the last record of b
+  zeros-end : drop (recordPlace k) x ≡ zerosAfter k
+  zeros-end =
+      let e : recordPlace n + (recordPlace k - recordPlace n) ≡ recordPlace k = omega (arith, place-within) in
+      let all′ : k ≡ length (decode b .delegations) = all ∙ sym (count-held b bytes formed) in
+      ap (λ (i : ℕ). drop i x) (sym e) ∙ rest b ws k n x s within (recordPlace k - recordPlace n)
+      ∙ ap (λ (i : ℕ). drop i b) e ∙ (λ i. drop (recordPlace (all′ i)) (held-written b bytes formed i))
+      ∙ zeros-encode (decode b) (held-formed b bytes formed) ∙ ap zerosAfter (sym all′)
 
-    zeroed : putMid (recordPlace n) (length x - recordPlace n) x ys ≡ take recordsAt b ++ (concatMap recordBytes (leftTo (delegationAt b) ws k) ++ zerosAfter n)
+  -- the places after it up to where the last record of b ended set to zero, then the count stored
+  module _ (ys : List ℕ) (zeros : ys ≡ replicate (length (midOf (recordPlace n) (recordPlace k - recordPlace n) x)) 0) where
+    zeroed : putMid (recordPlace n) (recordPlace k - recordPlace n) x ys ≡ take recordsAt b ++ (concatMap recordBytes (leftTo (delegationAt b) ws k) ++ zerosAfter n)
     zeroed =
-        let D = concatMap recordBytes (leftTo (delegationAt b) ws k) in
-        let last : drop (length x - recordPlace n) (drop (recordPlace n) x) ≡ [] = drop-of-length-le (drop (recordPlace n) x) {i = length x - recordPlace n} (omega (arith, length-drop (recordPlace n) x)) in
-        (λ i. front-taken b ws k n x s within i ++ (zeros-all i ++ last i))
-        ∙ ap (λ (z : List ℕ). (take recordsAt b ++ D) ++ z) (append-nil (zerosAfter n))
-        ∙ append-assoc (take recordsAt b) D (zerosAfter n)
+        let m = length (midOf (recordPlace n) (recordPlace k - recordPlace n) x) in
+        let e : m + (recordsSize - recordSize * k) ≡ recordsSize - recordSize * n =
+        omega (arith, left-bounds, mid-len (recordPlace n) (recordPlace k) x (omega (arith, left-bounds))) in
+        (λ i. front-taken b ws k n x s within i ++ (zeros i ++ (post-is (recordPlace n) (recordPlace k) x place-within ∙ zeros-end) i))
+        ∙ ap (λ (z : List ℕ). front b ws k n x s within ++ z) (replicate-append-replicate m (recordsSize - recordSize * k) 0 ∙ ap (λ (i : ℕ). replicate i 0) e)
+        ∙ append-assoc (take recordsAt b) (concatMap recordBytes (leftTo (delegationAt b) ws k)) (zerosAfter n)
 
-    pub left-encoded : sets (putMid (recordPlace n) (length x - recordPlace n) x ys) countAt (twoBytes n) ≡ encode (withDelegations (decode b) (leftTo (delegationAt b) ws (countIn b)))
+    pub left-encoded : sets (putMid (recordPlace n) (recordPlace k - recordPlace n) x ys) countAt (twoBytes n) ≡ encode (withDelegations (decode b) (leftTo (delegationAt b) ws (countIn b)))
     left-encoded =
         let ds = leftTo (delegationAt b) ws k in
         ap (λ (z : List ℕ). sets z 2 (twoBytes n)) zeroed

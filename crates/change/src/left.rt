@@ -54,14 +54,15 @@ fn keep_left(block: &mut [u8], n: usize, weights: &[i16]) -> usize
     kept
 }
 
-// The block written anew: what is left of its delegations, each at its new weight.
+// The block written anew: what is left of its delegations, each at its new weight. The places that no record has any more are set to zero; the bytes after them are zero already.
 pub fn write_left(block: &mut [u8], weights: &[i16])
     requires { ⌜ (wellFormed (now block) ≡ true) × (length (now weights) ≡ mostRecords) × ((k : ℕ) → k < countIn (now block) → getD (now weights) k (pos 0) ≼ pos 255) ⌝ }
     ensures { λ _. ⌜ now (block .exit) ≡ encode (withDelegations (decode (now (block .entry))) (leftTo (delegationAt (now (block .entry))) (now (weights .entry)) (countIn (now (block .entry))))) ⌝ }
 {
     let n = block::count(block);
     let kept = keep_left(block, n, weights);
-    let at = block::record_place(kept);
-    zero_all(&mut block[at..]);
+    let start = block::record_place(kept);
+    let end = block::record_place(n);
+    zero_all(&mut block[start..end]);
     put_two(block, layout::COUNT_AT, kept as u16);
 }

@@ -8,7 +8,7 @@ use Rattle.block.specs.Layout.{blockSize, mostRecords}
 use Rattle.block.specs.Bytes.{IsBytes}
 use Rattle.block.proofs.Bytes.{fits-bytes}
 use Rattle.block.proofs.Held.{count-most, has-head, has-records}
-use Rattle.change.proofs.Writing.{left-most-all, left-size, left-encoded}
+use Rattle.change.proofs.Writing.{left-bounds, left-encoded}
 use Rattle.change.proofs.left.write_left.Statement.{statement}
 use Rattle.change.proofs.left.write_left.Tie as tie
 
@@ -16,14 +16,12 @@ bytes : (c : tie.After-slice-known) → IsBytes (c .before .args .block .now)
 bytes c = fits-bytes (c .before .args .block .now) (c .slice-known .given)
 
 -- what is known once the records that are left are written
-known : (c : tie.After-keep-left) → (c .keep-left .result ≤ mostRecords) × (length (c .keep-left .last .0) ≡ blockSize)
+known : (c : tie.After-keep-left) → (c .keep-left .result ≤ c .before .before .count .result) × (c .before .before .count .result ≤ mostRecords) × (length (c .keep-left .last .0) ≡ blockSize)
 known c =
     let s = c .before .before .before .before .before in
     let n = c .before .before .count in
-    let r = c .keep-left in (
-      left-most-all (s .args .block .now) (bytes (c .before .before .before .before)) (s .pre .0) (s .args .weights .now) (n .result) (r .result) (r .last .0) (n .ensures) (r .ensures),
-      left-size (s .args .block .now) (bytes (c .before .before .before .before)) (s .pre .0) (s .args .weights .now) (n .result) (r .result) (r .last .0) (n .ensures) (r .ensures),
-    )
+    let r = c .keep-left in
+    left-bounds (s .args .block .now) (bytes (c .before .before .before .before)) (s .pre .0) (s .args .weights .now) (n .result) (r .result) (r .last .0) (n .ensures) (r .ensures)
 
 count-requires : tie.Need-count-requires
 count-requires c κs = has-head (c .before .before .args .block .now) (bytes (c .before)) (c .before .before .pre .0)
@@ -42,38 +40,43 @@ keep-left-requires c κs =
     }
 
 record-place-requires : tie.Need-record-place-requires
-record-place-requires c κs = known (c .before .before) .0
+record-place-requires c κs = omega (arith, known (c .before .before))
+
+record-place-requires-2 : tie.Need-record-place-requires-2
+record-place-requires-2 c κs = known (c .before .before .before) .1
 
 sub-zero-all : tie.Need-sub-zero-all
-sub-zero-all c = omega (arith, known (c .before .before .before) .0, known (c .before .before .before) .1, c .record-place .ensures)
+sub-zero-all c = omega (arith, known (c .before .before .before .before), c .before .record-place .ensures, c .record-place2 .ensures)
 
 part-zero-all-start : tie.Need-part-zero-all-start
-part-zero-all-start c = omega (arith, known (c .before .before .before) .0, known (c .before .before .before) .1, c .record-place .ensures)
+part-zero-all-start c = omega (arith, known (c .before .before .before .before), c .before .record-place .ensures, c .record-place2 .ensures)
 
 part-zero-all-end : tie.Need-part-zero-all-end
-part-zero-all-end c = search needs
+part-zero-all-end c = omega (arith, known (c .before .before .before .before), c .record-place2 .ensures)
 
 zero-all-requires : tie.Need-zero-all-requires
 zero-all-requires c κs = search needs
 
 cast-put-two : tie.Need-cast-put-two
-cast-put-two c = omega (arith, known (c .before .before .before .before .before .before .before .before) .0)
+cast-put-two c = omega (arith, known (c .before .before .before .before .before .before .before .before .before))
 
 put-two-requires : tie.Need-put-two-requires
-put-two-requires c κs = omega (arith, c .before .before .block2 .given .1, known (c .before .before .before .before .before .before .before .before) .1)
+put-two-requires c κs = omega (arith, c .before .before .block2 .given .1, known (c .before .before .before .before .before .before .before .before .before) .2)
 
 same-length : tie.Need-same-length
 same-length c = search needs
 
 returns : tie.Need-returns
 returns c =
-    let r = c .before .before .before .before .before .before .before .before .before .before .before in
+    let p = c .before .before .before .before .before .before .before .before in
+    let r = p .before .before .before .before in
     let n = r .before .before .count in
     let s = r .before .before .before .before .before in
     let z = c .before .before .before .before .before .before .zero-all in
-    let place = c .before .before .before .before .before .before .before .before .record-place .ensures in
+    let start = p .before .record-place .ensures in
+    let end = p .record-place2 .ensures in
     c .before .before .put-two .ensures
-    ∙ rw place (left-encoded (s .args .block .now) (bytes (r .before .before .before .before)) (s .pre .0) (s .args .weights .now) (n .result) (r .keep-left .result) (r .keep-left .last .0) (n .ensures) (r .keep-left .ensures) (z .last .0) (rw place at (z .ensures)))
+    ∙ rw (start, end) (left-encoded (s .args .block .now) (bytes (r .before .before .before .before)) (s .pre .0) (s .args .weights .now) (n .result) (r .keep-left .result) (r .keep-left .last .0) (n .ensures) (r .keep-left .ensures) (z .last .0) (rw (start, end) at (z .ensures)))
 
 pub write-left-spec : {M : Type 1} → statement M
 write-left-spec =
@@ -82,6 +85,7 @@ write-left-spec =
     count-requires
     keep-left-requires
     record-place-requires
+    record-place-requires-2
     sub-zero-all
     part-zero-all-start
     part-zero-all-end
