@@ -1,7 +1,7 @@
 -- The records that are left, written from the first place on, and the block of the register with them. Assumes nothing.
 use mathlib.Core.Path.{_≡_, refl, sym, ap, _∙_}
 use mathlib.Core.Bool.{true, false}
-use mathlib.Core.List.{List, [], _++_, append-assoc}
+use mathlib.Core.List.{List, [], _∷_, _++_, append-assoc}
 use Prim.Native.Nat.{ℕ, zero, suc, _+_, _*_, _-_, _≤_, _<_}
 use native.Mathlib.Nat.{not-suc-le-zero}
 use native.Mathlib.Numerals.{add-one}
@@ -14,24 +14,49 @@ use mir.Facts.{toZ-ofZ}
 use lib.Dec.{T, ltb}
 use lib.IntN.{ℤ, pos, negsuc, natAbs}
 use lib.Signed.{nonNeg, ltZ, mag}
-use lib.ListN.{length, getD, take, drop, replicate, length-append, length-drop, take-append-drop, replicate-append-replicate}
-use lib.Seq.{sets, sets-eq, length-take-le, take-at, drop-drop, drop-append-add}
-use Rattle.rules.specs.List.{concatMap}
+use lib.ListN.{length, getD, take, drop, set, replicate, length-append, length-drop, take-append-drop, replicate-append-replicate}
+use lib.Seq.{sets, sets-eq, length-take-le, take-at, drop-drop, drop-append-add, getD-drop, getD-set-other, set-getD}
+use Rattle.rules.specs.List.{tabulate, concatMap}
 use Rattle.rules.specs.Limit.{code, _≼_}
 use Rattle.rules.specs.Register.{Delegation, granted, reweigh, withDelegations}
 use Rattle.rules.specs.Round.{placed}
 use Rattle.rules.proofs.Lists.{clash}
 use Rattle.rules.proofs.Signed.{kept}
-use Rattle.block.specs.Layout.{blockSize, mostRecords, recordSize, recordsSize, countAt, recordsAt}
+use Rattle.block.specs.Layout.{blockSize, mostRecords, recordSize, recordsSize, countAt, recordsAt, giverByte, receiverByte, weightByte, restByte, needByte, barByte}
 use Rattle.block.specs.Bytes.{IsBytes, twoBytes}
 use Rattle.block.specs.Block.{delegationIn, recordBytes, countIn, decode, encode}
 use Rattle.block.specs.Records.{recordPlace, HasRecord, HasRecords, delegationAt, leftTo}
 use Rattle.block.specs.WellFormed.{wellFormed}
-use Rattle.block.proofs.Bytes.{length-written}
+use Rattle.block.proofs.Bytes.{twoBytes-two, bytes-drop, length-written, plus2}
 use Rattle.block.proofs.Encode.{record-wide}
 use Rattle.block.proofs.Held.{size-held, count-most, count-held, held-formed, held-written}
 use Rattle.change.specs.Left.{LeftWritten}
 use Rattle.change.proofs.Rewrite.{concatMap-append, zerosAfter, zeros-encode, encode-with}
+
+-- ── a record that keeps its place ──
+module _ (b : List ℕ) (bytes : IsBytes b) (at : ℕ) where
+  -- bytes of b put into c where c has them already
+  again : (c : List ℕ) (n i j : ℕ) → i ≡ at + j → ((m : ℕ) → i ≤ m → getD c m 0 ≡ getD b m 0) → sets c i (tabulate (λ m. getD (drop at b) m 0) j n) ≡ c
+  again c zero i j e h = refl
+  again c (suc n) i j e h =
+      let v : getD (drop at b) j 0 ≡ getD c i 0 = getD-drop at b j 0 ∙ ap (λ (m : ℕ). getD b m 0) (sym e) ∙ sym (h i (omega arith)) in
+      ap (λ (d : List ℕ). sets d (suc i) (tabulate (λ m. getD (drop at b) m 0) (suc j) n)) (ap (set c i) v ∙ set-getD c i 0)
+      ∙ again c n (suc i) (suc j) (omega arith) (λ m l. h m (omega arith))
+
+  -- at its place only its weight and its zero byte are set
+  stays : (w : ℕ) → sets b at (recordBytes (reweigh (delegationIn (drop at b)) w)) ≡ sets b (at + weightByte) (w ∷ 0 ∷ [])
+  stays w =
+      let s = drop at b in
+      let h = bytes-drop at b bytes in
+      let p = twoBytes-two (getD s needByte 0) (getD s (needByte + 1) 0) (h needByte) (h (needByte + 1)) in
+      let q = twoBytes-two (getD s barByte 0) (getD s (barByte + 1) 0) (h barByte) (h (barByte + 1)) in
+      (λ i. sets b at (getD s giverByte 0 ∷ getD s receiverByte 0 ∷ w ∷ 0 ∷ (p i ++ q i)))
+      ∙ ap (λ (c : List ℕ). sets c (suc (suc at)) (w ∷ 0 ∷ tabulate (λ m. getD s m 0) needByte 4)) (again b 2 at 0 (omega arith) (λ m l. refl))
+      ∙ again (sets b (suc (suc at)) (w ∷ 0 ∷ [])) 4 (suc (suc (suc (suc at)))) needByte (omega arith) other
+      ∙ ap (λ (i : ℕ). sets b i (w ∷ 0 ∷ [])) (sym (plus2 at))
+    where
+      other : (m : ℕ) → suc (suc (suc (suc at))) ≤ m → getD (sets b (suc (suc at)) (w ∷ 0 ∷ [])) m 0 ≡ getD b m 0
+      other m l = getD-set-other (set b (suc (suc at)) w) (suc (suc (suc at))) m 0 0 (λ q. omega arith) ∙ getD-set-other b (suc (suc at)) m w 0 (λ q. omega arith)
 
 -- ── a weight as the machine holds it ──
 negative : (z : ℤ) → ltZ z (pos 0) ≡ true → (d : Delegation) → (false ≡ ltb 0 (code z)) × ([] ≡ placed d z)
@@ -64,6 +89,21 @@ module _ (z : ℤ) (f : SFits w16 z) where
         let q = other z (rw as-is at e) l d in (
           q .2,
           ec ∙ (λ i. sets b at (recordBytes (granted (eg i) (er i) (natAbs (as-is i)) (en i) (em i)))) ∙ ap (sets b at) (q .3),
+        )
+
+    -- the record in its place, at its new weight
+    pub weight-written : (b c : List ℕ) → IsBytes b → (at k : ℕ) → at ≡ recordPlace k → c ≡ set (set b (at + weightByte) (natAbs (kept z))) (at + restByte) 0
+        → (true ≡ ltb 0 (code z)) × (c ≡ sets b (recordPlace k) (concatMap recordBytes (placed (delegationAt b k) z)))
+    weight-written b c bytes at k ea ec =
+        let a = recordPlace k in
+        let next : a + restByte ≡ suc (a + weightByte) = omega arith in
+        let q = other z (rw as-is at e) l (delegationAt b k) in (
+          q .2,
+          ec ∙ (λ i. set (set b (ea i + weightByte) (natAbs (as-is i))) (ea i + restByte) 0)
+              ∙ ap (λ (i : ℕ). set (set b (a + weightByte) (natAbs z)) i 0) next
+              ∙ sym (stays b bytes a (natAbs z))
+              ∙ ap (λ (s : List ℕ). sets b a (recordBytes (reweigh (delegationIn s) (natAbs z)))) (sym (drop-drop (recordSize * k) recordsAt b))
+              ∙ ap (sets b a) (q .3),
         )
 
 placed-one : (d : Delegation) (z : ℤ) → true ≡ ltb 0 (code z) → length (placed d z) ≡ 1
