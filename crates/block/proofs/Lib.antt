@@ -6,3 +6,4 @@ pub mod PairPlace
 pub mod Held
 pub mod Fields
 pub mod Loops
+pub mod Rise

@@ -12,9 +12,7 @@ use lib.Dec.{eqb}
 use Rattle.rules.specs.List.{tabulate}
 use Rattle.rules.specs.Register.{Delegation}
 use Rattle.rules.specs.Pair.{receives}
-use Rattle.rules.specs.CallStep.{before}
 use Rattle.block.specs.Bytes.{allFrom, leading}
-use Rattle.block.specs.WellFormed.{rises, follows}
 
 -- a test of every place
 module _ {x : Bool} (f : ℕ → Bool) (i n : ℕ) (e : x ≡ allFrom f i (n - i)) where
@@ -28,7 +26,7 @@ module _ {x : Bool} (f : ℕ → Bool) (i n : ℕ) (e : x ≡ allFrom f i (n - i
   all-on h t = let z : n - i ≡ suc (n - (i + 1)) = omega arith in rw (z, t, ← add-one i) at e
 
 -- a number that is 0 as long as every value is
-or-none : (a b : ℕ) → eqb (bitOr a b) 0 ≡ (eqb a 0 && eqb b 0)
+pub or-none : (a b : ℕ) → eqb (bitOr a b) 0 ≡ (eqb a 0 && eqb b 0)
 or-none zero b = ap (λ (n : ℕ). eqb n 0) (or-zero-l b)
 or-none (suc a) b = ne-eqb (bitOr (suc a) b) 0 (λ e. omega (arith, or-add-and (suc a) b, and-le-r (suc a) b)) ∙ sym (ap (λ (x : Bool). x && eqb b 0) (ne-eqb (suc a) 0 (λ e. omega arith)))
 
@@ -84,26 +82,6 @@ module _ {A : Type 0} (t : A → Bool) (f : ℕ → A) (i n : ℕ) (e : Counted 
 
   pub first-on : r ≡ false → Counted (λ x. not (t x)) f n (i + 1)
   first-on y = front-on (λ x. not (t x)) f i n e h (ap not (sym q ∙ y))
-
--- one value, or none
-alone : (f : ℕ → Delegation) (i m : ℕ) → m ≤ 1 → rises (tabulate f i m) ≡ true
-alone f i zero h = refl
-alone f i (suc zero) h = refl
-alone f i (suc (suc m)) h = absurd (omega arith)
-
--- each value before the one after it
-module _ {x : Bool} (f : ℕ → Delegation) (i n : ℕ) (e : x ≡ rises (tabulate f i (n - i))) where
-  pub rise-end : n ≤ i + 1 → true ≡ x
-  rise-end h = let l : n - i ≤ 1 = omega arith in sym (e ∙ alone f i (n - i) l)
-
-  pub rise-stop : i + 1 < n → before (f i) (f (i + 1)) ≡ false → false ≡ x
-  rise-stop h t = let l : i < n = omega arith in sym (rw (rest-on f i n l, rest-on f (i + 1) n h, t) at e)
-
-  pub rise-on : i + 1 < n → before (f i) (f (i + 1)) ≡ true → x ≡ rises (tabulate f (i + 1) (n - (i + 1)))
-  rise-on h t =
-      let l : i < n = omega arith in
-      let q : follows (f i) (tabulate f (i + 1) (n - (i + 1))) ≡ true = rw (rest-on f (i + 1) n h) t in
-      rw (rest-on f i n l, q) at e
 
 -- some value has the receiver r
 module _ {x : Bool} (r : ℕ) (f : ℕ → Delegation) (i n : ℕ) (e : x ≡ receives r (tabulate f i (n - i))) where

@@ -1,8 +1,8 @@
 // Reads of a block: its fields, whether it is well formed, and where a record is.
 ghost use mathlib.Core.Path.{_≡_};
-ghost use mathlib.Core.Bool.{not};
+ghost use mathlib.Core.Bool.{not, _&&_};
 ghost use Prim.Native.Nat.{_+_, _-_, _≤_};
-ghost use lib.ListN.{length, getD, drop};
+ghost use lib.ListN.{length, getD};
 ghost use Rattle.rules.specs.Pair.{isPair, receives};
 ghost use Rattle.rules.specs.Register.{granted};
 ghost use Rattle.rules.specs.CallStep.{before};
@@ -10,7 +10,7 @@ ghost use Rattle.block.specs.Layout.{mostRecords, recordSize};
 ghost use Rattle.block.specs.Bytes.{two, allFrom, zeros, leading};
 ghost use Rattle.block.specs.Block.{subjectsIn, countIn, recordsIn};
 ghost use Rattle.block.specs.Records.{HasHead, HasMarks, HasRecord, HasRecords, marksFor, recordPlace, recordFrom, delegationAt, delegationsTo};
-ghost use Rattle.block.specs.WellFormed.{headFormed, recordFormed, rises, wellFormed};
+ghost use Rattle.block.specs.WellFormed.{headFormed, formedButGiver, recordFormed, rises, wellFormed};
 use crate::layout::BAR;
 use crate::layout::BLOCK_SIZE;
 use crate::layout::COUNT_AT;
@@ -143,17 +143,13 @@ pub fn bar(b: &[u8], k: usize) -> u16
     record_two(b, k, BAR)
 }
 
-// The record at `at` is formed as one between enrolled subjects.
-fn record_formed(s: &[u8], at: usize, subjects: u8) -> bool
-    requires { ⌜ at + recordSize ≤ length (now s) ⌝ }
-    ensures { λ r. ⌜ r ≡ recordFormed subjects (drop at (now (s .entry))) ⌝ }
+// Record `k` is formed, but for its giver, which may be any.
+fn formed_but_giver(b: &[u8], k: usize, subjects: u8) -> bool
+    requires { ⌜ HasRecord (now b) k ⌝ }
+    ensures { λ r. ⌜ r ≡ formedButGiver subjects (recordFrom (now (b .entry)) k) ⌝ }
 {
-    let giver = s[at + GIVER];
-    let receiver = s[at + RECEIVER];
-    let rest = s[at + REST];
-    if giver >= subjects {
-        return false;
-    }
+    let giver = self::giver(b, k);
+    let receiver = self::receiver(b, k);
     if receiver >= subjects {
         return false;
     }
@@ -163,25 +159,30 @@ fn record_formed(s: &[u8], at: usize, subjects: u8) -> bool
     if receiver == 0 {
         return false;
     }
-    if read_two(s, at + NEED) & read_two(s, at + BAR) != 0 {
-        return false;
-    }
-    rest == 0
+    let shared = need(b, k) & bar(b, k);
+    let rest = record_byte(b, k, REST) as u16;
+    (shared | rest) == 0
 }
 
-// The first `count` records are each formed.
+// The first `count` records are each formed and rise strictly. A pair is compared as one number, giver first, so the last giver is the largest.
 fn records_formed(b: &[u8], count: usize, subjects: u8) -> bool
-    requires { ⌜ HasRecords (now b) count ⌝ }
-    ensures { λ r. ⌜ r ≡ allFrom (λ k. recordFormed subjects (recordFrom (now (b .entry)) k)) 0 count ⌝ }
+    requires { ⌜ (1 ≤ subjects) × (HasRecords (now b) count) ⌝ }
+    ensures { λ r. ⌜ r ≡ (allFrom (λ k. recordFormed subjects (recordFrom (now (b .entry)) k)) 0 count && rises (delegationsTo (now (b .entry)) count)) ⌝ }
 {
+    let mut last: u16 = 0;
     let mut k: usize = 0;
     while k < count {
-        if !record_formed(b, RECORDS_AT + RECORD_SIZE * k, subjects) {
+        let pair = (giver(b, k) as u16) * 256 + (receiver(b, k) as u16);
+        if pair <= last {
             return false;
         }
+        if !formed_but_giver(b, k, subjects) {
+            return false;
+        }
+        last = pair;
         k += 1;
     }
-    true
+    last < (subjects as u16) * 256
 }
 
 // Record `k` is of this pair.
@@ -205,21 +206,6 @@ fn is_before(b: &[u8], k: usize, giver: u8, receiver: u8) -> bool
         return true;
     }
     giver == g && receiver < r
-}
-
-// The first `count` records rise strictly.
-fn records_rise(b: &[u8], count: usize) -> bool
-    requires { ⌜ HasRecords (now b) count ⌝ }
-    ensures { λ r. ⌜ r ≡ rises (delegationsTo (now (b .entry)) count) ⌝ }
-{
-    let mut k: usize = 0;
-    while k + 1 < count {
-        if !is_before(b, k + 1, giver(b, k), receiver(b, k)) {
-            return false;
-        }
-        k += 1;
-    }
-    true
 }
 
 // The first four bytes are formed.
@@ -260,9 +246,6 @@ pub fn well_formed(b: &[u8]) -> bool
         return false;
     }
     if !records_formed(b, records, n) {
-        return false;
-    }
-    if !records_rise(b, records) {
         return false;
     }
     zero_range(b, RECORDS_AT + RECORD_SIZE * records, BLOCK_SIZE)

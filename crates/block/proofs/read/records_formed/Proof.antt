@@ -1,46 +1,76 @@
--- `block::records_formed` tests each of the first records. Assumes nothing.
+-- `block::records_formed` tests the first records in one pass. Assumes nothing.
 use mathlib.Core.Path.{_≡_, sym, _∙_}
-use mathlib.Core.Bool.{Bool}
-use mathlib.Core.List.{List}
-use Prim.Native.Nat.{ℕ, _-_}
+use mathlib.Core.Bool.{_&&_}
+use Prim.Native.Nat.{_+_, _*_, _-_}
 use native.Mathlib.Omega.{arith}
 use borrow.Author.Tests.{not-true, not-false}
-use lib.Seq.{drop-drop}
 use Rattle.block.specs.Bytes.{allFrom}
-use Rattle.block.specs.WellFormed.{recordFormed}
-use Rattle.block.proofs.Loops.{all-end, all-stop, all-on}
+use Rattle.block.specs.Records.{recordFrom, delegationAt, delegationsTo}
+use Rattle.block.specs.WellFormed.{recordFormed, rises}
+use Rattle.block.proofs.Bytes.{fits-bytes}
+use Rattle.block.proofs.Rise.{pairNumber, passes, pass-end, pass-low, pass-stop, pass-on, passes-all}
 use Rattle.block.proofs.read.records_formed.Statement.{statement}
 use Rattle.block.proofs.read.records_formed.Tie as tie
-use Rattle.block.specs.Records.{recordFrom}
-
-abbrev test : List ℕ → ℕ → ℕ → Bool
-test b n k = recordFormed n (recordFrom b k)
 
 abbrev Inv-loop : tie.InvT-loop
-Inv-loop b count subjects k₀ k = allFrom (test b subjects) 0 count ≡ allFrom (test b subjects) k (count - k)
+Inv-loop b count subjects last₀ k₀ last k = passes subjects b 0 0 count ≡ passes subjects b last k (count - k)
 
 abbrev μ-loop : tie.MeasureT-loop
-μ-loop b count subjects k₀ k = count - k
+μ-loop b count subjects last₀ k₀ last k = count - k
+
+-- the whole answer
+whole : (c : tie.After-shared-slice-known Inv-loop μ-loop)
+    → let a = c .before .args in
+    passes (a .subjects) (a .b .now) 0 0 (a .count) ≡ (allFrom (λ k. recordFormed (a .subjects) (recordFrom (a .b .now) k)) 0 (a .count) && rises (delegationsTo (a .b .now) (a .count)))
+whole c =
+    let a = c .before .args in
+    passes-all (a .subjects) (a .b .now) (fits-bytes (a .b .now) (c .shared-slice-known .given)) (c .before .pre .0) (a .count)
 
 loop-holds : tie.Need-loop-holds Inv-loop μ-loop
 loop-holds c =
     let a = c .before .args in
     let z : a .count - 0 ≡ a .count = omega arith in rw z
 
-mul-record-formed : tie.Need-mul-record-formed Inv-loop μ-loop
-mul-record-formed c = omega arith
+giver-requires : tie.Need-giver-requires Inv-loop μ-loop
+giver-requires c κs = omega arith
 
-add-record-formed : tie.Need-add-record-formed Inv-loop μ-loop
-add-record-formed c = omega arith
+cast-pair : tie.Need-cast-pair Inv-loop μ-loop
+cast-pair c = omega arith
 
-record-formed-requires : tie.Need-record-formed-requires Inv-loop μ-loop
-record-formed-requires c κs = omega arith
+mul-pair : tie.Need-mul-pair Inv-loop μ-loop
+mul-pair c = omega arith
+
+receiver-requires : tie.Need-receiver-requires Inv-loop μ-loop
+receiver-requires c κs = omega arith
+
+cast-pair-2 : tie.Need-cast-pair-2 Inv-loop μ-loop
+cast-pair-2 c = omega arith
+
+add-pair : tie.Need-add-pair Inv-loop μ-loop
+add-pair c = omega arith
+
+-- the number of the pair of record k
+number-is : (c : tie.After-receiver Inv-loop μ-loop)
+    → c .before .giver .result * 256 + c .receiver .result ≡ pairNumber (delegationAt (c .before .before .before .before .before .args .b .now) (c .before .before .before .loop .k))
+number-is c = rw (c .before .giver .ensures, c .receiver .ensures)
 
 returns : tie.Need-returns Inv-loop μ-loop
 returns c =
-    let a = c .before .before .before .before .before .args in
-    let l = c .before .before .before .loop in
-    all-stop (test (a .b .now) (a .subjects)) (l .k) (a .count) (l .inv) (omega arith) (rw drop-drop (sym (c .before .record-formed .ensures) ∙ not-true (c .before .record-formed .result) (c .if1 .taken)))
+    let s = c .before .before .before .before .before in
+    let a = s .before .args in
+    let l = c .before .before .before .before .loop in
+    pass-low (a .subjects) (a .b .now) (l .last) (l .k) (a .count) (l .inv) (omega arith) (rw (← number-is (c .before)) (c .if1 .taken)) ∙ whole s
+
+formed-but-giver-requires : tie.Need-formed-but-giver-requires Inv-loop μ-loop
+formed-but-giver-requires c κs = omega arith
+
+returns-2 : tie.Need-returns-2 Inv-loop μ-loop
+returns-2 c =
+    let r = c .before .before .before in
+    let s = r .before .before .before .before in
+    let a = s .before .args in
+    let l = r .before .before .before .loop in
+    pass-stop (a .subjects) (a .b .now) (l .last) (l .k) (a .count) (l .inv) (omega arith) (rw (← number-is r) (c .before .before .if1 .left)) (sym (c .before .formed-but-giver .ensures) ∙ not-true (c .before .formed-but-giver .result) (c .if2 .taken)) ∙ whole s
 
 add-k : tie.Need-add-k Inv-loop μ-loop
 add-k c = omega arith
@@ -50,15 +80,20 @@ loop-less c = omega arith
 
 loop-again : tie.Need-loop-again Inv-loop μ-loop
 loop-again c =
-    let a = c .before .before .before .before .before .args in
-    let l = c .before .before .before .loop in
-    all-on (test (a .b .now) (a .subjects)) (l .k) (a .count) (l .inv) (omega arith) (rw drop-drop (sym (c .before .record-formed .ensures) ∙ not-false (c .before .record-formed .result) (c .if1 .left)))
+    let r = c .before .before .before in
+    let a = r .before .before .before .before .before .args in
+    let l = r .before .before .before .loop in
+    rw (number-is r) (pass-on (a .subjects) (a .b .now) (l .last) (l .k) (a .count) (l .inv) (omega arith) (rw (← number-is r) (c .before .before .if1 .left)) (sym (c .before .formed-but-giver .ensures) ∙ not-false (c .before .formed-but-giver .result) (c .if2 .left)))
 
-returns-2 : tie.Need-returns-2 Inv-loop μ-loop
-returns-2 c =
-    let a = c .before .before .before .args in
+mul-result : tie.Need-mul-result Inv-loop μ-loop
+mul-result c = omega arith
+
+returns-3 : tie.Need-returns-3 Inv-loop μ-loop
+returns-3 c =
+    let s = c .before .before in
+    let a = s .before .args in
     let l = c .before .loop in
-    all-end (test (a .b .now) (a .subjects)) (l .k) (a .count) (l .inv) (omega arith)
+    pass-end (a .subjects) (a .b .now) (l .last) (l .k) (a .count) (l .inv) (omega arith) ∙ whole s
 
 pub records-formed-spec : {M : Type 1} → statement M
 records-formed-spec =
@@ -67,11 +102,17 @@ records-formed-spec =
     Inv-loop
     μ-loop
     loop-holds
-    mul-record-formed
-    add-record-formed
-    record-formed-requires
+    giver-requires
+    cast-pair
+    mul-pair
+    receiver-requires
+    cast-pair-2
+    add-pair
     returns
+    formed-but-giver-requires
+    returns-2
     add-k
     loop-less
     loop-again
-    returns-2)
+    mul-result
+    returns-3)

@@ -1,6 +1,6 @@
 -- `block::well_formed` is the definition's `wellFormed`, for any bytes. Assumes nothing.
 use mathlib.Core.Path.{_≡_, refl, sym, _∙_}
-use mathlib.Core.Bool.{Bool, true}
+use mathlib.Core.Bool.{Bool, true, and-true}
 use mathlib.Core.List.{List, [], _∷_, _++_}
 use Prim.Native.Nat.{ℕ, _≤_}
 use native.Mathlib.Omega.{arith}
@@ -8,7 +8,7 @@ use borrow.Author.Needs.{needs}
 use borrow.Author.Tests.{eq-eqb, ne-eqb, not-true, not-false}
 use Rattle.block.specs.Layout.{mostRecords}
 use Rattle.block.specs.WellFormed.{allPass, rightSize, headTests, headFormed, ownerUnmarked, restUnmarked, recordsFormed, recordsRise, restZero, wellFormed}
-use Rattle.block.proofs.Fields.{head-few}
+use Rattle.block.proofs.Fields.{head-some, head-few}
 use Rattle.block.proofs.Tests.{tests-group, tests-on, tests-stop, tests-last}
 use Rattle.block.proofs.read.well_formed.Statement.{statement}
 use Rattle.block.proofs.read.well_formed.Tie as tie
@@ -17,11 +17,12 @@ use Rattle.block.proofs.read.well_formed.Tie as tie
 abbrev fromRest : List (List ℕ → Bool)
 fromRest = restZero ∷ []
 
-abbrev fromRise : List (List ℕ → Bool)
-fromRise = recordsRise ∷ fromRest
+-- those of the records, which one call makes
+abbrev ofRecords : List (List ℕ → Bool)
+ofRecords = recordsFormed ∷ recordsRise ∷ []
 
 abbrev fromRecords : List (List ℕ → Bool)
-fromRecords = recordsFormed ∷ fromRise
+fromRecords = ofRecords ++ fromRest
 
 abbrev fromMarks : List (List ℕ → Bool)
 fromMarks = restUnmarked ∷ fromRecords
@@ -42,9 +43,6 @@ seen4 c = seen3 (c .before .before)
 abbrev seen5 : tie.Else5 → tie.After-count
 seen5 c = seen4 (c .before .before)
 
-abbrev seen6 : tie.Else6 → tie.After-count
-seen6 c = seen5 (c .before .before)
-
 -- ── what each call answers ──
 head-is : (c : tie.Else2) → headFormed (c .before .before .before .before .args .b .now) ≡ true
 head-is c = sym (c .before .head-formed .ensures) ∙ not-false (c .before .head-formed .result) (c .if2 .left)
@@ -55,11 +53,8 @@ few c = rw (c .count .ensures) (head-few (given c) (head-is (c .before .before))
 rest-is : (c : tie.After-zero-range) → c .zero-range .result ≡ restUnmarked (given (seen3 (c .before)))
 rest-is c = c .zero-range .ensures ∙ simp (seen3 (c .before) .before .subjects .ensures)
 
-records-are : (c : tie.After-records-formed) → c .records-formed .result ≡ recordsFormed (given (seen4 (c .before)))
-records-are c = c .records-formed .ensures ∙ simp (seen4 (c .before) .before .subjects .ensures, seen4 (c .before) .count .ensures)
-
-rise-is : (c : tie.After-records-rise) → c .records-rise .result ≡ recordsRise (given (seen5 (c .before)))
-rise-is c = c .records-rise .ensures ∙ simp (seen5 (c .before) .count .ensures)
+records-are : (c : tie.After-records-formed) → c .records-formed .result ≡ allPass ofRecords (given (seen4 (c .before)))
+records-are c = c .records-formed .ensures ∙ simp (seen4 (c .before) .before .subjects .ensures, seen4 (c .before) .count .ensures, and-true)
 
 -- ── the tests that are left past each early return ──
 past-size : (c : tie.Else1) → let b = c .before .before .args .b .now in wellFormed b ≡ allPass (headFormed ∷ fromOwner) b
@@ -74,14 +69,13 @@ past-head c = tests-on headFormed fromOwner (c .before .before .before .before .
 past-owner : (c : tie.Else3) → wellFormed (given (seen3 c)) ≡ allPass fromMarks (given (seen3 c))
 past-owner c = tests-on ownerUnmarked fromMarks (given (seen3 c)) (past-head (seen3 c .before .before)) (eq-eqb _ _ (sym (c .before .read-two .ensures) ∙ c .if3 .left))
 
-past-rest : (c : tie.Else4) → wellFormed (given (seen4 c)) ≡ allPass fromRecords (given (seen4 c))
-past-rest c = tests-on restUnmarked fromRecords (given (seen4 c)) (past-owner (c .before .before)) (sym (rest-is (c .before)) ∙ not-false (c .before .zero-range .result) (c .if4 .left))
+past-rest : (c : tie.Else4) → wellFormed (given (seen4 c)) ≡ allPass (allPass ofRecords ∷ fromRest) (given (seen4 c))
+past-rest c =
+    tests-on restUnmarked fromRecords (given (seen4 c)) (past-owner (c .before .before)) (sym (rest-is (c .before)) ∙ not-false (c .before .zero-range .result) (c .if4 .left))
+    ∙ tests-group ofRecords fromRest (given (seen4 c))
 
-past-records : (c : tie.Else5) → wellFormed (given (seen5 c)) ≡ allPass fromRise (given (seen5 c))
-past-records c = tests-on recordsFormed fromRise (given (seen5 c)) (past-rest (c .before .before)) (sym (records-are (c .before)) ∙ not-false (c .before .records-formed .result) (c .if5 .left))
-
-past-rise : (c : tie.Else6) → wellFormed (given (seen6 c)) ≡ allPass fromRest (given (seen6 c))
-past-rise c = tests-on recordsRise fromRest (given (seen6 c)) (past-records (c .before .before)) (sym (rise-is (c .before)) ∙ not-false (c .before .records-rise .result) (c .if6 .left))
+past-records : (c : tie.Else5) → wellFormed (given (seen5 c)) ≡ allPass fromRest (given (seen5 c))
+past-records c = tests-on (allPass ofRecords) fromRest (given (seen5 c)) (past-rest (c .before .before)) (sym (records-are (c .before)) ∙ not-false (c .before .records-formed .result) (c .if5 .left))
 
 -- ── the needs ──
 returns : tie.Need-returns
@@ -126,34 +120,26 @@ returns-4 c =
     tests-stop restUnmarked fromRecords (given (seen3 e)) (past-owner e) (sym (rest-is (c .before)) ∙ not-true (c .before .zero-range .result) (c .if4 .taken))
 
 records-formed-requires : tie.Need-records-formed-requires
-records-formed-requires c κs = omega (arith, few (seen4 c))
+records-formed-requires c κs = (rw (seen4 c .before .subjects .ensures) (head-some (given (seen4 c)) (head-is (seen4 c .before .before))), omega (arith, few (seen4 c)))
 
 returns-5 : tie.Need-returns-5
 returns-5 c =
     let e = c .before .before in
-    tests-stop recordsFormed fromRise (given (seen4 e)) (past-rest e) (sym (records-are (c .before)) ∙ not-true (c .before .records-formed .result) (c .if5 .taken))
-
-records-rise-requires : tie.Need-records-rise-requires
-records-rise-requires c κs = omega (arith, few (seen5 c))
-
-returns-6 : tie.Need-returns-6
-returns-6 c =
-    let e = c .before .before in
-    tests-stop recordsRise fromRest (given (seen5 e)) (past-records e) (sym (rise-is (c .before)) ∙ not-true (c .before .records-rise .result) (c .if6 .taken))
+    tests-stop (allPass ofRecords) fromRest (given (seen4 e)) (past-rest e) (sym (records-are (c .before)) ∙ not-true (c .before .records-formed .result) (c .if5 .taken))
 
 mul-zero-range-2 : tie.Need-mul-zero-range-2
-mul-zero-range-2 c = omega (arith, few (seen6 c))
+mul-zero-range-2 c = omega (arith, few (seen5 c))
 
 add-zero-range-2 : tie.Need-add-zero-range-2
-add-zero-range-2 c = omega (arith, few (seen6 c))
+add-zero-range-2 c = omega (arith, few (seen5 c))
 
 zero-range-requires-2 : tie.Need-zero-range-requires-2
 zero-range-requires-2 c κs = search needs
 
-returns-7 : tie.Need-returns-7
-returns-7 c =
+returns-6 : tie.Need-returns-6
+returns-6 c =
     let e = c .before in
-    c .zero-range2 .ensures ∙ rw (seen6 e .count .ensures) (sym (tests-last restZero (given (seen6 e)) (past-rise e)))
+    c .zero-range2 .ensures ∙ rw (seen5 e .count .ensures) (sym (tests-last restZero (given (seen5 e)) (past-records e)))
 
 pub well-formed-spec : {M : Type 1} → statement M
 well-formed-spec =
@@ -173,9 +159,7 @@ well-formed-spec =
     returns-4
     records-formed-requires
     returns-5
-    records-rise-requires
-    returns-6
     mul-zero-range-2
     add-zero-range-2
     zero-range-requires-2
-    returns-7)
+    returns-6)
