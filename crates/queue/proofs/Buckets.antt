@@ -1,20 +1,20 @@
--- The bucket queue: one subject put in, one taken out, and how many wait at a level. Assumes nothing.
+-- Sets as the bits of a number, and the bucket queue: one subject put in, a group taken out, and how many are in a set. Assumes nothing.
 use mathlib.Core.Path.{_≡_, refl, sym, ap, subst, _∙_}
 use mathlib.Core.Logic.{_≢_, _⊎_, inl, inr}
 use mathlib.Core.Bool.{Bool, true, false, not, cond}
-use mathlib.Core.List.{List}
+use mathlib.Core.List.{List, _∷_}
 use Prim.Native.Nat.{ℕ, zero, suc, _+_, _*_, _-_, _/_, _%_, _^_, _≤_, _<_, min, max}
 use native.Mathlib.Nat.{mod-lt, zero-lt-suc, pow-suc, zero-add, suc-add, div-one}
 use native.Mathlib.Omega.{arith}
 use lib.Arith.{bin-ind, digits-div, digits-mod}
 use lib.Bits.{bitAnd, bitOr, bitXor, differ, and-step, or-step, xor-step, shifted-half, shifted-even}
 use lib.Count.{under, trailingZeros}
-use lib.Dec.{T, eqb, ltb, ltb→lt, nltb→le}
+use lib.Dec.{T, eqb, eqb→eq, ltb, ltb→lt, nltb→le}
 use lib.Pow.{shr-shr}
 use lib.ListN.{length, getD, set, replicate, length-set, length-replicate, getD-replicate, List·getD-eq-default}
 use lib.Seq.{getD-set-same, getD-set-other}
-use Rattle.rules.proofs.Lists.{either, eqOr}
-use Rattle.queue.specs.Queue.{levels, setBits, bit, waits, BitSet, Taken, groupOf, Covered, Skipped}
+use Rattle.rules.proofs.Lists.{T-true, unset, either, eq→eqb, eqOr}
+use Rattle.queue.specs.Queue.{setBits, bit, BitPut, Lowest, waits, BitSet, groupOf, placeOf, Covered, Taken}
 
 pub bit-zero : (y : ℕ) → bit 0 y ≡ 0
 bit-zero zero = refl
@@ -65,61 +65,95 @@ bit-off zero (suc y) n = bit-zero y
 bit-off (suc x) zero n = shifted-even 1 x
 bit-off (suc x) (suc y) n = ap (λ (z : ℕ). bit z y) (shifted-half 1 x) ∙ bit-off x y (λ e. n (ap suc e))
 
--- ── one subject more or less at a level ──
-module _ (q : List ℕ) (z y : ℕ) (h : z < length q) where
-  -- a set put at a level that differs in one subject alone
-  put-set : (v b : ℕ) → bit v y ≡ b → ((w : ℕ) → y ≢ w → bit v w ≡ waits q z w) → BitSet q z y b (set q z v)
-  put-set v b at off = record {
-    size = length-set q z v;
-    here = ap (λ (n : ℕ). bit n y) (getD-set-same q z v 0 h) ∙ at;
-    others = λ x w n. go x w n (eqOr z x);
+-- ── one member more or less ──
+module _ (y one : ℕ) (e : one ≡ 1 * 2 ^ y) where
+  one-here : bit one y ≡ 1
+  one-here = ap (λ (x : ℕ). bit x y) e ∙ bit-here y
+
+  one-off : (w : ℕ) → y ≢ w → bit one w ≡ 0
+  one-off w d = ap (λ (x : ℕ). bit x w) e ∙ bit-off y w d
+
+  pub put-in : (n : ℕ) → BitPut n y 1 (bitOr n one)
+  put-in n = record { here = bit-or n one y ∙ omega (arith, one-here, bit-small n y); others = λ w d. bit-or n one w ∙ omega (arith, one-off w d) }
+
+  pub put-out : (n : ℕ) → bit n y ≡ 1 → BitPut n y 0 (bitXor n one)
+  put-out n f = record {
+    here = bit-xor n one y ∙ (λ i. differ (f i) (one-here i));
+    others = λ w d. bit-xor n one w ∙ (λ i. differ (bit n w) (one-off w d i)) ∙ differ-none (bit n w);
   }
     where
-      same : (w x : ℕ) → z ≢ x → waits (set q z v) x w ≡ waits q x w
-      same w x n = ap (λ (m : ℕ). bit m w) (getD-set-other q z x v 0 (λ e. n (sym e)))
+      differ-none : (x : ℕ) → differ x 0 ≡ x
+      differ-none zero = refl
+      differ-none (suc x) = refl
 
-      go : (x w : ℕ) → (z ≢ x) ⊎ (y ≢ w) → (z ≡ x) ⊎ (z ≢ x) → waits (set q z v) x w ≡ waits q x w
-      go x w n (inr d) = same w x d
-      go x w (inl d) (inl e) = absurd (d e)
-      go x w (inr d) (inl e) = subst (λ (i : ℕ). waits (set q z v) i w ≡ waits q i w) e (ap (λ (m : ℕ). bit m w) (getD-set-same q z v 0 h) ∙ off w d)
-
-  module _ (one : ℕ) (e : one ≡ 1 * 2 ^ y) where
-    one-here : bit one y ≡ 1
-    one-here = ap (λ (x : ℕ). bit x y) e ∙ bit-here y
-
-    one-off : (w : ℕ) → y ≢ w → bit one w ≡ 0
-    one-off w d = ap (λ (x : ℕ). bit x w) e ∙ bit-off y w d
-
-    pub put-in : BitSet q z y 1 (set q z (bitOr (getD q z 0) one))
-    put-in =
-        put-set (bitOr (getD q z 0) one) 1 (bit-or (getD q z 0) one y ∙ omega (arith, one-here, bit-small (getD q z 0) y))
-        (λ w d. bit-or (getD q z 0) one w ∙ omega (arith, one-off w d))
-
-    pub put-out : waits q z y ≡ 1 → BitSet q z y 0 (set q z (bitXor (getD q z 0) one))
-    put-out f =
-        put-set (bitXor (getD q z 0) one) 0 (bit-xor (getD q z 0) one y ∙ (λ i. differ (f i) (one-here i)))
-        (λ w d. bit-xor (getD q z 0) one w ∙ (λ i. differ (waits q z w) (one-off w d i)) ∙ differ-none (waits q z w))
-      where
-        differ-none : (x : ℕ) → differ x 0 ≡ x
-        differ-none zero = refl
-        differ-none (suc x) = refl
-
--- one bit more in the summary covers one who waits in its group
-pub covered-join : (q q′ : List ℕ) (z y summary one : ℕ) → one ≡ 1 * 2 ^ groupOf z → Covered q summary → BitSet q z y 1 q′ → Covered q′ (bitOr summary one)
-covered-join q q′ z y summary one e c put x w l h =
-    put .others x w (inl (λ f. omega (arith, both, ap (λ (i : ℕ). bit one (groupOf i)) (sym f) ∙ ap (λ (n : ℕ). bit n (groupOf z)) e ∙ bit-here (groupOf z)))) ∙ c x w l (omega (arith, both))
+-- what is left of a set without the members of another
+pub bits-without : (n m y : ℕ) → bit (bitXor (bitOr n m) m) y ≡ bit n y - bit m y
+bits-without n m y =
+    bit-xor (bitOr n m) m y ∙ ap (λ (x : ℕ). differ x (bit m y)) (bit-or n m y) ∙ go (bit n y) (bit m y) (bit-small n y) (bit-small m y)
   where
-    both : max (bit summary (groupOf x)) (bit one (groupOf x)) ≡ 0
-    both = sym (bit-or summary one (groupOf x)) ∙ h
+    go : (x z : ℕ) → x < 2 → z < 2 → differ (max x z) z ≡ x - z
+    go zero zero h k = refl
+    go zero (suc zero) h k = refl
+    go (suc zero) zero h k = refl
+    go (suc zero) (suc zero) h k = refl
+    go zero (suc (suc z)) h k = absurd (omega arith)
+    go (suc zero) (suc (suc z)) h k = absurd (omega arith)
+    go (suc (suc x)) z h k = absurd (omega arith)
 
--- one who waits no more needs no cover
-pub covered-take : (q q′ : List ℕ) (z u summary : ℕ) → Covered q summary → BitSet q z u 0 q′ → Covered q′ summary
-covered-take q q′ z u summary c put x w l h = go (eqOr z x) (eqOr u w)
+-- ── one who waits more ──
+-- near, the sets of the queue being as they were
+pub put-near : (near near′ y b : ℕ) (q : List ℕ) → BitPut near y b near′ → BitSet (near ∷ q) 0 y b (near′ ∷ q)
+put-near near near′ y b q put = record { size = refl; here = put .here; others = go }
   where
-    go : (z ≡ x) ⊎ (z ≢ x) → (u ≡ w) ⊎ (u ≢ w) → waits q′ x w ≡ 0
-    go (inl e) (inl f) = subst (λ (i : ℕ). waits q′ i w ≡ 0) e (subst (λ (i : ℕ). waits q′ z i ≡ 0) f (put .here))
-    go (inl e) (inr n) = put .others x w (inr n) ∙ c x w l h
-    go (inr n) f = put .others x w (inl n) ∙ c x w l h
+    go : (x w : ℕ) → (0 ≢ x) ⊎ (y ≢ w) → waits (near′ ∷ q) x w ≡ waits (near ∷ q) x w
+    go (suc x) w n = refl
+    go zero w (inl n) = absurd (n refl)
+    go zero w (inr n) = put .others w n
+
+-- far, those who wait near being as they were
+pub put-far : (near y b g v : ℕ) (q : List ℕ) → g < length q → BitPut (getD q g 0) y b v → BitSet (near ∷ q) (suc g) y b (near ∷ set q g v)
+put-far near y b g v q h put = record {
+  size = ap suc (length-set q g v);
+  here = ap (λ (n : ℕ). bit n y) (getD-set-same q g v 0 h) ∙ put .here;
+  others = go;
+}
+  where
+    same : (x w : ℕ) → g ≢ x → waits (set q g v) x w ≡ waits q x w
+    same x w n = ap (λ (m : ℕ). bit m w) (getD-set-other q g x v 0 (λ e. n (sym e)))
+
+    far : (x w : ℕ) → (suc g ≢ suc x) ⊎ (y ≢ w) → (g ≡ x) ⊎ (g ≢ x) → waits (set q g v) x w ≡ waits q x w
+    far x w n (inr d) = same x w d
+    far x w (inl d) (inl e) = absurd (d (ap suc e))
+    far x w (inr d) (inl e) = subst (λ (i : ℕ). waits (set q g v) i w ≡ waits q i w) e (ap (λ (m : ℕ). bit m w) (getD-set-same q g v 0 h) ∙ put .others w d)
+
+    go : (x w : ℕ) → (suc g ≢ x) ⊎ (y ≢ w) → waits (near ∷ set q g v) x w ≡ waits (near ∷ q) x w
+    go zero w n = refl
+    go (suc x) w n = far x w n (eqOr g x)
+
+-- one group more covers one who waits in it
+pub covered-join : (q : List ℕ) (g v far far′ : ℕ) → Covered q far → BitPut far g 1 far′ → Covered (set q g v) far′
+covered-join q g v far far′ c put x w h = go (eqOr g x)
+  where
+    go : (g ≡ x) ⊎ (g ≢ x) → waits (set q g v) x w ≡ 0
+    go (inl e) = absurd (omega (arith, put .here, ap (bit far′) e ∙ h))
+    go (inr n) = ap (λ (m : ℕ). bit m w) (getD-set-other q g x v 0 (λ e. n (sym e))) ∙ c x w (sym (put .others x n) ∙ h)
+
+-- a group in which none waits needs no cover
+pub covered-take : (q q′ : List ℕ) (g settled r far far′ : ℕ) → Covered q far → Taken q g settled r q′ → BitPut far g 0 far′ → Covered q′ far′
+covered-take q q′ g settled r far far′ c t put x w h = go (eqOr g x)
+  where
+    go : (g ≡ x) ⊎ (g ≢ x) → waits q′ x w ≡ 0
+    go (inl e) = subst (λ (i : ℕ). waits q′ i w ≡ 0) e (t .none w)
+    go (inr n) = t .others x w n ∙ c x w (sym (put .others x n) ∙ h)
+
+-- all who wait in a group taken
+pub taken : (q : List ℕ) (g settled : ℕ) → g < length q → Taken q g settled (bitXor (bitOr (getD q g 0) settled) settled) (set q g 0)
+taken q g settled h = record {
+  size = length-set q g 0;
+  each = bits-without (getD q g 0) settled;
+  none = λ y. ap (λ (m : ℕ). bit m y) (getD-set-same q g 0 0 h) ∙ bit-zero y;
+  others = λ x y n. ap (λ (m : ℕ). bit m y) (getD-set-other q g x 0 0 (λ e. n (sym e)));
+}
 
 -- a bit of what is left after a shift
 pub bit-shr : (n k y : ℕ) → bit (n / 2 ^ k) y ≡ bit n (k + y)
@@ -166,15 +200,12 @@ trailing-least (suc k) n i h = go (n % 2) refl i (trailing-least k (n / 2)) h
     go zero e (suc j) more b = more j (omega arith)
     go (suc d) e j more b = absurd (omega arith)
 
--- the groups that are passed are not in the summary
-pub skipped : (summary past passed r : ℕ) → passed ≡ trailingZeros setBits (summary / 2 ^ ((levels - past) / 4)) → past ≤ levels → r ≤ past → levels ≤ r + 4 * ((levels - past) / 4 + passed) → Skipped summary past r
-skipped summary past passed r e top h k = record { lower = h; none = go }
-  where
-    go : (x : ℕ) → r ≤ x → x < past → bit summary (groupOf x) ≡ 0
-    go x a b =
-        let from : ℕ = (levels - past) / 4 in
-        let at : from + (groupOf x - from) ≡ groupOf x = omega arith in
-        ap (bit summary) (sym at) ∙ sym (bit-shr summary from (groupOf x - from)) ∙ trailing-least setBits (summary / 2 ^ from) (groupOf x - from) (omega arith)
+pub lowest-of : (n : ℕ) → n ≢ 0 → n < 2 ^ setBits → Lowest n (trailingZeros setBits n)
+lowest-of n some h = let few = trailing-few setBits n some h in record { small = few; member = trailing-bit setBits n few; least = trailing-least setBits n }
+
+-- a set that has a member is not 0, and one that has none is
+pub some-member : (n y : ℕ) → bit n y ≡ 1 → n ≢ 0
+some-member n y h e = omega (arith, bit-zero y, sym h ∙ ap (λ (m : ℕ). bit m y) e)
 
 -- ── how many are open ──
 -- how many of the first n numbers are not among those that f holds for
@@ -213,23 +244,25 @@ left-falls f g (suc n) u h a b o = go (eqOr u n) (left-falls f g n u)
         both true k = k
         both false k = omega arith
 
--- how many wait at a level
+-- how many are in a set
 abbrev pub members : ℕ → ℕ
 members n = left (λ y. eqb (bit n y) 0) setBits
 
 pub members-few : (n : ℕ) → members n ≤ setBits
 members-few n = left-few (λ y. eqb (bit n y) 0) setBits
 
-pub members-fall : (q q′ : List ℕ) (z u : ℕ) → u < setBits → waits q z u ≡ 1 → BitSet q z u 0 q′ → members (getD q′ z 0) < members (getD q z 0)
-members-fall q q′ z u h w put =
-    left-falls (λ y. eqb (waits q z y) 0) (λ y. eqb (waits q′ z y) 0) setBits u h (ap (λ (x : ℕ). eqb x 0) w) (ap (λ (x : ℕ). eqb x 0) (put .here))
-    (λ y n. ap (λ (x : ℕ). eqb x 0) (put .others z y (inr n)))
+pub members-fall : (n m y : ℕ) → y < setBits → bit n y ≡ 1 → BitPut n y 0 m → members m < members n
+members-fall n m y h w put =
+    left-falls (λ x. eqb (bit n x) 0) (λ x. eqb (bit m x) 0) setBits y h (ap (λ (x : ℕ). eqb x 0) w) (ap (λ (x : ℕ). eqb x 0) (put .here))
+    (λ x d. ap (λ (z : ℕ). eqb z 0) (put .others x d))
 
--- what was taken
-pub taken-none : (q q′ : List ℕ) (z u : ℕ) → Taken q z u q′ → u ≡ setBits → ((y : ℕ) → waits q z y ≡ 0) × (q′ ≡ q)
-taken-none q q′ z u (inl (e, w, f)) h = (w, f)
-taken-none q q′ z u (inr (l, w, f)) h = absurd (omega arith)
+-- the entry of a level: those who wait near, where its group is at hand, and its group's set else
+pub place-near : (at z : ℕ) → groupOf z ≡ groupOf at → placeOf at z ≡ 0
+place-near at z e = ap (λ (b : Bool). cond b 0 (suc (groupOf z))) (T-true (eqb (groupOf z) (groupOf at)) (eq→eqb e))
 
-pub taken-some : (q q′ : List ℕ) (z u : ℕ) → Taken q z u q′ → u ≢ setBits → (u < setBits) × (waits q z u ≡ 1) × BitSet q z u 0 q′
-taken-some q q′ z u (inl (e, w, f)) h = absurd (h e)
-taken-some q q′ z u (inr t) h = t
+pub place-far : (at z : ℕ) → groupOf z ≢ groupOf at → placeOf at z ≡ suc (groupOf z)
+place-far at z n = ap (λ (b : Bool). cond b 0 (suc (groupOf z))) (off (either (eqb (groupOf z) (groupOf at))))
+  where
+    off : T (eqb (groupOf z) (groupOf at)) ⊎ T (not (eqb (groupOf z) (groupOf at))) → eqb (groupOf z) (groupOf at) ≡ false
+    off (inl h) = absurd (n (eqb→eq (groupOf z) (groupOf at) h))
+    off (inr h) = unset (eqb (groupOf z) (groupOf at)) h

@@ -1,16 +1,23 @@
--- The subjects that wait to be settled, by limit: a bucket queue. Its entry z is the set of the subjects that wait at level z, in the bits of a number.
+-- The subjects that wait to be settled, by limit: a bucket queue. The levels, which are the limits, stand in groups of four, the highest group first. Those who wait in the group at hand wait near, in the bits of one
+-- number; the others wait far: entry g of the queue is the set of those who wait in group g.
 -- Assumes nothing.
 use mathlib.Core.Path.{_≡_}
 use mathlib.Core.Logic.{_≢_, _⊎_}
+use mathlib.Core.Bool.{cond}
 use mathlib.Core.List.{List}
-use Prim.Native.Nat.{ℕ, zero, suc, _-_, _/_, _%_, _≤_, _<_}
+use Prim.Native.Nat.{ℕ, zero, suc, _*_, _-_, _/_, _%_, _<_}
+use lib.Dec.{eqb}
 use lib.ListN.{length, getD}
 
--- the levels of a queue: the limits from 0 to 255
+-- the levels: the limits from 0 to 255
 abbrev pub levels : ℕ
 levels = 256
 
--- the bits of an entry: the subjects that can wait are those below this number
+-- the groups of levels
+abbrev pub groups : ℕ
+groups = 64
+
+-- the bits of a set: the subjects that can wait are those below this number
 abbrev pub setBits : ℕ
 setBits = 64
 
@@ -19,39 +26,56 @@ abbrev pub bit : ℕ → ℕ → ℕ
 bit n zero = n % 2
 bit n (suc y) = bit (n / 2) y
 
--- 1 where subject y waits at level z of the queue q, 0 where it does not
+-- m is n but for bit y, which is b
+pub record BitPut (n y b m : ℕ) : Type 0 where
+  pub here : bit m y ≡ b
+  pub others : (w : ℕ) → y ≢ w → bit m w ≡ bit n w
+
+-- y is the lowest member of the set n
+pub record Lowest (n y : ℕ) : Type 0 where
+  pub small : y < setBits
+  pub member : bit n y ≡ 1
+  pub least : (x : ℕ) → x < y → bit n x ≡ 0
+
+-- 1 where y is a member of entry x of a list of sets, 0 where it is not
 abbrev pub waits : List ℕ → ℕ → ℕ → ℕ
-waits q z y = bit (getD q z 0) y
+waits q x y = bit (getD q x 0) y
 
--- q′ is q but for subject y at level z, which has the bit b there
-pub record BitSet (q : List ℕ) (z y b : ℕ) (q′ : List ℕ) : Type 0 where
+-- q′ is q but for member y of entry x, which has the bit b there
+pub record BitSet (q : List ℕ) (x y b : ℕ) (q′ : List ℕ) : Type 0 where
   pub size : length q′ ≡ length q
-  pub here : waits q′ z y ≡ b
-  pub others : (x w : ℕ) → (z ≢ x) ⊎ (y ≢ w) → waits q′ x w ≡ waits q x w
+  pub here : waits q′ x y ≡ b
+  pub others : (z w : ℕ) → (x ≢ z) ⊎ (y ≢ w) → waits q′ z w ≡ waits q z w
 
--- u is taken from level z; where none waits there it is `setBits`, which is no subject's number, and nothing changes
-abbrev pub Taken : List ℕ → ℕ → ℕ → List ℕ → Type 0
-Taken q z u q′ = ((u ≡ setBits) × ((y : ℕ) → waits q z y ≡ 0) × (q′ ≡ q)) ⊎ ((u < setBits) × (waits q z u ≡ 1) × BitSet q z u 0 q′)
-
--- the groups of four levels, the highest first: the group of level z
+-- the group of level z
 abbrev pub groupOf : ℕ → ℕ
 groupOf z = (levels - 1 - z) / 4
 
--- none waits in a group whose bit the summary does not have
-abbrev pub Covered : List ℕ → ℕ → Type 0
-Covered q summary = (x y : ℕ) → x < levels → bit summary (groupOf x) ≡ 0 → waits q x y ≡ 0
+-- the highest level of group g
+abbrev pub topOf : ℕ → ℕ
+topOf g = levels - 1 - 4 * g
 
--- a queue of all levels, and a summary that covers it
-pub record IsQueue (q : List ℕ) (summary : ℕ) : Type 0 where
-  pub size : length q ≡ levels
-  pub covered : Covered q summary
+-- the group of level `at` being at hand, the entry of level z in the list of those who wait near and then the queue
+abbrev pub placeOf : ℕ → ℕ → ℕ
+placeOf at z = cond (eqb (groupOf z) (groupOf at)) 0 (suc (groupOf z))
+
+-- none waits in a group that is not among those of `far`
+abbrev pub Covered : List ℕ → ℕ → Type 0
+Covered q far = (g y : ℕ) → bit far g ≡ 0 → waits q g y ≡ 0
+
+-- a queue of all groups, and a set of groups that covers it
+pub record IsQueue (q : List ℕ) (far : ℕ) : Type 0 where
+  pub size : length q ≡ groups
+  pub covered : Covered q far
 
 -- a queue in which none waits
 pub record Empty (q : List ℕ) : Type 0 where
-  pub size : length q ≡ levels
-  pub none : (x y : ℕ) → waits q x y ≡ 0
+  pub size : length q ≡ groups
+  pub none : (g y : ℕ) → waits q g y ≡ 0
 
--- r is not above `past`, and the summary has no group of a level from r to below `past`
-pub record Skipped (summary past r : ℕ) : Type 0 where
-  pub lower : r ≤ past
-  pub none : (x : ℕ) → r ≤ x → x < past → bit summary (groupOf x) ≡ 0
+-- all who wait in group g are taken from the queue q; r has those of them that are not settled
+pub record Taken (q : List ℕ) (g settled r : ℕ) (q′ : List ℕ) : Type 0 where
+  pub size : length q′ ≡ length q
+  pub each : (y : ℕ) → bit r y ≡ waits q g y - bit settled y
+  pub none : (y : ℕ) → waits q′ g y ≡ 0
+  pub others : (x y : ℕ) → g ≢ x → waits q′ x y ≡ waits q x y

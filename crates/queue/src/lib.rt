@@ -1,57 +1,96 @@
-// The subjects that wait to be settled, by limit: a bucket queue.
+// The subjects that wait to be settled, by limit: a bucket queue of groups of four levels, the highest group first.
 ghost use mathlib.Core.Path.{_≡_};
-ghost use Prim.Native.Nat.{_≤_, _<_};
+ghost use mathlib.Core.Logic.{_≢_};
+ghost use mathlib.Core.List.{_∷_};
+ghost use Prim.Native.Nat.{_<_};
+ghost use lib.IntN.{pos};
 ghost use lib.ListN.{length};
-ghost use Rattle.queue.specs.Queue.{levels, setBits, BitSet, Taken, Covered, IsQueue, Skipped};
+ghost use Rattle.queue.specs.Queue.{levels, groups, setBits, bit, BitPut, Lowest, BitSet, groupOf, topOf, placeOf, Covered, IsQueue, Taken};
 
-// The levels of a queue: the limits from 0 to 255.
-pub const LEVELS: usize = 256;
+// The levels: the limits from 0 to 255.
+const LEVELS: usize = 256;
 
-// The subjects that can wait are those below this number.
-pub const SET_BITS: usize = 64;
-
-// The levels of a group: a bit of the summary is set where one may wait in its group, the highest group first.
+// The levels of a group, and the groups.
 const GROUP: usize = 4;
 
-// A subject waits at a level from now on; the summary with its group.
-pub fn join(queue: &mut [u64], level: usize, subject: usize, summary: u64) -> u64
-    requires { ⌜ IsQueue (now queue) summary × (level < levels) × (subject < setBits) ⌝ }
-    ensures { λ r. ⌜ BitSet (now (queue .entry)) level subject 1 (now (queue .exit)) × Covered (now (queue .exit)) r ⌝ }
-{
-    queue[level] = queue[level] | (1u64 << subject);
-    summary | (1u64 << ((LEVELS - 1 - level) / GROUP))
+pub const GROUPS: usize = LEVELS / GROUP;
+
+// The subjects that wait in the group at hand, and the groups of the queue in which others may wait.
+pub struct Sets {
+    pub near: u64,
+    pub far: u64,
 }
 
-// A subject that waits at a level, taken from there; SET_BITS if none does.
-pub fn take(queue: &mut [u64], level: usize) -> usize
-    requires { ⌜ (length (now queue) ≡ levels) × (level < levels) ⌝ }
-    ensures { λ r. ⌜ Taken (now (queue .entry)) level r (now (queue .exit)) ⌝ }
+// A set with one member more.
+pub fn with(set: u64, member: usize) -> u64
+    requires { ⌜ member < setBits ⌝ }
+    ensures { λ r. ⌜ BitPut set member 1 r ⌝ }
 {
-    let set = queue[level];
-    if set == 0 {
-        return SET_BITS;
-    }
-    let subject = u64::trailing_zeros(set) as usize;
-    queue[level] = set ^ (1u64 << subject);
-    subject
+    set | (1u64 << member)
 }
 
-// The levels below `past` but for those at its top whose groups the summary does not have.
-pub fn below(summary: u64, past: usize) -> usize
-    requires { ⌜ past ≤ levels ⌝ }
-    ensures { λ r. ⌜ Skipped summary past r ⌝ }
+// A set without one of its members.
+pub fn without(set: u64, member: usize) -> u64
+    requires { ⌜ (member < setBits) × (bit set member ≡ 1) ⌝ }
+    ensures { λ r. ⌜ BitPut set member 0 r ⌝ }
 {
-    if past == 0 {
-        return 0;
+    set ^ (1u64 << member)
+}
+
+// The lowest member of a set that has one.
+pub fn lowest(set: u64) -> usize
+    requires { ⌜ set ≢ 0 ⌝ }
+    ensures { λ r. ⌜ Lowest set r ⌝ }
+{
+    u64::trailing_zeros(set) as usize
+}
+
+fn group_of(level: usize) -> usize
+    requires { ⌜ level < levels ⌝ }
+    ensures { λ r. ⌜ r ≡ groupOf level ⌝ }
+{
+    (LEVELS - 1 - level) / GROUP
+}
+
+// The highest level of a group.
+pub fn top(group: usize) -> i16
+    requires { ⌜ group < groups ⌝ }
+    ensures { λ r. ⌜ r ≡ pos (topOf group) ⌝ }
+{
+    (LEVELS - 1 - GROUP * group) as i16
+}
+
+// A subject waits at a level from now on: near where that is in the group at hand, which is the group of the level `at`.
+pub fn join(
+    queue: &mut [u64],
+    at: usize,
+    level: usize,
+    subject: usize,
+    sets: Sets,
+) -> Sets
+    requires { ⌜ IsQueue (now queue) (sets .far) × (at < levels) × (level < levels) × (subject < setBits) ⌝ }
+    ensures { λ r. ⌜ BitSet (sets .near ∷ now (queue .entry)) (placeOf at level) subject 1 (r .near ∷ now (queue .exit)) × Covered (now (queue .exit)) (r .far) ⌝ }
+{
+    let group = group_of(level);
+    if group == group_of(at) {
+        return Sets {
+            near: with(sets.near, subject),
+            far: sets.far,
+        };
     }
-    let group = (LEVELS - past) / GROUP;
-    let passed = u64::trailing_zeros(summary >> group) as usize;
-    if passed == 0 {
-        return past;
+    queue[group] = with(queue[group], subject);
+    Sets {
+        near: sets.near,
+        far: with(sets.far, group),
     }
-    let above = GROUP * (group + passed);
-    if above < LEVELS {
-        return LEVELS - above;
-    }
-    0
+}
+
+// All who wait in a group, taken from the queue; those of them that are not settled.
+pub fn take(queue: &mut [u64], group: usize, settled: u64) -> u64
+    requires { ⌜ (length (now queue) ≡ groups) × (group < groups) ⌝ }
+    ensures { λ r. ⌜ Taken (now (queue .entry)) group settled r (now (queue .exit)) ⌝ }
+{
+    let set = queue[group];
+    queue[group] = 0;
+    (set | settled) ^ settled
 }

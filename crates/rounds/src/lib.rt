@@ -54,7 +54,7 @@ pub fn settled(block: &mut [u8], table: &[i16]) -> Tally
     let mut before = [0u8; layout::BLOCK_SIZE];
     change::copy(block, &mut before);
     let mut reaches = [0i16; reckoning::REACHES];
-    let mut waiting = [0u64; queue::LEVELS];
+    let mut waiting = [0u64; queue::GROUPS];
     let mut weights = [0i16; layout::MOST_RECORDS];
     let mut changed: u32 = 0;
     while round(block, table, &mut reaches, &mut waiting, &mut weights) {

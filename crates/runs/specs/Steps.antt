@@ -1,4 +1,4 @@
--- What each part of a search does to the limits `l`, to the places `p` of the parents' records and to the queue `q` of the subjects to be settled. Assumes nothing.
+-- What each part of a search does to the limits `l`, to the places `p` of the parents' records and to the subjects to be settled: `q` has those who wait near, and then the sets of the queue. Assumes nothing.
 use mathlib.Core.Path.{_≡_}
 use mathlib.Core.Logic.{_⊎_}
 use mathlib.Core.List.{List}
@@ -12,18 +12,18 @@ use Rattle.rules.specs.Table.{next}
 use Rattle.rules.specs.Register.{Delegation}
 use Rattle.rules.specs.Condition.{meets}
 use Rattle.block.specs.Layout.{mostSubjects, recordSize}
-use Rattle.queue.specs.Queue.{BitSet, IsQueue}
+use Rattle.queue.specs.Queue.{BitSet, placeOf, IsQueue}
 use Rattle.runs.specs.Lent.{recordCount, recordAt, Lent, SubjectLists}
 
 -- the marks meet the condition of d, and from a giver of this limit d gives its receiver more than it has
 abbrev pub Raises : List ℤ → ℤ → ℕ → List ℤ → Delegation → Type 0
 Raises t limit marks l d = T (meets marks (d .need) (d .bar)) × T (ltZ (getD l (d .receiver) none) (next t limit (d .weight)))
 
--- d, whose record is at this place, raises its receiver, which then waits at its new limit with d as its parent; or nothing changes
+-- d, whose record is at this place, raises its receiver, which then waits at its new limit with d as its parent, the group of the giver's limit being at hand; or nothing changes
 abbrev pub Stepped : List ℤ → ℤ → ℕ → Delegation → ℕ → List ℤ → List ℕ → List ℕ → List ℤ → List ℕ → List ℕ → Type 0
 Stepped t limit marks d place l p q l′ p′ q′ =
     ((Raises t limit marks l d → ⊥) × (l′ ≡ l) × (p′ ≡ p) × (q′ ≡ q))
-    ⊎ (Raises t limit marks l d × (l′ ≡ set l (d .receiver) (next t limit (d .weight))) × (p′ ≡ set p (d .receiver) place) × BitSet q (natAbs (next t limit (d .weight))) (d .receiver) 1 q′)
+    ⊎ (Raises t limit marks l d × (l′ ≡ set l (d .receiver) (next t limit (d .weight))) × (p′ ≡ set p (d .receiver) place) × BitSet q (placeOf (natAbs limit) (natAbs (next t limit (d .weight)))) (d .receiver) 1 q′)
 
 -- the first records of a run, one after another; the first of them is at the place `first`
 pub data SteppedTo (t : List ℤ) (limit : ℤ) (marks : ℕ) (run : List ℕ) (first : ℕ) (l : List ℤ) (p q : List ℕ) : ℕ → List ℤ → List ℕ → List ℕ → Type 0 where
@@ -71,13 +71,14 @@ pub record Gave (t : List ℤ) (s : List ℕ) (marks giver : ℕ) (l : List ℤ)
   pub after : (k : ℕ) → past ≤ k → k < recordCount s → giver < recordAt s k .giver
   pub stepped : SteppedTo t (getD l giver none) marks (part s first past) first l p q (past - first) l′ p′ q′
 
--- what holds between two records: each subject has no limit or one from 0 on, and the summary covers the queue
-pub record Waiting (l : List ℤ) (q : List ℕ) (summary : ℕ) : Type 0 where
-  pub queue : IsQueue q summary
+-- what holds between two records: each subject has no limit or one from 0 on, and the groups `far` cover the queue
+pub record Waiting (l : List ℤ) (q : List ℕ) (far : ℕ) : Type 0 where
+  pub queue : IsQueue q far
   pub limits : (y : ℕ) → (getD l y none ≡ none) ⊎ (pos 0 ≼ getD l y none)
 
 -- the limit of a giver, and the lists that its records change
-pub record Ready (limit : ℤ) (l : List ℤ) (p q : List ℕ) (summary : ℕ) : Type 0 where
+pub record Ready (limit : ℤ) (l : List ℤ) (p q : List ℕ) (far : ℕ) : Type 0 where
+  pub live : pos 0 ≼ limit
   pub most : limit ≼ pos 255
   pub lists : SubjectLists l p
-  pub waiting : Waiting l q summary
+  pub waiting : Waiting l q far

@@ -1,5 +1,6 @@
 // What one giver's records give.
 ghost use mathlib.Core.Path.{_≡_};
+ghost use mathlib.Core.List.{_∷_};
 ghost use Prim.Native.Nat.{ℕ, _≤_, _<_};
 ghost use lib.ListN.{length, getD, drop};
 ghost use Rattle.rules.specs.Limit.{none};
@@ -25,10 +26,10 @@ fn relax_at(
     limits: &mut [i16],
     parents: &mut [u16],
     waiting: &mut [u64],
-    summary: u64,
-) -> u64
-    requires { ⌜ TableRule (now table) × RecordLent (now run) at place × Ready limit (now limits) (now parents) (now waiting) summary ⌝ }
-    ensures { λ r. ⌜ Stepped (now (table .entry)) limit marks (delegationIn (drop at (now (run .entry)))) place (now (limits .entry)) (now (parents .entry)) (now (waiting .entry)) (now (limits .exit)) (now (parents .exit)) (now (waiting .exit)) × Waiting (now (limits .exit)) (now (waiting .exit)) r ⌝ }
+    sets: queue::Sets,
+) -> queue::Sets
+    requires { ⌜ TableRule (now table) × RecordLent (now run) at place × Ready limit (now limits) (now parents) (now waiting) (sets .far) ⌝ }
+    ensures { λ r. ⌜ Stepped (now (table .entry)) limit marks (delegationIn (drop at (now (run .entry)))) place (now (limits .entry)) (now (parents .entry)) (sets .near ∷ now (waiting .entry)) (now (limits .exit)) (now (parents .exit)) (r .near ∷ now (waiting .exit)) × Waiting (now (limits .exit)) (now (waiting .exit)) (r .far) ⌝ }
 {
     let need = block::read_two(run, at + layout::NEED);
     let bar = block::read_two(run, at + layout::BAR);
@@ -38,10 +39,10 @@ fn relax_at(
         if limits[receiver] < given {
             limits[receiver] = given;
             parents[receiver] = place as u16;
-            return queue::join(waiting, given as usize, receiver, summary);
+            return queue::join(waiting, limit as usize, given as usize, receiver, sets);
         }
     }
-    summary
+    sets
 }
 
 // A run of records, from a giver of this limit; the first of them is at the place `first`.
@@ -54,16 +55,16 @@ fn relax_run(
     limits: &mut [i16],
     parents: &mut [u16],
     waiting: &mut [u64],
-    summary: u64,
-) -> u64
-    requires { ⌜ TableRule (now table) × RunLent (now run) first × Ready limit (now limits) (now parents) (now waiting) summary ⌝ }
-    ensures { λ r. ⌜ SteppedTo (now (table .entry)) limit marks (now (run .entry)) first (now (limits .entry)) (now (parents .entry)) (now (waiting .entry)) (recordCount (now (run .entry))) (now (limits .exit)) (now (parents .exit)) (now (waiting .exit)) × Waiting (now (limits .exit)) (now (waiting .exit)) r ⌝ }
+    sets: queue::Sets,
+) -> queue::Sets
+    requires { ⌜ TableRule (now table) × RunLent (now run) first × Ready limit (now limits) (now parents) (now waiting) (sets .far) ⌝ }
+    ensures { λ r. ⌜ SteppedTo (now (table .entry)) limit marks (now (run .entry)) first (now (limits .entry)) (now (parents .entry)) (sets .near ∷ now (waiting .entry)) (recordCount (now (run .entry))) (now (limits .exit)) (now (parents .exit)) (r .near ∷ now (waiting .exit)) × Waiting (now (limits .exit)) (now (waiting .exit)) (r .far) ⌝ }
 {
     let n = run.len() / layout::RECORD_SIZE;
-    let mut groups = summary;
+    let mut left = sets;
     let mut k: usize = 0;
     while k < n {
-        groups = relax_at(
+        left = relax_at(
             run,
             layout::RECORD_SIZE * k,
             first + k,
@@ -73,11 +74,11 @@ fn relax_run(
             limits,
             parents,
             waiting,
-            groups,
+            left,
         );
         k += 1;
     }
-    groups
+    left
 }
 
 // The place of the first record whose giver is not below `bound`, sought from `low` on.
@@ -138,10 +139,10 @@ pub fn relax_giver(
     limits: &mut [i16],
     parents: &mut [u16],
     waiting: &mut [u64],
-    summary: u64,
-) -> u64
-    requires { ⌜ Indexed (now table) (now records) (now starts) × (giver < mostSubjects) × Ready (getD (now limits) giver none) (now limits) (now parents) (now waiting) summary ⌝ }
-    ensures { λ r. ⌜ Gave (now (table .entry)) (now (records .entry)) marks giver (now (limits .entry)) (now (parents .entry)) (now (waiting .entry)) (now (limits .exit)) (now (parents .exit)) (now (waiting .exit)) × Waiting (now (limits .exit)) (now (waiting .exit)) r ⌝ }
+    sets: queue::Sets,
+) -> queue::Sets
+    requires { ⌜ Indexed (now table) (now records) (now starts) × (giver < mostSubjects) × Ready (getD (now limits) giver none) (now limits) (now parents) (now waiting) (sets .far) ⌝ }
+    ensures { λ r. ⌜ Gave (now (table .entry)) (now (records .entry)) marks giver (now (limits .entry)) (now (parents .entry)) (sets .near ∷ now (waiting .entry)) (now (limits .exit)) (now (parents .exit)) (r .near ∷ now (waiting .exit)) × Waiting (now (limits .exit)) (now (waiting .exit)) (r .far) ⌝ }
 {
     let a = starts[giver] as usize;
     let e = starts[giver + 1] as usize;
@@ -155,6 +156,6 @@ pub fn relax_giver(
         limits,
         parents,
         waiting,
-        summary,
+        sets,
     )
 }

@@ -1,3 +1,4 @@
+pub mod Choosing
 pub mod Fill
 pub mod State
 pub mod Whole

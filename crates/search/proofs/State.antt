@@ -1,10 +1,9 @@
--- The state of a search over limits, places of parents and a queue, and the steps that keep it: the invariant of the rules' search, with the sizes
--- of the lists. Assumes nothing.
+-- The state of a search over limits, places of parents and those who wait, near and then in the queue, and the steps that keep it: the invariant of the rules' search, with the sizes of the lists. Assumes nothing.
 use mathlib.Core.Path.{_≡_, refl, sym, ap, subst, _∙_}
 use mathlib.Core.Logic.{_≢_, _⊎_, inl, inr}
-use mathlib.Core.Bool.{Bool, false, not}
+use mathlib.Core.Bool.{Bool, not}
 use mathlib.Core.List.{List, _∷_, List·Memᴰ·head}
-use Prim.Native.Nat.{ℕ, zero, suc, _+_, _*_, _-_, _≤_, _<_, zero-le}
+use Prim.Native.Nat.{ℕ, suc, _+_, _*_, _-_, _≤_, _<_, zero-le}
 use native.Mathlib.Nat.{le-refl, add-suc}
 use native.Mathlib.Omega.{arith}
 use lib.Dec.{T, eqb}
@@ -17,14 +16,15 @@ use Rattle.rules.specs.Table.{next, TableRule}
 use Rattle.rules.specs.Register.{Delegation, noDelegation}
 use Rattle.rules.specs.Condition.{meets}
 use Rattle.rules.specs.Chain.{limit}
-use Rattle.rules.proofs.Lists.{either, eqOr, unset}
+use Rattle.rules.proofs.Lists.{either, eqOr}
 use Rattle.rules.proofs.Limits.{next-below}
 use Rattle.rules.proofs.Chains.{limitFrom-top}
 use Rattle.rules.proofs.Search.{Found, Search, search-skip, search-raise}
 use Rattle.block.specs.Layout.{mostSubjects, recordSize}
 use Rattle.search.specs.Search.{underMarks, parentIn}
 use Rattle.runs.specs.Steps.{Stepped, SteppedTo, stepped-none, stepped-more, part}
-use Rattle.queue.specs.Queue.{waits, BitSet}
+use Rattle.queue.specs.Queue.{bit, waits, BitSet, groupOf, topOf, placeOf}
+use Rattle.queue.proofs.Buckets.{place-near, place-far}
 use Rattle.runs.specs.Lent.{recordCount, recordAt, delegationsIn}
 use Rattle.search.specs.Found.{ParentsAmong}
 use Rattle.runs.proofs.Records.{delegation-at, record-part}
@@ -33,42 +33,38 @@ use Rattle.rules.proofs.Signed.{more, not-more, code-live}
 abbrev pub limitOf : List ℤ → ℕ → ℤ
 limitOf l u = getD l u none
 
--- a subject is settled where it has a limit and does not wait at it
-abbrev pub settledAt : List ℕ → ℕ → ℕ → Bool
-settledAt q u zero = false
-settledAt q u (suc z) = eqb (waits q z u) 0
+-- the subjects of a set are settled
+abbrev pub isSettled : ℕ → ℕ → Bool
+isSettled n u = eqb (bit n u) 1
 
-abbrev pub isSettled : List ℤ → List ℕ → ℕ → Bool
-isSettled l q u = settledAt q u (code (limitOf l u))
+-- a subject with a limit in the group of level `at`
+pub record InGroup (at : ℕ) (limit : ℤ) : Type 0 where
+  pub level : ℕ
+  pub has : code limit ≡ suc level
+  pub same : groupOf level ≡ groupOf at
 
--- where neither its limit nor its waiting changes, a subject stays settled or open
-pub settled-same : (l l′ : List ℤ) (q q′ : List ℕ) (u : ℕ) → limitOf l′ u ≡ limitOf l u → ((z : ℕ) → code (limitOf l u) ≡ suc z → waits q′ z u ≡ waits q z u) → isSettled l′ q′ u ≡ isSettled l q u
-settled-same l l′ q q′ u e w = ap (λ (z : ℤ). settledAt q′ u (code z)) e ∙ go (code (limitOf l u)) w
-  where
-    go : (c : ℕ) → ((z : ℕ) → c ≡ suc z → waits q′ z u ≡ waits q z u) → settledAt q′ u c ≡ settledAt q u c
-    go zero w = refl
-    go (suc z) w = ap (λ (x : ℕ). eqb x 0) (w z refl)
-
--- no open subject has a limit of `past` or more, and none waits from level `past` on
-pub record State (t : List ℤ) (s : List ℕ) (marks : ℕ) (settled : ℕ → Bool) (past : ℕ) (l : List ℤ) (p q : List ℕ) (pending : List Delegation) : Type 0 where
+-- the group of level `at` being at hand: no open subject has a limit above `at`, each that has one waits in the entry of its limit, those who wait near are open and have limits in this group, and whoever is in the
+-- set of a group has no limit below that group
+pub record State (t : List ℤ) (s : List ℕ) (marks : ℕ) (settled : ℕ → Bool) (at : ℕ) (l : List ℤ) (p q : List ℕ) (pending : List Delegation) : Type 0 where
   pub limits : length l ≡ mostSubjects
   pub parents : length p ≡ mostSubjects
-  pub most : (u : ℕ) → T (not (settled u)) → code (limitOf l u) ≤ past
-  pub above : (x u : ℕ) → past ≤ x → waits q x u ≡ 0
-  pub same : (u : ℕ) → settled u ≡ isSettled l q u
+  pub most : (u : ℕ) → T (not (settled u)) → code (limitOf l u) ≤ suc at
+  pub waiting : (u z : ℕ) → T (not (settled u)) → code (limitOf l u) ≡ suc z → waits q (placeOf at z) u ≡ 1
+  pub near : (u : ℕ) → waits q 0 u ≡ 1 → T (not (settled u)) × InGroup at (limitOf l u)
+  pub far : (g u : ℕ) → waits q (suc g) u ≡ 1 → topOf g ≤ code (limitOf l u) + 2
   pub among : 0 < recordCount s → ParentsAmong p (recordCount s)
   pub search : Search t (underMarks (delegationsIn s) marks) 0 (limitOf l) settled (parentIn (delegationsIn s) p) pending
 
-module _ (t : List ℤ) (rule : TableRule t) (s : List ℕ) (marks : ℕ) (settled : ℕ → Bool) (past : ℕ) where
+module _ (t : List ℤ) (rule : TableRule t) (s : List ℕ) (marks : ℕ) (settled : ℕ → Bool) (at : ℕ) where
   -- a limit is none, or from 0 to 255
-  pub state-limit : (l : List ℤ) (p q : List ℕ) (ds : List Delegation) → State t s marks settled past l p q ds → (u : ℕ) → (limitOf l u ≡ none) ⊎ (pos 0 ≼ limitOf l u)
+  pub state-limit : (l : List ℤ) (p q : List ℕ) (ds : List Delegation) → State t s marks settled at l p q ds → (u : ℕ) → (limitOf l u ≡ none) ⊎ (pos 0 ≼ limitOf l u)
   state-limit l p q ds st u = go (st .search .found u)
     where
       go : (limitOf l u ≡ none) ⊎ Found t (underMarks (delegationsIn s) marks) 0 (limitOf l) settled (parentIn (delegationsIn s) p) u → (limitOf l u ≡ none) ⊎ (pos 0 ≼ limitOf l u)
       go (inl e) = inl e
       go (inr f) = inr (subst (λ (z : ℤ). pos 0 ≼ z) (sym (f .carries)) (f .chain .live))
 
-  pub state-top : (l : List ℤ) (p q : List ℕ) (ds : List Delegation) → State t s marks settled past l p q ds → (u : ℕ) → limitOf l u ≼ pos 255
+  pub state-top : (l : List ℤ) (p q : List ℕ) (ds : List Delegation) → State t s marks settled at l p q ds → (u : ℕ) → limitOf l u ≼ pos 255
   state-top l p q ds st u = go (st .search .found u)
     where
       go : (limitOf l u ≡ none) ⊎ Found t (underMarks (delegationsIn s) marks) 0 (limitOf l) settled (parentIn (delegationsIn s) p) u → limitOf l u ≼ pos 255
@@ -76,9 +72,9 @@ module _ (t : List ℤ) (rule : TableRule t) (s : List ℕ) (marks : ℕ) (settl
       go (inr f) = subst (λ (z : ℤ). z ≼ pos 255) (sym (f .carries)) (limitFrom-top t rule (pos 255) (f .links) (le-refl 256))
 
   -- one giver's records, from its limit
-  module _ (u : ℕ) (limit : ℤ) (small : limit ≼ pos 255) (level : code limit ≤ past) where
+  module _ (u : ℕ) (small : at ≤ 255) where
     abbrev pub Kept : List ℤ → List ℕ → List ℕ → List Delegation → Type 0
-    Kept l p q ds = State t s marks settled past l p q ds × (limitOf l u ≡ limit)
+    Kept l p q ds = State t s marks settled at l p q ds × (limitOf l u ≡ pos at)
 
     module _ (k : ℕ) (rest : List Delegation) (l : List ℤ) (p q : List ℕ) (h : k < recordCount s) (from : recordAt s k .giver ≡ u) (to : recordAt s k .receiver < mostSubjects)
         (now : Kept l p q (recordAt s k ∷ rest)) where
@@ -86,9 +82,9 @@ module _ (t : List ℤ) (rule : TableRule t) (s : List ℕ) (marks : ℕ) (settl
       d = recordAt s k
 
       abbrev given : ℤ
-      given = next t limit (d .weight)
+      given = next t (pos at) (d .weight)
 
-      at-giver : limitOf l (d .giver) ≡ limit
+      at-giver : limitOf l (d .giver) ≡ pos at
       at-giver = ap (limitOf l) from ∙ now .1
 
       skipped : (T (meets marks (d .need) (d .bar)) → given ≼ limitOf l (d .receiver)) → Kept l p q rest
@@ -97,8 +93,9 @@ module _ (t : List ℤ) (rule : TableRule t) (s : List ℕ) (marks : ℕ) (settl
           limits = now .0 .limits;
           parents = now .0 .parents;
           most = now .0 .most;
-          above = now .0 .above;
-          same = now .0 .same;
+          waiting = now .0 .waiting;
+          near = now .0 .near;
+          far = now .0 .far;
           among = now .0 .among;
           search = search-skip t rule (underMarks (delegationsIn s) marks) 0 (limitOf l) settled (parentIn (delegationsIn s) p) d rest (now .0 .search)
               (λ m. subst (λ (z : ℤ). next t z (d .weight) ≼ limitOf l (d .receiver)) (sym at-giver) (f m));
@@ -110,64 +107,97 @@ module _ (t : List ℤ) (rule : TableRule t) (s : List ℕ) (marks : ℕ) (settl
         abbrev l′ : List ℤ
         l′ = set l (d .receiver) given
 
-        at : limitOf l′ (d .receiver) ≡ given
-        at = getD-set-same l (d .receiver) given none (omega (arith, now .0 .limits))
+        raised-to : limitOf l′ (d .receiver) ≡ given
+        raised-to = getD-set-same l (d .receiver) given none (omega (arith, now .0 .limits))
 
         off : (y : ℕ) → d .receiver ≢ y → limitOf l′ y ≡ limitOf l y
         off y n = getD-set-other l (d .receiver) y given none (λ e. n (sym e))
 
-        below : code given ≤ code limit
-        below = next-below t rule limit (d .weight) small
+        below : code given ≤ suc at
+        below = next-below t rule (pos at) (d .weight) (omega arith)
+
+        -- the level at which the receiver waits then
+        abbrev level : ℕ
+        level = natAbs given
+
+        at-level : code given ≡ suc level
+        at-level = code-live given (omega arith)
 
         -- what is settled is not raised
         fresh : (y : ℕ) → T (settled y) → d .receiver ≢ y
         fresh y z e = omega (arith, f, ap code (ap (limitOf l) e), now .0 .search .least d (List·Memᴰ·head refl) y z, ap code at-giver, below)
 
+        open-still : T (not (settled (d .receiver)))
+        open-still = go (either (settled (d .receiver)))
+          where
+            go : T (settled (d .receiver)) ⊎ T (not (settled (d .receiver))) → T (not (settled (d .receiver)))
+            go (inl z) = absurd (fresh (d .receiver) z refl)
+            go (inr o) = o
+
         -- a giver raises no limit to its own
         other : d .receiver ≢ u
         other e = omega (arith, f, ap code (ap (limitOf l) e ∙ now .1), below)
 
-        most : (y : ℕ) → T (not (settled y)) → (d .receiver ≡ y) ⊎ (d .receiver ≢ y) → code (limitOf l′ y) ≤ past
-        most y o (inl e) = subst (λ (i : ℕ). code (limitOf l′ i) ≤ past) e (omega (arith, ap code at, below))
+        most : (y : ℕ) → T (not (settled y)) → (d .receiver ≡ y) ⊎ (d .receiver ≢ y) → code (limitOf l′ y) ≤ suc at
+        most y o (inl e) = subst (λ (i : ℕ). code (limitOf l′ i) ≤ suc at) e (omega (arith, ap code raised-to, below))
         most y o (inr n) = omega (arith, ap code (off y n), now .0 .most y o)
+
+        module _ (q′ : List ℕ) (put : BitSet q (placeOf at level) (d .receiver) 1 q′) where
+          waiting : (y z : ℕ) → T (not (settled y)) → code (limitOf l′ y) ≡ suc z → (d .receiver ≡ y) ⊎ (d .receiver ≢ y) → waits q′ (placeOf at z) y ≡ 1
+          waiting y z o e (inr n) = put .others (placeOf at z) y (inr n) ∙ now .0 .waiting y z o (ap code (sym (off y n)) ∙ e)
+          waiting y z o e (inl i) =
+              let here : level ≡ z = omega (arith, at-level, ap code raised-to, ap code (ap (limitOf l′) i)) in
+              subst (λ (x : ℕ). waits q′ (placeOf at x) y ≡ 1) here (subst (λ (x : ℕ). waits q′ (placeOf at level) x ≡ 1) i (put .here))
+
+          -- the receiver waits near only if its new limit is in the group at hand
+          near-group : waits q′ 0 (d .receiver) ≡ 1 → (groupOf level ≡ groupOf at) ⊎ (groupOf level ≢ groupOf at) → groupOf level ≡ groupOf at
+          near-group w (inl e) = e
+          near-group w (inr n) =
+              let was = now .0 .near (d .receiver) (sym (put .others 0 (d .receiver) (inl (λ e. omega (arith, sym (place-far at level n) ∙ e)))) ∙ w) .1 in
+              omega (arith, was .has, was .same, f, at-level, below)
+
+          near : (y : ℕ) → waits q′ 0 y ≡ 1 → (d .receiver ≡ y) ⊎ (d .receiver ≢ y) → T (not (settled y)) × InGroup at (limitOf l′ y)
+          near y w (inr n) = subst (λ (z : ℤ). T (not (settled y)) × InGroup at z) (sym (off y n)) (now .0 .near y (sym (put .others 0 y (inr n)) ∙ w))
+          near y w (inl e) =
+              subst (λ (i : ℕ). T (not (settled i)) × InGroup at (limitOf l′ i)) e
+              (open-still, record { level = level; has = ap code raised-to ∙ at-level; same = near-group (ap (waits q′ 0) e ∙ w) (eqOr (groupOf level) (groupOf at)) })
+
+          far-raised : (g : ℕ) → waits q′ (suc g) (d .receiver) ≡ 1 → (placeOf at level ≡ suc g) ⊎ (placeOf at level ≢ suc g) → (groupOf level ≡ groupOf at) ⊎ (groupOf level ≢ groupOf at) → topOf g ≤ code given + 2
+          far-raised g w (inr n) i = omega (arith, now .0 .far g (d .receiver) (sym (put .others (suc g) (d .receiver) (inl n)) ∙ w), f)
+          far-raised g w (inl e) (inl i) = absurd (omega (arith, sym (place-near at level i) ∙ e))
+          far-raised g w (inl e) (inr i) = let here : groupOf level ≡ g = omega (arith, sym (place-far at level i) ∙ e) in omega (arith, here, at-level)
+
+          far : (g y : ℕ) → waits q′ (suc g) y ≡ 1 → (d .receiver ≡ y) ⊎ (d .receiver ≢ y) → topOf g ≤ code (limitOf l′ y) + 2
+          far g y w (inr n) = omega (arith, ap code (off y n), now .0 .far g y (sym (put .others (suc g) y (inr n)) ∙ w))
+          far g y w (inl e) =
+              subst (λ (i : ℕ). topOf g ≤ code (limitOf l′ i) + 2) e
+              (omega (arith, ap code raised-to, far-raised g (ap (waits q′ (suc g)) e ∙ w) (eqOr (placeOf at level) (suc g)) (eqOr (groupOf level) (groupOf at))))
 
         place : {y : ℕ} → (d .receiver ≡ y) ⊎ (d .receiver ≢ y) → getD p y 0 < recordCount s → getD (set p (d .receiver) k) y 0 < recordCount s
         place {y} (inl e) b = subst (λ (i : ℕ). getD (set p (d .receiver) k) i 0 < recordCount s) e (subst (λ (i : ℕ). i < recordCount s) (sym (getD-set-same p (d .receiver) k 0 (omega (arith, now .0 .parents)))) h)
         place {y} (inr n) b = subst (λ (i : ℕ). i < recordCount s) (sym (getD-set-other p (d .receiver) y k 0 (λ e. n (sym e)))) b
 
-        -- the receiver waits at its new limit, and is as open as before
-        same : (q′ : List ℕ) → BitSet q (natAbs given) (d .receiver) 1 q′ → (y : ℕ) → (d .receiver ≡ y) ⊎ (d .receiver ≢ y) → settled y ≡ isSettled l′ q′ y
-        same q′ put y (inr n) = now .0 .same y ∙ sym (settled-same l l′ q q′ y (off y n) (λ z _. put .others z y (inr n)))
-        same q′ put y (inl e) = subst (λ (i : ℕ). settled i ≡ isSettled l′ q′ i) e (still (either (settled (d .receiver))))
-          where
-            waiting : (c : ℕ) → c ≡ suc (natAbs given) → settledAt q′ (d .receiver) c ≡ false
-            waiting zero e = absurd (omega arith)
-            waiting (suc z) e = let i : z ≡ natAbs given = omega arith in ap (λ (x : ℕ). eqb (waits q′ x (d .receiver)) 0) i ∙ ap (λ (x : ℕ). eqb x 0) (put .here)
-
-            still : T (settled (d .receiver)) ⊎ T (not (settled (d .receiver))) → settled (d .receiver) ≡ isSettled l′ q′ (d .receiver)
-            still (inl z) = absurd (fresh (d .receiver) z refl)
-            still (inr o) = unset (settled (d .receiver)) o ∙ sym (waiting (code (limitOf l′ (d .receiver))) (ap code at ∙ code-live given (omega arith)))
-
-        raised : (q′ : List ℕ) → BitSet q (natAbs given) (d .receiver) 1 q′ → Kept l′ (set p (d .receiver) k) q′ rest
+        raised : (q′ : List ℕ) → BitSet q (placeOf at level) (d .receiver) 1 q′ → Kept l′ (set p (d .receiver) k) q′ rest
         raised q′ put = (
           record {
             limits = simp length-set (now .0 .limits);
             parents = simp length-set (now .0 .parents);
             most = λ y o. most y o (eqOr (d .receiver) y);
-            above = λ x y b. put .others x y (inl (λ e. omega (arith, b, below, level, ap code at, code-live given (omega arith)))) ∙ now .0 .above x y b;
-            same = λ y. same q′ put y (eqOr (d .receiver) y);
+            waiting = λ y z o e. waiting q′ put y z o e (eqOr (d .receiver) y);
+            near = λ y w. near q′ put y w (eqOr (d .receiver) y);
+            far = λ g y w. far q′ put g y w (eqOr (d .receiver) y);
             among = λ z y b. place (eqOr (d .receiver) y) (now .0 .among z y b);
             search = search-raise t rule (underMarks (delegationsIn s) marks) 0 (limitOf l) (limitOf l′) settled (parentIn (delegationsIn s) p)
                 (parentIn (delegationsIn s) (set p (d .receiver) k)) d rest (now .0 .search) m
                 (subst (λ (z : ℤ). code (limitOf l (d .receiver)) < code (next t z (d .weight))) (sym at-giver) f)
-                (at ∙ ap (λ (z : ℤ). next t z (d .weight)) (sym at-giver)) off
+                (raised-to ∙ ap (λ (z : ℤ). next t z (d .weight)) (sym at-giver)) off
                 (ap (λ (i : ℕ). getD (delegationsIn s) i noDelegation) (getD-set-same p (d .receiver) k 0 (omega (arith, now .0 .parents))) ∙ delegation-at s (recordCount s) k noDelegation h)
                 (λ y n. ap (λ (i : ℕ). getD (delegationsIn s) i noDelegation) (getD-set-other p (d .receiver) y k 0 (λ e. n (sym e))));
           },
           off u other ∙ now .1,
         )
 
-      stepped : (l′ : List ℤ) (p′ q′ : List ℕ) → Stepped t limit marks d k l p q l′ p′ q′ → Kept l′ p′ q′ rest
+      stepped : (l′ : List ℤ) (p′ q′ : List ℕ) → Stepped t (pos at) marks d k l p q l′ p′ q′ → Kept l′ p′ q′ rest
       stepped l′ p′ q′ (inl (none-raised, el, ep, eq)) =
           subst (λ (x : List ℤ). Kept x p′ q′ rest) (sym el) (subst (λ (x : List ℕ). Kept l x q′ rest) (sym ep) (subst (λ (x : List ℕ). Kept l p x rest) (sym eq)
           (skipped (λ m. not-more (limitOf l (d .receiver)) given (λ f. none-raised (m, f))))))
@@ -186,7 +216,7 @@ module _ (t : List ℤ) (rule : TableRule t) (s : List ℕ) (marks : ℕ) (settl
           let n : e - a - k ≡ suc (e - a - suc k) = omega arith in
           ap (tabulate (recordAt s) (a + k)) n ∙ ap (λ (j : ℕ). recordAt s (a + k) ∷ tabulate (recordAt s) j (e - a - suc k)) (sym (add-suc a k))
 
-      pub ran : (k : ℕ) (l′ : List ℤ) (p′ q′ : List ℕ) → SteppedTo t limit marks (part s a e) a l p q k l′ p′ q′ → k ≤ e - a → Kept l′ p′ q′ (left k)
+      pub ran : (k : ℕ) (l′ : List ℤ) (p′ q′ : List ℕ) → SteppedTo t (pos at) marks (part s a e) a l p q k l′ p′ q′ → k ≤ e - a → Kept l′ p′ q′ (left k)
       ran k l′ p′ q′ stepped-none h = subst (λ (ds : List Delegation). Kept l p q ds) (λ i. tabulate (recordAt s) (first i) (count i)) now
         where
           first : a ≡ a + 0
@@ -197,4 +227,4 @@ module _ (t : List ℤ) (rule : TableRule t) (s : List ℕ) (marks : ℕ) (settl
       ran (suc k) l″ p″ q″ (stepped-more {l′ = l′} {p′ = p′} {q′ = q′} before f) h =
           stepped (a + k) (left (suc k)) l′ p′ q′ (omega arith) (here (a + k) (omega arith) (omega arith)) (receivers (a + k) (omega arith))
           (subst (λ (ds : List Delegation). Kept l′ p′ q′ ds) (left-cons k (omega arith)) (ran k l′ p′ q′ before (omega arith))) l″ p″ q″
-          (subst (λ (d : Delegation). Stepped t limit marks d (a + k) l′ p′ q′ l″ p″ q″) (record-part s a (recordSize * e - recordSize * a) k (omega arith)) f)
+          (subst (λ (d : Delegation). Stepped t (pos at) marks d (a + k) l′ p′ q′ l″ p″ q″) (record-part s a (recordSize * e - recordSize * a) k (omega arith)) f)

@@ -1,12 +1,12 @@
 -- A whole search: its start, its turns, its end, and what falls with every turn. Assumes nothing.
 use mathlib.Core.Path.{_≡_, refl, sym, ap, subst, _∙_}
 use mathlib.Core.Logic.{_≢_, _⊎_, inl, inr}
-use mathlib.Core.Bool.{Bool, true, false, not}
-use mathlib.Core.List.{List, []}
+use mathlib.Core.Bool.{Bool, not, cond}
+use mathlib.Core.List.{List, [], _∷_}
 use Prim.Native.Nat.{ℕ, zero, suc, _+_, _*_, _-_, _≤_, _<_}
 use native.Mathlib.Nat.{zero-add}
 use native.Mathlib.Omega.{arith}
-use lib.Dec.{T, eqb, ltb, ltb→lt, nltb→le}
+use lib.Dec.{T, eqb, eqb→eq, ltb, ltb→lt, nltb→le}
 use lib.IntN.{ℤ, pos}
 use lib.ListN.{length, getD}
 use lib.Seq.{ext-getD}
@@ -16,147 +16,185 @@ use Rattle.rules.specs.Register.{Delegation}
 use Rattle.rules.specs.Chain.{limit, IsChain}
 use Rattle.rules.specs.Reach.{reach}
 use Rattle.rules.specs.Links.{linksTo}
-use Rattle.rules.proofs.Lists.{either, eqOr, getD-tabulate, yes}
+use Rattle.rules.proofs.Lists.{either, eq→eqb, eqOr, getD-tabulate, test-ne, T-true, unset}
 use Rattle.rules.proofs.Search.{Found, search-start, search-settle, search-reach}
 use Rattle.rules.proofs.Links.{found-links}
 use Rattle.block.proofs.Bytes.{length-tabulate, tabulate-mem, mem-tabulate}
 use Rattle.block.specs.Layout.{mostSubjects}
-use Rattle.search.specs.Search.{underMarks, parentIn, mostLinks, Started}
+use Rattle.search.specs.Search.{underMarks, parentIn, mostLinks, Started, Choice, Heaviest}
 use Rattle.runs.specs.Lent.{recordCount, recordAt, Lent, SubjectLists, delegationsIn}
-use Rattle.runs.specs.Steps.{Gave, Waiting}
-use Rattle.queue.specs.Queue.{levels, setBits, waits, BitSet, Covered, Empty, Skipped}
+use Rattle.runs.specs.Steps.{SteppedTo, part, Gave, Waiting}
+use Rattle.queue.specs.Queue.{groups, setBits, bit, BitPut, Lowest, waits, BitSet, groupOf, topOf, placeOf, Covered, Empty, Taken}
 use Rattle.search.specs.Found.{Searched}
 use Rattle.runs.proofs.Records.{delegation-mem, mem-delegation}
-use Rattle.search.proofs.State.{limitOf, settledAt, isSettled, settled-same, State, state-limit, state-top, ran}
+use Rattle.search.proofs.State.{limitOf, isSettled, InGroup, State, state-limit, ran}
 use Rattle.rules.proofs.Signed.{code-pos}
-use Rattle.queue.proofs.Buckets.{left, left-same, left-falls, members, members-few, members-fall, covered-take}
+use Rattle.queue.proofs.Buckets.{bit-zero, bit-small, left, left-falls, members, members-few, members-fall, put-near, place-near, place-far}
 
 -- how many subjects are open
-abbrev pub unsettled : List ℤ → List ℕ → ℕ
-unsettled l q = left (isSettled l q) mostSubjects
+abbrev pub unsettled : ℕ → ℕ
+unsettled n = left (isSettled n) mostSubjects
 
--- what falls with every turn: the open subjects, then the level, then how many wait there; at most `setBits` wait at a level, and there are `levels` of them
-abbrev pub measure : List ℤ → List ℕ → ℕ → ℕ
-measure l q past = suc setBits * suc levels * unsettled l q + suc setBits * past + members (getD q (past - 1) 0)
+-- what falls with every turn: the open subjects, then the groups in which one may wait
+abbrev pub measure : ℕ → ℕ → ℕ
+measure n far = suc setBits * unsettled n + members far
 
--- a subject taken from a level
-pub waiting-taken : (l : List ℤ) (q q′ : List ℕ) (z u summary : ℕ) → Waiting l q summary → BitSet q z u 0 q′ → Waiting l q′ summary
-waiting-taken l q q′ z u summary w put = record {
-  queue = record { size = put .size ∙ w .queue .size; covered = covered-take q q′ z u summary (w .queue .covered) put };
-  limits = w .limits;
-}
+-- a subject that is open is not in the set of those settled
+pub open-bit : (n y : ℕ) → T (not (isSettled n y)) → bit n y ≡ 0
+open-bit n y o = omega (arith, bit-small n y, test-ne (bit n y) 1 o)
+
+pub bit-open : (n y : ℕ) → bit n y ≡ 0 → T (not (isSettled n y))
+bit-open n y e = go (either (isSettled n y))
+  where
+    go : T (isSettled n y) ⊎ T (not (isSettled n y)) → T (not (isSettled n y))
+    go (inl h) = absurd (omega (arith, e, eqb→eq (bit n y) 1 h))
+    go (inr h) = h
 
 module _ (t : List ℤ) (s : List ℕ) (lent : Lent t s (recordCount s)) (marks : ℕ) where
-  -- ── the start ──
-  module _ (l : List ℤ) (p q₀ q : List ℕ) (room : SubjectLists l p) (st : Started l p) (empty : Empty q₀) (put : BitSet q₀ 255 0 1 q) where
-    open-all : (y : ℕ) → isSettled l q y ≡ false
-    open-all y = go (eqOr 0 y)
-      where
-        go : (0 ≡ y) ⊎ (0 ≢ y) → isSettled l q y ≡ false
-        go (inl e) = subst (λ (i : ℕ). isSettled l q i ≡ false) e (ap (λ (z : ℤ). settledAt q 0 (code z)) (st .owner) ∙ ap (λ (x : ℕ). eqb x 0) (put .here))
-        go (inr n) = ap (λ (z : ℤ). settledAt q y (code z)) (st .others y n)
+  -- ── the start: the owner alone waits, near ──
+  module _ (l : List ℤ) (p q : List ℕ) (room : SubjectLists l p) (st : Started l p) (empty : Empty q) where
+    -- whoever has a limit is the owner
+    only : (y z : ℕ) → code (limitOf l y) ≡ suc z → (0 ≡ y) ⊎ (0 ≢ y) → (0 ≡ y) × (z ≡ 255)
+    only y z e (inl i) = (i, omega (arith, e, ap code (ap (limitOf l) (sym i) ∙ st .owner)))
+    only y z e (inr n) = absurd (omega (arith, e, ap code (st .others y n)))
 
-    pub state-start : State t s marks (isSettled l q) levels l p q []
+    pub state-start : State t s marks (isSettled 0) 255 l p (1 ∷ q) []
     state-start = record {
       limits = room .limits;
       parents = room .parents;
       most = λ y _. top y (eqOr 0 y);
-      above = λ x y b. put .others x y (inl (λ e. omega arith)) ∙ empty .none x y;
-      same = λ y. refl;
+      waiting = λ y z _ e. let o = only y z e (eqOr 0 y) in subst (λ (i : ℕ). waits (1 ∷ q) (placeOf 255 z) i ≡ 1) (o .0) (subst (λ (x : ℕ). waits (1 ∷ q) (placeOf 255 x) 0 ≡ 1) (sym (o .1)) refl);
+      near = λ y w. (bit-open 0 y (bit-zero y), owned y (eqOr 0 y) w);
+      far = λ g y w. absurd (omega (arith, sym (empty .none g y) ∙ w));
       among = λ z u b. subst (λ (i : ℕ). i < recordCount s) (sym (st .places u)) z;
-      search = search-start t (lent .rule) (underMarks (delegationsIn s) marks) 0 (limitOf l) (isSettled l q) (parentIn (delegationsIn s) p) (st .owner) (st .others) (λ y. subst (λ (b : Bool). T (not b)) (sym (open-all y)) tt);
+      search = search-start t (lent .rule) (underMarks (delegationsIn s) marks) 0 (limitOf l) (isSettled 0) (parentIn (delegationsIn s) p) (st .owner) (st .others) (λ y. bit-open 0 y (bit-zero y));
     }
       where
-        top : (y : ℕ) → (0 ≡ y) ⊎ (0 ≢ y) → code (limitOf l y) ≤ levels
-        top y (inl e) = subst (λ (i : ℕ). code (limitOf l i) ≤ levels) e (omega (arith, ap code (st .owner)))
+        top : (y : ℕ) → (0 ≡ y) ⊎ (0 ≢ y) → code (limitOf l y) ≤ 256
+        top y (inl e) = subst (λ (i : ℕ). code (limitOf l i) ≤ 256) e (omega (arith, ap code (st .owner)))
         top y (inr n) = omega (arith, ap code (st .others y n))
 
-    pub waiting-start : (summary : ℕ) → Covered q summary → Waiting l q summary
-    waiting-start summary w = record { queue = record { size = put .size ∙ empty .size; covered = w }; limits = λ y. go (eqOr 0 y) }
+        owned : (y : ℕ) → (0 ≡ y) ⊎ (0 ≢ y) → bit 1 y ≡ 1 → InGroup 255 (limitOf l y)
+        owned y (inl e) w = subst (λ (i : ℕ). InGroup 255 (limitOf l i)) e (record { level = 255; has = ap code (st .owner); same = refl })
+        owned zero (inr n) w = absurd (n refl)
+        owned (suc y) (inr n) w = absurd (omega (arith, sym (bit-zero y) ∙ w))
+
+    pub waiting-start : Waiting l q 0
+    waiting-start = record { queue = record { size = empty .size; covered = λ g y _. empty .none g y }; limits = λ y. go (eqOr 0 y) }
       where
         go : {y : ℕ} → (0 ≡ y) ⊎ (0 ≢ y) → (limitOf l y ≡ none) ⊎ (pos 0 ≼ limitOf l y)
         go {y} (inl e) = inr (subst (λ (i : ℕ). pos 0 ≼ limitOf l i) e (subst (λ (z : ℤ). pos 0 ≼ z) (sym (st .owner)) (omega arith)))
         go {y} (inr n) = inl (st .others y n)
 
-  module _ (l : List ℤ) (p q : List ℕ) (past : ℕ) (some : 0 < past) (now : State t s marks (isSettled l q) past l p q []) where
-    abbrev level : ℕ
-    level = past - 1
+  module _ (l : List ℤ) (p q : List ℕ) (near far n at : ℕ) (small : at ≤ 255) (now : State t s marks (isSettled n) at l p (near ∷ q) []) (covered : Covered q far) where
+    -- an open subject that has a limit waits near or in the set of its group
+    where-waits : (y z : ℕ) → T (not (isSettled n y)) → code (limitOf l y) ≡ suc z → ((groupOf z ≡ groupOf at) × (bit near y ≡ 1)) ⊎ ((groupOf z ≢ groupOf at) × (waits q (groupOf z) y ≡ 1))
+    where-waits y z o e = go (eqOr (groupOf z) (groupOf at))
+      where
+        go : (groupOf z ≡ groupOf at) ⊎ (groupOf z ≢ groupOf at) → ((groupOf z ≡ groupOf at) × (bit near y ≡ 1)) ⊎ ((groupOf z ≢ groupOf at) × (waits q (groupOf z) y ≡ 1))
+        go (inl i) = inl (i, subst (λ (x : ℕ). waits (near ∷ q) x y ≡ 1) (place-near at z i) (now .waiting y z o e))
+        go (inr i) = inr (i, subst (λ (x : ℕ). waits (near ∷ q) x y ≡ 1) (place-far at z i) (now .waiting y z o e))
 
-    -- ── none waits at the level, nor from r up to it ──
-    module _ (summary r : ℕ) (top : past ≤ levels) (c : Covered q summary) (none-here : (y : ℕ) → waits q level y ≡ 0) (sk : Skipped summary level r) where
-      pub lower-less : measure l q r < measure l q past
-      lower-less = omega (arith, sk .lower, members-few (getD q (r - 1) 0))
-
-      none-from : (x y : ℕ) → r ≤ x → waits q x y ≡ 0
-      none-from x y b = go (either (ltb x past)) (eqOr x level)
+    -- ── none waits near, and the first group in which one may is taken ──
+    module _ (none-near : (y : ℕ) → bit near y ≡ 0) (g : ℕ) (first : Lowest far g) (near₁ : ℕ) (q₁ : List ℕ) (tk : Taken q g n near₁ q₁) where
+      -- whoever is open waits in this group or below
+      lower : (y z : ℕ) → T (not (isSettled n y)) → code (limitOf l y) ≡ suc z → (g ≤ groupOf z) × (waits q (groupOf z) y ≡ 1)
+      lower y z o e = go (where-waits y z o e)
         where
-          go : T (ltb x past) ⊎ T (not (ltb x past)) → (x ≡ level) ⊎ (x ≢ level) → waits q x y ≡ 0
-          go (inr n) e = now .above x y (nltb→le x past n)
-          go (inl i) (inl e) = ap (λ (z : ℕ). waits q z y) e ∙ none-here y
-          go (inl i) (inr n) = let h : x < level = omega (arith, n, ltb→lt x past i) in c x y (omega arith) (sk .none x b h)
+          go : ((groupOf z ≡ groupOf at) × (bit near y ≡ 1)) ⊎ ((groupOf z ≢ groupOf at) × (waits q (groupOf z) y ≡ 1)) → (g ≤ groupOf z) × (waits q (groupOf z) y ≡ 1)
+          go (inl (i, w)) = absurd (omega (arith, w, none-near y))
+          go (inr (i, w)) = (below (either (ltb (groupOf z) g)), w)
+            where
+              below : T (ltb (groupOf z) g) ⊎ T (not (ltb (groupOf z) g)) → g ≤ groupOf z
+              below (inl h) = absurd (omega (arith, w, covered (groupOf z) y (first .least (groupOf z) (ltb→lt (groupOf z) g h))))
+              below (inr h) = nltb→le (groupOf z) g h
 
-      pub state-lower : State t s marks (isSettled l q) r l p q []
-      state-lower = record {
+      most-taken : (y : ℕ) → T (not (isSettled n y)) → code (limitOf l y) ≤ suc (topOf g)
+      most-taken y o = go (code (limitOf l y)) refl
+        where
+          go : (c : ℕ) → code (limitOf l y) ≡ c → code (limitOf l y) ≤ suc (topOf g)
+          go zero e = omega arith
+          go (suc z) e = omega (arith, lower y z o e .0, now .most y o, small, first .small)
+
+      pub state-taken : State t s marks (isSettled n) (topOf g) l p (near₁ ∷ q₁) []
+      state-taken = record {
         limits = now .limits;
         parents = now .parents;
-        most = λ y o. go y (code (limitOf l y)) refl o (now .most y o);
-        above = none-from;
-        same = now .same;
+        most = most-taken;
+        waiting = λ y z o e. here y z o e (eqOr (groupOf z) (groupOf (topOf g)));
+        near = λ y w. (opened y w, grouped y w);
+        far = λ x y w. others x y w (eqOr g x);
         among = now .among;
         search = now .search;
       }
         where
-          go : (y c : ℕ) → code (limitOf l y) ≡ c → T (not (settledAt q y c)) → c ≤ past → code (limitOf l y) ≤ r
-          go y zero e o b = omega arith
-          go y (suc z) e o b = below (either (ltb z r))
+          at-group : groupOf (topOf g) ≡ g
+          at-group = omega (arith, first .small)
+
+          here : (y z : ℕ) → T (not (isSettled n y)) → code (limitOf l y) ≡ suc z → (groupOf z ≡ groupOf (topOf g)) ⊎ (groupOf z ≢ groupOf (topOf g)) → waits (near₁ ∷ q₁) (placeOf (topOf g) z) y ≡ 1
+          here y z o e (inl i) =
+              subst (λ (x : ℕ). waits (near₁ ∷ q₁) x y ≡ 1) (sym (place-near (topOf g) z i))
+              (tk .each y ∙ omega (arith, open-bit n y o, ap (λ (x : ℕ). waits q x y) (sym (i ∙ at-group)) ∙ lower y z o e .1))
+          here y z o e (inr i) = subst (λ (x : ℕ). waits (near₁ ∷ q₁) x y ≡ 1) (sym (place-far (topOf g) z i)) (tk .others (groupOf z) y (λ h. i (sym h ∙ sym at-group)) ∙ lower y z o e .1)
+
+          -- whoever is taken was in the set of the group and is open
+          was : (y : ℕ) → bit near₁ y ≡ 1 → (waits q g y ≡ 1) × (bit n y ≡ 0)
+          was y w = (omega (arith, sym (tk .each y) ∙ w, bit-small (getD q g 0) y), omega (arith, sym (tk .each y) ∙ w, bit-small (getD q g 0) y))
+
+          opened : (y : ℕ) → bit near₁ y ≡ 1 → T (not (isSettled n y))
+          opened y w = bit-open n y (was y w .1)
+
+          grouped : (y : ℕ) → bit near₁ y ≡ 1 → InGroup (topOf g) (limitOf l y)
+          grouped y w = go (code (limitOf l y)) refl
             where
-              below : T (ltb z r) ⊎ T (not (ltb z r)) → code (limitOf l y) ≤ r
-              below (inl d) = omega (arith, ltb→lt z r d)
-              below (inr d) = absurd (subst (λ (x : ℕ). T (not (eqb x 0))) (none-from z y (nltb→le z r d)) o)
+              go : (c : ℕ) → code (limitOf l y) ≡ c → InGroup (topOf g) (limitOf l y)
+              go zero e = absurd (omega (arith, now .far g y (was y w .0), first .small))
+              go (suc z) e = record { level = z; has = e; same = omega (arith, now .far g y (was y w .0), most-taken y (opened y w), first .small) }
 
-    -- ── one that waits at the level is taken ──
-    module _ (u : ℕ) (q₁ : List ℕ) (put : BitSet q level u 0 q₁) where
-      above-taken : (x y : ℕ) → past ≤ x → waits q₁ x y ≡ 0
-      above-taken x y b = put .others x y (inl (λ e. omega arith)) ∙ now .above x y b
+          others : (x y : ℕ) → waits q₁ x y ≡ 1 → (g ≡ x) ⊎ (g ≢ x) → topOf x ≤ code (limitOf l y) + 2
+          others x y w (inl i) = absurd (omega (arith, sym (tk .none y) ∙ ap (λ (z : ℕ). waits q₁ z y) i ∙ w))
+          others x y w (inr i) = now .far x y (sym (tk .others x y i) ∙ w)
 
-      others : (y : ℕ) → u ≢ y → isSettled l q₁ y ≡ isSettled l q y
-      others y n = settled-same l l q q₁ y refl (λ z _. put .others z y (inr n))
+      pub taken-less : (far₁ : ℕ) → BitPut far g 0 far₁ → measure n far₁ < measure n far
+      taken-less far₁ put = omega (arith, members-fall far far₁ g (first .small) (first .member) put)
 
-      -- it was raised since: nothing is settled
-      module _ (raised : limitOf l u ≢ pos level) where
-        stale : (y : ℕ) → isSettled l q₁ y ≡ isSettled l q y
-        stale y = settled-same l l q q₁ y refl (λ z e. go z e (eqOr u y))
-          where
-            go : (z : ℕ) → code (limitOf l y) ≡ suc z → (u ≡ y) ⊎ (u ≢ y) → waits q₁ z y ≡ waits q z y
-            go z e (inl d) = put .others z y (inl (λ f. raised (ap (limitOf l) d ∙ code-pos (limitOf l y) level (e ∙ ap suc (sym f)))))
-            go z e (inr n) = put .others z y (inr n)
+    -- ── the heaviest of those who wait near is settled ──
+    -- all of them have limits, none above `at`
+    pub choice : near ≢ 0 → Choice l near (pos at)
+    choice some = record {
+      size = now .limits;
+      some = some;
+      live = λ y w. let h = now .near y w .1 in omega (arith, h .has);
+      within = λ y w. now .most y (now .near y w .0);
+    }
 
-        pub state-stale : State t s marks (isSettled l q₁) past l p q₁ []
-        state-stale = subst (λ (f : ℕ → Bool). State t s marks f past l p q₁ []) (λ i y. sym (stale y) i) record {
-          limits = now .limits;
-          parents = now .parents;
-          most = now .most;
-          above = above-taken;
-          same = λ y. sym (stale y);
-          among = now .among;
-          search = now .search;
-        }
+    module _ (u : ℕ) (heavy : Heaviest l near u) (level : ℕ) (has-level : limitOf l u ≡ pos level) where
+      same-group : groupOf level ≡ groupOf at
+      same-group =
+          let h = now .near u (heavy .member) .1 in
+          let e : level ≡ h .level = omega (arith, h .has, ap code has-level) in
+          ap groupOf e ∙ h .same
 
-        pub stale-less : u < mostSubjects → waits q level u ≡ 1 → measure l q₁ past < measure l q past
-        stale-less h w = omega (arith, left-same (isSettled l q₁) (isSettled l q) mostSubjects stale, members-fall q q₁ level u h w put)
+      pub level-small : level ≤ 255
+      level-small = omega (arith, ap code has-level, now .most u (now .near u (heavy .member) .0), small)
 
-      -- it is settled
-      module _ (h : u < mostSubjects) (waited : waits q level u ≡ 1) (here : limitOf l u ≡ pos level) where
-        abbrev after : ℕ → Bool
-        after = isSettled l q₁
+      -- nobody open has more
+      heaviest : (y : ℕ) → T (not (isSettled n y)) → code (limitOf l y) ≤ suc level
+      heaviest y o = go (code (limitOf l y)) refl
+        where
+          go : (c : ℕ) → code (limitOf l y) ≡ c → code (limitOf l y) ≤ suc level
+          go zero e = omega arith
+          go (suc z) e = by (where-waits y z o e)
+            where
+              by : ((groupOf z ≡ groupOf at) × (bit near y ≡ 1)) ⊎ ((groupOf z ≢ groupOf at) × (waits q (groupOf z) y ≡ 1)) → code (limitOf l y) ≤ suc level
+              by (inl (i, w)) = omega (arith, heavy .most y w, ap code has-level)
+              by (inr (i, w)) = omega (arith, i, same-group, now .most y o, e, small)
 
-        was : isSettled l q u ≡ false
-        was = ap (λ (z : ℤ). settledAt q u (code z)) here ∙ ap (λ (x : ℕ). eqb x 0) waited
+      module _ (near₁ n₁ : ℕ) (out : BitPut near u 0 near₁) (put : BitPut n u 1 n₁) where
+        others : (y : ℕ) → u ≢ y → isSettled n₁ y ≡ isSettled n y
+        others y d = ap (λ (x : ℕ). eqb x 1) (put .others y d)
 
-        at : after u ≡ true
-        at = ap (λ (z : ℤ). settledAt q₁ u (code z)) here ∙ ap (λ (x : ℕ). eqb x 0) (put .here)
-
-        module _ (l′ : List ℤ) (p′ q′ : List ℕ) (g : Gave t s marks u l p q₁ l′ p′ q′) where
+        module _ (l′ : List ℤ) (p′ q′ : List ℕ) (g : Gave t s marks u l p (near₁ ∷ q) l′ p′ q′) where
           abbrev gives : List Delegation
           gives = tabulate (recordAt s) (g .first) (g .past - g .first)
 
@@ -186,56 +224,78 @@ module _ (t : List ℤ) (s : List ℕ) (lent : Lent t s (recordCount s)) (marks 
               high k b e (inl f) = ltb→lt k (g .past) f
               high k b e (inr f) = absurd (omega (arith, g .after k (nltb→le k (g .past) f) b))
 
-          opened : State t s marks after past l p q₁ gives
+          opened : State t s marks (isSettled n₁) level l p (near₁ ∷ q) gives
           opened = record {
             limits = now .limits;
             parents = now .parents;
-            most = λ y o. most y o (eqOr u y);
-            above = above-taken;
-            same = λ y. refl;
+            most = λ y o. heaviest y (was-open y o);
+            waiting = λ y z o e. subst (λ (x : ℕ). waits (near₁ ∷ q) x y ≡ 1) (same-place z) (step .others (placeOf at z) y (inr (λ i. not-it y o i)) ∙ now .waiting y z (was-open y o) e);
+            near = λ y w. rest y w (eqOr u y);
+            far = now .far;
             among = now .among;
-            search = search-settle t (lent .rule) (underMarks (delegationsIn s) marks) 0 (limitOf l) (isSettled l q) after (parentIn (delegationsIn s) p) u gives (now .search)
-                (subst (λ (b : Bool). T (not b)) (sym was) tt) (λ y o. omega (arith, now .most y o, ap code here)) (yes at) others inRun allRun;
+            search = search-settle t (lent .rule) (underMarks (delegationsIn s) marks) 0 (limitOf l) (isSettled n) (isSettled n₁) (parentIn (delegationsIn s) p) u gives (now .search)
+                (now .near u (heavy .member) .0) (λ y o. omega (arith, heaviest y o, ap code has-level)) (eq→eqb (put .here)) others inRun allRun;
           }
             where
-              most : (y : ℕ) → T (not (after y)) → (u ≡ y) ⊎ (u ≢ y) → code (limitOf l y) ≤ past
-              most y o (inl e) = omega (arith, ap code (sym (ap (limitOf l) e) ∙ here))
-              most y o (inr n) = now .most y (subst (λ (b : Bool). T (not b)) (others y n) o)
+              step : BitSet (near ∷ q) 0 u 0 (near₁ ∷ q)
+              step = put-near near near₁ u 0 q out
 
-          closed : State t s marks after past l′ p′ q′ []
-          closed =
-              let d = ran t (lent .rule) s marks after past u (limitOf l u) (state-top t (lent .rule) s marks (isSettled l q) past l p q [] now u) (omega (arith, ap code here))
-              (g .first) (g .past) (g .order) (g .within) (g .here) receivers l p q₁ (opened, refl) (g .past - g .first) l′ p′ q′ (g .stepped) (omega arith) in
+              same-place : (z : ℕ) → placeOf at z ≡ placeOf level z
+              same-place z = ap (λ (x : ℕ). cond (eqb (groupOf z) x) 0 (suc (groupOf z))) (sym same-group)
+
+              not-it : (y : ℕ) → T (not (isSettled n₁ y)) → u ≢ y
+              not-it y o e = omega (arith, put .here, ap (bit n₁) e ∙ open-bit n₁ y o)
+
+              was-open : (y : ℕ) → T (not (isSettled n₁ y)) → T (not (isSettled n y))
+              was-open y o = subst (λ (b : Bool). T (not b)) (others y (not-it y o)) o
+
+              rest : (y : ℕ) → bit near₁ y ≡ 1 → (u ≡ y) ⊎ (u ≢ y) → T (not (isSettled n₁ y)) × InGroup level (limitOf l y)
+              rest y w (inl e) = absurd (omega (arith, out .here, ap (bit near₁) e ∙ w))
+              rest y w (inr d) =
+                  let h = now .near y (sym (out .others y d) ∙ w) in
+                  (subst (λ (b : Bool). T (not b)) (sym (others y d)) (h .0), record { level = h .1 .level; has = h .1 .has; same = h .1 .same ∙ sym same-group })
+
+          pub state-settle : State t s marks (isSettled n₁) level l′ p′ q′ []
+          state-settle =
+              let d = ran t (lent .rule) s marks (isSettled n₁) level u level-small
+              (g .first) (g .past) (g .order) (g .within) (g .here) receivers l p (near₁ ∷ q) (opened, has-level) (g .past - g .first) l′ p′ q′
+              (subst (λ (z : ℤ). SteppedTo t z marks (part s (g .first) (g .past)) (g .first) l p (near₁ ∷ q) (g .past - g .first) l′ p′ q′) has-level (g .stepped)) (omega arith) in
               let none-left : g .past - g .first - (g .past - g .first) ≡ 0 = omega arith in
-              subst (λ (n : ℕ). State t s marks after past l′ p′ q′ (tabulate (recordAt s) (g .first + (g .past - g .first)) n)) none-left (d .0)
+              subst (λ (m : ℕ). State t s marks (isSettled n₁) level l′ p′ q′ (tabulate (recordAt s) (g .first + (g .past - g .first)) m)) none-left (d .0)
             where
               receivers : (k : ℕ) → k < recordCount s → recordAt s k .receiver < mostSubjects
               receivers k b = lent .receivers (recordAt s k) (delegation-mem s (recordCount s) k b)
 
-          pub state-settle : State t s marks (isSettled l′ q′) past l′ p′ q′ []
-          state-settle = subst (λ (f : ℕ → Bool). State t s marks f past l′ p′ q′ []) (λ i y. closed .same y i) closed
+        pub settle-less : (far₁ : ℕ) → measure n₁ far₁ < measure n far
+        settle-less far₁ = omega (
+          arith,
+          left-falls (isSettled n) (isSettled n₁) mostSubjects u (heavy .small) (unset (isSettled n u) (now .near u (heavy .member) .0)) (T-true (isSettled n₁ u) (eq→eqb (put .here))) others,
+          members-few far₁,
+        )
 
-          pub settle-less : past ≤ levels → measure l′ q′ past < measure l q past
-          settle-less top = omega (arith, left-same after (isSettled l′ q′) mostSubjects (closed .same), left-falls (isSettled l q) after mostSubjects u h was at others, members-few (getD q′ level 0))
-
-  -- ── the end ──
-  module _ (l : List ℤ) (p q : List ℕ) (past : ℕ) (now : State t s marks (isSettled l q) past l p q []) (h : past ≡ 0) where
-    none-left : (y : ℕ) → T (not (isSettled l q y)) → limitOf l y ≡ none
-    none-left y o = go (state-limit t (lent .rule) s marks (isSettled l q) past l p q [] now y)
+  -- ── the end: none waits near, nor in any group ──
+  module _ (l : List ℤ) (p q : List ℕ) (near far n at : ℕ) (small : at ≤ 255) (now : State t s marks (isSettled n) at l p (near ∷ q) []) (covered : Covered q far) (none-near : (y : ℕ) → bit near y ≡ 0)
+      (none-far : (g : ℕ) → bit far g ≡ 0) where
+    none-left : (y : ℕ) → T (not (isSettled n y)) → limitOf l y ≡ none
+    none-left y o = go (state-limit t (lent .rule) s marks (isSettled n) at l p (near ∷ q) [] now y)
       where
-        waits-not : (c : ℕ) → c ≤ past → T (not (settledAt q y c)) → c ≡ 0
-        waits-not zero b k = refl
-        waits-not (suc z) b k = absurd (subst (λ (x : ℕ). T (not (eqb x 0))) (now .above z y (omega arith)) k)
+        waits-not : (c : ℕ) → code (limitOf l y) ≡ c → c ≡ 0
+        waits-not zero e = refl
+        waits-not (suc z) e = absurd (by (where-waits l p q near far n at small now covered y z o e))
+          where
+            by : ((groupOf z ≡ groupOf at) × (bit near y ≡ 1)) ⊎ ((groupOf z ≢ groupOf at) × (waits q (groupOf z) y ≡ 1)) → ⊥
+            by (inl (i, w)) = omega (arith, w, none-near y)
+            by (inr (i, w)) = omega (arith, w, covered (groupOf z) y (none-far (groupOf z)))
 
         go : (limitOf l y ≡ none) ⊎ (pos 0 ≼ limitOf l y) → limitOf l y ≡ none
         go (inl e) = e
-        go (inr f) = absurd (omega (arith, f, waits-not (code (limitOf l y)) (now .most y o) o))
+        go (inr f) = absurd (omega (arith, f, waits-not (code (limitOf l y)) refl))
 
     reached : (u : ℕ) → reach t (underMarks (delegationsIn s) marks) u 0 ≡ limitOf l u
-    reached u = search-reach t (lent .rule) (underMarks (delegationsIn s) marks) 0 (limitOf l) (isSettled l q) (parentIn (delegationsIn s) p) (now .search) none-left u
+    reached u = search-reach t (lent .rule) (underMarks (delegationsIn s) marks) 0 (limitOf l) (isSettled n) (parentIn (delegationsIn s) p) (now .search) none-left u
 
-    pub empty-end : length q ≡ levels → Empty q
-    empty-end size = record { size = size; none = λ x y. now .above x y (omega arith) }
+    pub empty-end : length q ≡ groups → Empty q
+    empty-end size = record { size = size; none = λ g y. covered g y (none-far g) }
 
     pub state-end : Searched t s marks l p
     state-end = record {
@@ -248,10 +308,10 @@ module _ (t : List ℤ) (s : List ℕ) (lent : Lent t s (recordCount s)) (marks 
         listed xs f n e q =
             ext-getD none xs (tabulate f 0 n) (e ∙ sym (length-tabulate f 0 n)) (λ k b. let c : k < n = omega arith in q k c ∙ sym (getD-tabulate f none 0 n k c ∙ ap f (zero-add k)))
 
-        back : (u : ℕ) → (limitOf l u ≡ none) ⊎ Found t (underMarks (delegationsIn s) marks) 0 (limitOf l) (isSettled l q) (parentIn (delegationsIn s) p) u
+        back : (u : ℕ) → (limitOf l u ≡ none) ⊎ Found t (underMarks (delegationsIn s) marks) 0 (limitOf l) (isSettled n) (parentIn (delegationsIn s) p) u
             → (reach t (underMarks (delegationsIn s) marks) u 0 ≡ none)
             ⊎ (IsChain t (underMarks (delegationsIn s) marks) u 0 (linksTo (parentIn (delegationsIn s) p) mostLinks u) × (reach t (underMarks (delegationsIn s) marks) u 0 ≡ limit t (linksTo (parentIn (delegationsIn s) p) mostLinks u)))
         back u (inl e) = inl (reached u ∙ e)
         back u (inr f) =
-            let e = found-links t (underMarks (delegationsIn s) marks) 0 (limitOf l) (isSettled l q) (parentIn (delegationsIn s) p) u (lent .receivers) f in
+            let e = found-links t (underMarks (delegationsIn s) marks) 0 (limitOf l) (isSettled n) (parentIn (delegationsIn s) p) u (lent .receivers) f in
             inr (subst (λ (ds : List Delegation). IsChain t (underMarks (delegationsIn s) marks) u 0 ds × (reach t (underMarks (delegationsIn s) marks) u 0 ≡ limit t ds)) (sym e) (f .chain, reached u ∙ f .carries))

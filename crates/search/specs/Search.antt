@@ -3,15 +3,16 @@ use mathlib.Core.Path.{_≡_}
 use mathlib.Core.Logic.{_≢_, _⊎_}
 use mathlib.Core.List.{List, [], _∷_}
 use Prim.Native.Nat.{ℕ, _-_, _<_}
-use lib.ListN.{getD}
+use lib.ListN.{length, getD}
 use lib.IntN.{ℤ, pos}
 use Rattle.rules.specs.List.{tabulate}
-use Rattle.rules.specs.Limit.{none}
+use Rattle.rules.specs.Limit.{none, _≼_}
 use Rattle.rules.specs.Register.{Delegation, Register, noDelegation}
 use Rattle.rules.specs.Chain.{limit, IsChain}
 use Rattle.rules.specs.Reach.{reach}
 use Rattle.rules.specs.Links.{linksTo}
 use Rattle.block.specs.Layout.{mostSubjects}
+use Rattle.queue.specs.Queue.{bit}
 
 -- a register with these delegations in which subject 0 has these marks: the reach of a pair looks at nothing else
 abbrev pub underMarks : List Delegation → ℕ → Register
@@ -22,6 +23,19 @@ pub record Started (l : List ℤ) (p : List ℕ) : Type 0 where
   pub owner : getD l 0 none ≡ pos 255
   pub others : (y : ℕ) → 0 ≢ y → getD l y none ≡ none
   pub places : (y : ℕ) → getD p y 0 ≡ 0
+
+-- a set of subjects that have limits, none of them above `most`
+pub record Choice (l : List ℤ) (set : ℕ) (most : ℤ) : Type 0 where
+  pub size : length l ≡ mostSubjects
+  pub some : set ≢ 0
+  pub live : (y : ℕ) → bit set y ≡ 1 → pos 0 ≼ getD l y none
+  pub within : (y : ℕ) → bit set y ≡ 1 → getD l y none ≼ most
+
+-- u is one of the set whose limit is as large as any of theirs
+pub record Heaviest (l : List ℤ) (set u : ℕ) : Type 0 where
+  pub small : u < mostSubjects
+  pub member : bit set u ≡ 1
+  pub most : (y : ℕ) → bit set y ≡ 1 → getD l y none ≼ getD l u none
 
 -- the reach of each subject, for these marks
 abbrev pub reaches : List ℤ → List Delegation → ℕ → List ℤ

@@ -59,7 +59,7 @@ pub fn limits_for(
     requires { ⌜ Prepared (now table) (now block) (now starts) × (receiver < subjectsIn (now block)) × SubjectLists (now limits) (now parents) ⌝ }
     ensures { λ _. ⌜ Searched (now (table .entry)) (recordsIn (now (block .entry))) (marksOf (decode (now (block .entry))) receiver) (now (limits .exit)) (now (parents .exit)) ⌝ }
 {
-    let mut waiting = [0u64; queue::LEVELS];
+    let mut waiting = [0u64; queue::GROUPS];
     limits_by(
         block,
         starts,

@@ -14,7 +14,7 @@ use Rattle.block.specs.Block.{decode}
 use Rattle.block.specs.WellFormed.{wellFormed}
 use Rattle.block.proofs.Bytes.{fits-bytes}
 use Rattle.block.proofs.Held.{size-held, held-formed}
-use Rattle.queue.specs.Queue.{levels, Empty}
+use Rattle.queue.specs.Queue.{groups, Empty}
 use Rattle.queue.proofs.Buckets.{empty-waits}
 use Rattle.reckoning.specs.Reckoned.{reachCount}
 use Rattle.rounds.proofs.Settling.{GoingOn, on-first, on-formed, on-few, on-more, on-falls, on-end, on-within}
@@ -39,7 +39,7 @@ copy-requires c κs =
 loop-holds : tie.Need-loop-holds Inv-loop μ-loop
 loop-holds c =
     let s = c .before .before .before .before .before in
-    (refl, on-first (s .args .table .now) (s .args .block .now) (fits-bytes (s .args .block .now) (c .before .before .before .before .slice-known .given)) (s .pre .0), refl, record { size = refl; none = empty-waits levels }, refl)
+    (refl, on-first (s .args .table .now) (s .args .block .now) (fits-bytes (s .args .block .now) (c .before .before .before .before .slice-known .given)) (s .pre .0), refl, record { size = refl; none = empty-waits groups }, refl)
 
 slice-aggregate-round : tie.Need-slice-aggregate-round Inv-loop μ-loop
 slice-aggregate-round c = sym (c .before .before .loop .inv .2)

@@ -13,7 +13,7 @@ use Rattle.block.specs.Layout.{mostSubjects, receiverByte, weightByte, needByte
 use Rattle.block.specs.Block.{delegationIn}
 use Rattle.block.proofs.Fields.{two-in}
 use Rattle.queue.specs.Queue.{levels}
-use Rattle.runs.proofs.Ways.{given-level, step-unmet, step-not-raised, step-raised}
+use Rattle.runs.proofs.Ways.{limit-level, given-level, step-unmet, step-not-raised, step-raised}
 use Rattle.runs.proofs.relax_at.Statement.{statement}
 use Rattle.runs.proofs.relax_at.Tie as tie
 
@@ -83,17 +83,24 @@ level c =
     let m = n .before .before .before .before in
     let s = m .before .before .before .before .before .before in
     let a = s .args in
-    given-level (a .table .now) (delegationIn (drop (a .at) (a .run .now))) (a .place) (a .limit) (a .marks) (a .limits .now) (a .parents .now) (a .waiting .now) (a .summary)
+    given-level (a .table .now) (delegationIn (drop (a .at) (a .run .now))) (a .place) (a .limit) (a .marks) (a .limits .now) (a .parents .now) (a .waiting .now) (a .sets .near) (a .sets .far)
     _ _ _ (m .before .before .read-two .ensures ∙ two-in (a .run .now) (a .at) needByte) (m .before .read-two2 .ensures ∙ two-in (a .run .now) (a .at) barByte) (m .meets .ensures) (s .pre .2 .waiting)
     _ _ (sym (getD-drop (a .at) (a .run .now) receiverByte 0)) (sym (getD-drop (a .at) (a .run .now) weightByte 0)) _ (s .fits .limit) (omega (arith, subject s)) (i .if22 .given) (record { sfits = n .next .ok }) (n .next .ensures) (c .if2 .taken) (s .pre .0) (s .pre .2 .most)
 
+-- and so is the limit of the giver
+giver : (s : tie.Start) → let limit = kept (s .args .limit) in T (nonNeg limit) × (natAbs limit < levels)
+giver s = limit-level (s .args .limit) (s .fits .limit) (s .pre .2 .live) (s .pre .2 .most)
+
 cast-join : tie.Need-cast-join
-cast-join c = let l = level (c .before) in (l .0, omega (arith, l .1))
+cast-join c = let g = giver (c .before .before .before .before .before .before .before .before .before .before .before .before .before) in (g .0, omega (arith, g .1))
+
+cast-join-2 : tie.Need-cast-join-2
+cast-join-2 c = let l = level (c .before) in (l .0, omega (arith, l .1))
 
 join-requires : tie.Need-join-requires
 join-requires c κs =
     let s = c .before .before .before .before .before .before .before .before .before .before .before .before .before in
-    (s .pre .2 .waiting .queue, level (c .before) .1, subject s)
+    (s .pre .2 .waiting .queue, giver s .1, level (c .before) .1, subject s)
 
 same-length : tie.Need-same-length
 same-length c = search needs
@@ -112,9 +119,9 @@ returns c =
     let m = n .before .before .before .before in
     let s = m .before .before .before .before .before .before in
     let a = s .args in
-    step-raised (a .table .now) (delegationIn (drop (a .at) (a .run .now))) (a .place) (a .limit) (a .marks) (a .limits .now) (a .parents .now) (a .waiting .now) (a .summary)
+    step-raised (a .table .now) (delegationIn (drop (a .at) (a .run .now))) (a .place) (a .limit) (a .marks) (a .limits .now) (a .parents .now) (a .waiting .now) (a .sets .near) (a .sets .far)
     _ _ _ (m .before .before .read-two .ensures ∙ two-in (a .run .now) (a .at) needByte) (m .before .read-two2 .ensures ∙ two-in (a .run .now) (a .at) barByte) (m .meets .ensures) (s .pre .2 .waiting)
-    _ _ (sym (getD-drop (a .at) (a .run .now) receiverByte 0)) (sym (getD-drop (a .at) (a .run .now) weightByte 0)) _ (s .fits .limit) (omega (arith, subject s)) (i .if22 .given) (record { sfits = n .next .ok }) (n .next .ensures) (j .before .before .if2 .taken) (n .before .before .before .if1 .taken) _ _ (j .join .ensures .0) (j .join .ensures .1)
+    _ _ (sym (getD-drop (a .at) (a .run .now) receiverByte 0)) (sym (getD-drop (a .at) (a .run .now) weightByte 0)) _ (s .fits .limit) (omega (arith, subject s)) (i .if22 .given) (record { sfits = n .next .ok }) (n .next .ensures) (j .before .before .if2 .taken) (n .before .before .before .if1 .taken) _ _ _ (j .join .ensures .0) (j .join .ensures .1)
 
 returns-2 : tie.Need-returns-2
 returns-2 c =
@@ -123,7 +130,7 @@ returns-2 c =
     let m = n .before .before .before .before in
     let s = m .before .before .before .before .before .before in
     let a = s .args in
-    step-not-raised (a .table .now) (delegationIn (drop (a .at) (a .run .now))) (a .place) (a .limit) (a .marks) (a .limits .now) (a .parents .now) (a .waiting .now) (a .summary)
+    step-not-raised (a .table .now) (delegationIn (drop (a .at) (a .run .now))) (a .place) (a .limit) (a .marks) (a .limits .now) (a .parents .now) (a .waiting .now) (a .sets .near) (a .sets .far)
     _ _ _ (m .before .before .read-two .ensures ∙ two-in (a .run .now) (a .at) needByte) (m .before .read-two2 .ensures ∙ two-in (a .run .now) (a .at) barByte) (m .meets .ensures) (s .pre .2 .waiting)
     _ _ (sym (getD-drop (a .at) (a .run .now) receiverByte 0)) (sym (getD-drop (a .at) (a .run .now) weightByte 0)) _ (s .fits .limit) (omega (arith, subject s)) (i .if22 .given) (record { sfits = n .next .ok }) (n .next .ensures) (c .if2 .left)
 
@@ -132,7 +139,7 @@ returns-3 c =
     let m = c .before in
     let s = m .before .before .before .before .before .before in
     let a = s .args in
-    step-unmet (a .table .now) (delegationIn (drop (a .at) (a .run .now))) (a .place) (a .limit) (a .marks) (a .limits .now) (a .parents .now) (a .waiting .now) (a .summary)
+    step-unmet (a .table .now) (delegationIn (drop (a .at) (a .run .now))) (a .place) (a .limit) (a .marks) (a .limits .now) (a .parents .now) (a .waiting .now) (a .sets .near) (a .sets .far)
     _ _ _ (m .before .before .read-two .ensures ∙ two-in (a .run .now) (a .at) needByte) (m .before .read-two2 .ensures ∙ two-in (a .run .now) (a .at) barByte) (m .meets .ensures) (s .pre .2 .waiting) (c .if1 .left)
 
 pub relax-at-spec : {M : Type 1} → statement M
@@ -158,6 +165,7 @@ relax-at-spec =
     mul-parents
     slice-write-parents
     cast-join
+    cast-join-2
     join-requires
     same-length
     same-length-2

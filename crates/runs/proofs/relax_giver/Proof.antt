@@ -1,5 +1,6 @@
 -- `runs::run::relax_giver` takes the step of each of a giver's records, all of them and no others. Assumes nothing.
 use mathlib.Core.Path.{sym, subst}
+use mathlib.Core.List.{_∷_}
 use Prim.Native.Nat.{_+_}
 use native.Mathlib.Omega.{arith}
 use borrow.Author.Needs.{needs}
@@ -72,6 +73,7 @@ relax-run-requires c κs =
         receivers = part-receivers (a .records .now) from past (r .order) (r .within) (a .table .now) lent;
       },
       record {
+        live = subst (λ (z : ℤ). pos 0 ≼ z) (sym (read-limit (a .limits .now) g (omega (arith, s .pre .2 .lists .limits)) (c .before .before .before .before .limit .given))) (s .pre .2 .live);
         most = subst (λ (z : ℤ). z ≼ pos 255) (sym (read-limit (a .limits .now) g (omega (arith, s .pre .2 .lists .limits)) (c .before .before .before .before .limit .given))) (s .pre .2 .most);
         lists = s .pre .2 .lists;
         waiting = s .pre .2 .waiting;
@@ -95,7 +97,7 @@ returns c =
     let r = run s in
     let f = c .before .before .before .before .before .relax-run in
     let e = read-limit (a .limits .now) g (omega (arith, s .pre .2 .lists .limits)) (c .before .before .before .before .before .before .before .before .before .before .limit .given) in (
-      gave (a .table .now) (a .records .now) (a .marks) g (a .limits .now) (a .parents .now) (a .waiting .now) _ _ _ _ _ _ (r .low) (r .high) (r .order)
+      gave (a .table .now) (a .records .now) (a .marks) g (a .limits .now) (a .parents .now) (a .sets .near ∷ a .waiting .now) _ _ _ _ _ _ (r .low) (r .high) (r .order)
           e (f .ensures .0),
       f .ensures .1,
     )

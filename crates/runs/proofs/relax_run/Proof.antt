@@ -1,5 +1,6 @@
 -- `runs::run::relax_run` takes the step of each record of a run in turn. Assumes nothing.
 use mathlib.Core.Path.{_≡_, refl, sym, _∙_}
+use mathlib.Core.List.{_∷_}
 use Prim.Native.Nat.{_-_, _≤_}
 use native.Mathlib.Omega.{arith}
 use native.Mathlib.Numerals.{add-one}
@@ -12,11 +13,11 @@ use Rattle.runs.proofs.relax_run.Statement.{statement}
 use Rattle.runs.proofs.relax_run.Tie as tie
 
 abbrev Inv-loop : tie.InvT-loop
-Inv-loop run first limit marks table limits₀ parents₀ waiting₀ summary n groups₀ k₀ limits parents waiting groups k =
-    (n ≡ recordCount run) × (k ≤ n) × SubjectLists limits parents × SteppedTo table (toZ w16 limit) marks run first limits₀ parents₀ waiting₀ k limits parents waiting × Waiting limits waiting groups
+Inv-loop run first limit marks table limits₀ parents₀ waiting₀ n left₀ k₀ limits parents waiting left k =
+    (n ≡ recordCount run) × (k ≤ n) × SubjectLists limits parents × SteppedTo table (toZ w16 limit) marks run first limits₀ parents₀ (left₀ .near ∷ waiting₀) k limits parents (left .near ∷ waiting) × Waiting limits waiting (left .far)
 
 abbrev μ-loop : tie.MeasureT-loop
-μ-loop run first limit marks table limits₀ parents₀ waiting₀ summary n groups₀ k₀ limits parents waiting groups k = n - k
+μ-loop run first limit marks table limits₀ parents₀ waiting₀ n left₀ k₀ limits parents waiting left k = n - k
 
 loop-holds : tie.Need-loop-holds Inv-loop μ-loop
 loop-holds c =
@@ -36,7 +37,7 @@ relax-at-requires c κs =
     let v = c .before .before .before .before .loop in (
       q .0,
       record { whole = omega arith; few = omega (arith, q .1 .few); receiver = q .1 .receivers (v .k) (omega arith) },
-      record { most = rw (toZ-ofZ {w = w16} (s .fits .limit)) (q .2 .most); lists = v .inv .2; waiting = v .inv .4 },
+      record { live = rw (toZ-ofZ {w = w16} (s .fits .limit)) (q .2 .live); most = rw (toZ-ofZ {w = w16} (s .fits .limit)) (q .2 .most); lists = v .inv .2; waiting = v .inv .4 },
     )
 
 add-k : tie.Need-add-k Inv-loop μ-loop

@@ -1,176 +1,178 @@
--- `search::search` meets its contract: each turn keeps the state of a search and settles a subject, drops one that was raised since, or goes down to the next level at which one may wait. Assumes nothing.
-use mathlib.Core.Path.{_≡_, sym, ap, subst, _∙_}
+-- `search::search` meets its contract: each turn keeps the state of a search and settles the heaviest of those who wait near, or takes the next group in which one may wait. Assumes nothing.
+use mathlib.Core.Path.{_≡_, refl, sym, ap, subst, _∙_}
 use mathlib.Core.Logic.{_≢_}
-use mathlib.Core.List.{List, []}
-use Prim.Native.Nat.{ℕ, _-_, _≤_, _<_}
+use mathlib.Core.List.{[], _∷_}
+use Prim.Native.Nat.{ℕ, _≤_, max}
 use native.Mathlib.Omega.{arith}
+use lib.Bits.{bitOr}
 use lib.ListN.{getD}
-use lib.IntN.{pos}
+use lib.IntN.{ℤ, pos, natAbs}
 use mir.Syntax.{w16}
 use mir.Val.{ofZ, toZ}
 use mir.Facts.{toZ-ofZ}
-use Rattle.rules.specs.Limit.{none}
-use Rattle.rules.proofs.Signed.{getD-within, read-limit}
-use Rattle.queue.specs.Queue.{levels, setBits, waits, BitSet}
+use Rattle.rules.specs.Limit.{none, code, _≼_}
+use Rattle.rules.proofs.Signed.{kept, read-limit, code-live, code-pos}
+use Rattle.queue.specs.Queue.{bit, topOf}
+use Rattle.queue.proofs.Buckets.{bit-or, bit-zero, covered-take}
 use Rattle.runs.specs.Lent.{SubjectLists}
 use Rattle.runs.specs.Steps.{Waiting}
-use Rattle.queue.proofs.Buckets.{taken-none, taken-some}
-use Rattle.search.proofs.State.{isSettled, State, state-top}
-use Rattle.search.proofs.Whole.{measure, state-start, waiting-start, waiting-taken, lower-less, state-lower, state-stale, stale-less, state-settle, settle-less, state-end, empty-end}
+use Rattle.search.specs.Search.{Choice}
+use Rattle.search.proofs.State.{isSettled, State}
+use Rattle.search.proofs.Whole.{measure, state-start, waiting-start, state-taken, taken-less, choice, level-small, state-settle, settle-less, state-end, empty-end}
 use Rattle.search.proofs.search.Statement.{statement}
 use Rattle.search.proofs.search.Tie as tie
 
+-- a limit that is a level
+abbrev IsLevel : ℤ → Type 0
+IsLevel z = (z ≡ pos (natAbs z)) × (natAbs z ≤ 255)
+
 abbrev Inv-loop : tie.InvT-loop
-Inv-loop records starts table marks limits₀ parents₀ waiting₀ summary₀ past₀ limits parents waiting summary past =
-    State table records marks (isSettled limits waiting) past limits parents waiting [] × Waiting limits waiting summary × (past ≤ levels)
+Inv-loop records starts table marks limits₀ parents₀ waiting₀ near₀ far₀ settled₀ most₀ limits parents waiting near far settled most =
+    State table records marks (isSettled settled) (natAbs (toZ w16 most)) limits parents (near ∷ waiting) [] × Waiting limits waiting far × IsLevel (toZ w16 most)
 
 abbrev μ-loop : tie.MeasureT-loop
-μ-loop records starts table marks limits₀ parents₀ waiting₀ summary₀ past₀ limits parents waiting summary past = measure limits waiting past
+μ-loop records starts table marks limits₀ parents₀ waiting₀ near₀ far₀ settled₀ most₀ limits parents waiting near far settled most = measure settled far
+
+abbrev begun : tie.At-loop Inv-loop μ-loop → tie.Start Inv-loop μ-loop
+begun l = l .before .before .before .before .before .before .before .before .before .before .before
 
 start-requires : tie.Need-start-requires Inv-loop μ-loop
 start-requires c κs = c .before .before .before .before .before .before .pre .1
 
-join-requires : tie.Need-join-requires Inv-loop μ-loop
-join-requires c κs =
-    let e = c .before .before .before .before .before .before .before .before .before .before .before .pre .2 in
-    (record { size = e .size; covered = λ x y _ _. e .none x y }, omega arith, omega arith)
-
 loop-holds : tie.Need-loop-holds Inv-loop μ-loop
 loop-holds c =
-    let s = c .before .before .before .before .before .before .before .before .before .before .before .before .before .before in
-    let f = c .before .before .before .before .before .before .before .start in
-    let j = c .before .before .join in
+    let s = c .before .before .before .before .before .before .before .before .before .before in
+    let f = c .before .before .before .start in
     let room : SubjectLists _ _ = record { limits = f .kept .0 ∙ s .pre .1 .limits; parents = f .kept .1 .0 ∙ s .pre .1 .parents } in (
-      state-start (s .args .table .now) (s .args .records .now) (s .pre .0 .lent) (s .args .marks) _ _ _ _ room (f .ensures) (s .pre .2) (j .ensures .0),
-      waiting-start (s .args .table .now) (s .args .records .now) (s .pre .0 .lent) (s .args .marks) _ _ _ _ room (f .ensures) (s .pre .2) (j .ensures .0) _ (j .ensures .1),
-      omega arith,
+      state-start (s .args .table .now) (s .args .records .now) (s .pre .0 .lent) (s .args .marks) _ _ _ room (f .ensures) (s .pre .2),
+      waiting-start (s .args .table .now) (s .args .records .now) (s .pre .0 .lent) (s .args .marks) _ _ _ room (f .ensures) (s .pre .2),
+      (refl, omega arith),
     )
 
-sub-take : tie.Need-sub-take Inv-loop μ-loop
-sub-take c = omega (arith, c .before .loop-test .taken)
+-- ── a turn in which none waits near ──
+lowest-requires : tie.Need-lowest-requires Inv-loop μ-loop
+lowest-requires c κs e = c .before .loop-test .taken (λ i. bitOr (c .if1 .taken i) (e i))
+
+without-requires : tie.Need-without-requires Inv-loop μ-loop
+without-requires c κs = (c .lowest .ensures .small, c .lowest .ensures .member)
 
 take-requires : tie.Need-take-requires Inv-loop μ-loop
-take-requires c κs = (c .before .before .loop .inv .1 .queue .size, omega (arith, c .before .before .loop .inv .2))
+take-requires c κs = (c .before .before .before .before .before .loop .inv .1 .queue .size, c .before .before .lowest .ensures .small)
 
-sub-below : tie.Need-sub-below Inv-loop μ-loop
-sub-below c = omega (arith, c .before .before .before .before .before .loop-test .taken)
+top-requires : tie.Need-top-requires Inv-loop μ-loop
+top-requires c κs = c .before .before .before .before .before .lowest .ensures .small
 
-below-requires : tie.Need-below-requires Inv-loop μ-loop
-below-requires c κs = omega (arith, c .before .before .before .before .before .before .loop .inv .2)
+none-near : (c : tie.Then1 Inv-loop μ-loop) (y : ℕ) → bit (c .before .before .loop .near) y ≡ 0
+none-near c y = ap (λ (n : ℕ). bit n y) (c .if1 .taken) ∙ bit-zero y
 
 loop-less : tie.Need-loop-less Inv-loop μ-loop
 loop-less c =
-    let l = c .before .before .before .before .before .before .before in
-    let s = l .before .before .before .before .before .before .before .before .before .before .before .before .before .before .before in
+    let l = c .before .before .before .before .before .before .before .before .before in
+    let s = begun l in
     let v = l .loop in
-    let n = taken-none (v .waiting) _ (v .past - 1) _ (c .before .before .before .before .take .ensures) (c .before .if1 .taken) in
-    subst (λ (q : List ℕ). measure (v .limits) q (c .below .result) < measure (v .limits) (v .waiting) (v .past)) (sym (n .1))
-    (lower-less (s .args .table .now) (s .args .records .now) (s .pre .0 .lent) (s .args .marks) (v .limits) (v .parents) (v .waiting) (v .past) (omega (arith, c .before .before .before .before .before .before .loop-test .taken)) (v .inv .0) (v .summary) _ (v .inv .2) (v .inv .1 .queue .covered) (n .0) (c .below .ensures))
+    taken-less (s .args .table .now) (s .args .records .now) (s .pre .0 .lent) (s .args .marks) (v .limits) (v .parents) (v .waiting) (v .near) (v .far) (v .settled) _ (v .inv .2 .1) (v .inv .0) (v .inv .1 .queue .covered)
+    (none-near (c .before .before .before .before .before .before .before)) _ (c .before .before .before .before .before .before .lowest .ensures) _ _ (c .before .before .before .take .ensures) _ (c .before .before .before .before .before .without .ensures)
 
 loop-again : tie.Need-loop-again Inv-loop μ-loop
 loop-again c =
-    let l = c .before .before .before .before .before .before .before in
-    let s = l .before .before .before .before .before .before .before .before .before .before .before .before .before .before .before in
+    let l = c .before .before .before .before .before .before .before .before .before in
+    let s = begun l in
     let v = l .loop in
-    let n = taken-none (v .waiting) _ (v .past - 1) _ (c .before .before .before .before .take .ensures) (c .before .if1 .taken) in
-    let e : 0 < v .past = omega (arith, c .before .before .before .before .before .before .loop-test .taken) in
-    subst
-    (λ (q : List ℕ). State (s .args .table .now) (s .args .records .now) (s .args .marks) (isSettled (v .limits) q) (c .below .result) (v .limits) (v .parents) q [] × Waiting (v .limits) q (v .summary) × (c .below .result ≤ levels)) (sym (n .1))
-    (state-lower (s .args .table .now) (s .args .records .now) (s .pre .0 .lent) (s .args .marks) (v .limits) (v .parents) (v .waiting) (v .past) e (v .inv .0) (v .summary) _ (v .inv .2) (v .inv .1 .queue .covered) (n .0) (c .below .ensures), v .inv .1, omega (arith, v .inv .2, c .below .ensures .lower))
+    let g = c .before .before .before .before .before .before .lowest .result in
+    let tk = c .before .before .before .take .ensures in
+    let top : toZ w16 (ofZ w16 (c .top .result)) ≡ pos (topOf g) = toZ-ofZ (record { sfits = c .top .ok }) ∙ c .top .ensures in (
+      subst (λ (z : ℤ). State (s .args .table .now) (s .args .records .now) (s .args .marks) (isSettled (v .settled)) (natAbs z) (v .limits) (v .parents) (c .before .before .before .take .result ∷ c .before .before .before .take .last .0) []) (sym top)
+          (state-taken (s .args .table .now) (s .args .records .now) (s .pre .0 .lent) (s .args .marks) (v .limits) (v .parents) (v .waiting) (v .near) (v .far) (v .settled) _ (v .inv .2 .1) (v .inv .0) (v .inv .1 .queue .covered)
+          (none-near (c .before .before .before .before .before .before .before)) g (c .before .before .before .before .before .before .lowest .ensures) _ _ tk),
+      record {
+        queue = record { size = tk .size ∙ v .inv .1 .queue .size; covered = covered-take (v .waiting) _ g (v .settled) _ (v .far) _ (v .inv .1 .queue .covered) tk (c .before .before .before .before .before .without .ensures) };
+        limits = v .inv .1 .limits;
+      },
+      subst IsLevel (sym top) (refl, omega arith),
+    )
 
--- ── a turn in which one waits at the level ──
-abbrev turn : tie.Else1 Inv-loop μ-loop → tie.At-loop Inv-loop μ-loop
-turn c = c .before .before .before .before .before .before
+-- ── a turn in which one who waits near is settled ──
+abbrev turn : tie.After-heaviest Inv-loop μ-loop → tie.At-loop Inv-loop μ-loop
+turn c = c .before .before .before .before
 
-abbrev begun : tie.At-loop Inv-loop μ-loop → tie.Start Inv-loop μ-loop
-begun l = l .before .before .before .before .before .before .before .before .before .before .before .before .before .before .before
+choose : (l : tie.At-loop Inv-loop μ-loop) → l .loop .near ≢ 0 → Choice (l .loop .limits) (l .loop .near) (toZ w16 (l .loop .most))
+choose l some =
+    let s = begun l in
+    let v = l .loop in
+    subst (Choice (v .limits) (v .near)) (sym (v .inv .2 .0))
+    (choice (s .args .table .now) (s .args .records .now) (s .pre .0 .lent) (s .args .marks) (v .limits) (v .parents) (v .waiting) (v .near) (v .far) (v .settled) _ (v .inv .2 .1) (v .inv .0) (v .inv .1 .queue .covered) some)
 
-abbrev who : tie.Else1 Inv-loop μ-loop → ℕ
-who c = c .before .before .before .take .result
+heaviest-requires : tie.Need-heaviest-requires Inv-loop μ-loop
+heaviest-requires c κs = choose (c .before .before .before) (c .before .if1 .left)
 
-abbrev left : tie.Else1 Inv-loop μ-loop → List ℕ
-left c = c .before .before .before .take .last .0
+with-requires : tie.Need-with-requires Inv-loop μ-loop
+with-requires c κs = c .heaviest .ensures .small
 
-level : (c : tie.Else1 Inv-loop μ-loop) → 0 < turn c .loop .past
-level c = omega (arith, c .before .before .before .before .before .loop-test .taken)
+mul-most : tie.Need-mul-most Inv-loop μ-loop
+mul-most c = omega (arith, c .before .heaviest .ensures .small)
 
-some : (c : tie.Else1 Inv-loop μ-loop) → let v = turn c .loop in (who c < setBits) × (waits (v .waiting) (v .past - 1) (who c) ≡ 1) × BitSet (v .waiting) (v .past - 1) (who c) 0 (left c)
-some c = let v = turn c .loop in taken-some (v .waiting) (left c) (v .past - 1) (who c) (c .before .before .before .take .ensures) (c .if1 .left)
+slice-copy-out-most : tie.Need-slice-copy-out-most Inv-loop μ-loop
+slice-copy-out-most c = omega (arith, c .before .heaviest .ensures .small, turn (c .before) .loop .inv .0 .limits)
 
--- it waits no more
-taken : (c : tie.Else1 Inv-loop μ-loop) → let v = turn c .loop in Waiting (v .limits) (left c) (v .summary)
-taken c =
-    let v = turn c .loop in
-    waiting-taken (v .limits) (v .waiting) (left c) (v .past - 1) (who c) (v .summary) (v .inv .1) (some c .2)
+without-requires-2 : tie.Need-without-requires-2 Inv-loop μ-loop
+without-requires-2 c κs = (c .before .before .heaviest .ensures .small, c .before .before .heaviest .ensures .member)
 
--- it has the level for its limit
-here : (c : tie.Then2 Inv-loop μ-loop) → let v = turn (c .before .before) .loop in getD (v .limits) (who (c .before .before)) none ≡ pos (v .past - 1)
-here c =
-    let e = c .before .before in
-    let v = turn e .loop in
-    sym (read-limit (v .limits) (who e) (omega (arith, some e .0, v .inv .0 .limits)) (c .before .if22 .given)) ∙ ap (toZ w16) (c .if2 .taken) ∙ toZ-ofZ {w = w16} (record { sfits = omega (arith, v .inv .2) })
+-- the limit of the one chosen is from 0 on
+live : (c : tie.After-heaviest Inv-loop μ-loop) → pos 0 ≼ getD (turn c .loop .limits) (c .heaviest .result) none
+live c = choose (turn c) (c .before .before .if1 .left) .live (c .heaviest .result) (c .heaviest .ensures .member)
 
--- or was raised since
-raised : (c : tie.Else2 Inv-loop μ-loop) → let v = turn (c .before .before) .loop in getD (v .limits) (who (c .before .before)) none ≢ pos (v .past - 1)
-raised c z =
-    let e = c .before .before in
-    let v = turn e .loop in
-    c .if2 .left (ap (ofZ w16) (getD-within (v .limits) (who e) (pos 0) none (omega (arith, some e .0, v .inv .0 .limits)) ∙ z))
-
-mul-if2 : tie.Need-mul-if2 Inv-loop μ-loop
-mul-if2 c = omega (arith, some c .0)
-
-slice-copy-out-if2 : tie.Need-slice-copy-out-if2 Inv-loop μ-loop
-slice-copy-out-if2 c = omega (arith, some c .0, turn c .loop .inv .0 .limits)
-
-sub-if2 : tie.Need-sub-if2 Inv-loop μ-loop
-sub-if2 c = omega (arith, level (c .before))
-
-cast-if2 : tie.Need-cast-if2 Inv-loop μ-loop
-cast-if2 c = record { sfits = omega (arith, turn (c .before) .loop .inv .2) }
+-- and is the level at hand then
+at-hand : (c : tie.After-most Inv-loop μ-loop) → let h = c .before .before in let z = getD (turn h .loop .limits) (h .heaviest .result) (pos 0) in getD (turn h .loop .limits) (h .heaviest .result) none ≡ pos (natAbs (kept z))
+at-hand c =
+    let h = c .before .before in
+    let l = turn h .loop .limits in
+    let u = h .heaviest .result in
+    code-pos (getD l u none) (natAbs (getD l u none)) (code-live (getD l u none) (live h))
+    ∙ ap (λ (z : ℤ). pos (natAbs z)) (sym (read-limit l u (omega (arith, h .heaviest .ensures .small, turn h .loop .inv .0 .limits)) (c .most .given)))
 
 relax-giver-requires : tie.Need-relax-giver-requires Inv-loop μ-loop
 relax-giver-requires c κs =
-    let e = c .before .before .before .before .before in
-    let s = begun (turn e) in
-    let v = turn e .loop in (
+    let h = c .before .before .before .before .before .before in
+    let s = begun (turn h) in
+    let v = turn h .loop in (
       s .pre .0,
-      some e .0,
+      h .heaviest .ensures .small,
       record {
-        most = state-top (s .args .table .now) (s .pre .0 .lent .rule) (s .args .records .now) (s .args .marks) (isSettled (v .limits) (v .waiting)) (v .past) (v .limits) (v .parents) (v .waiting) [] (v .inv .0) (who e);
+        live = live h;
+        most = omega (
+          arith,
+          ap code (at-hand (c .before .before .before .before)),
+          level-small (s .args .table .now) (s .args .records .now) (s .pre .0 .lent) (s .args .marks) (v .limits) (v .parents) (v .waiting) (v .near) (v .far) (v .settled) _ (v .inv .2 .1) (v .inv .0) (v .inv .1 .queue .covered) _ (h .heaviest .ensures) _ (at-hand (c .before .before .before .before)),
+        );
         lists = record { limits = v .inv .0 .limits; parents = v .inv .0 .parents };
-        waiting = taken e;
+        waiting = v .inv .1;
       },
     )
 
 loop-less-2 : tie.Need-loop-less-2 Inv-loop μ-loop
 loop-less-2 c =
-    let e = c .before .before .before .before .before .before .before .before .before .before .before in
-    let s = begun (turn e) in
-    let v = turn e .loop in
-    settle-less (s .args .table .now) (s .args .records .now) (s .pre .0 .lent) (s .args .marks) (v .limits) (v .parents) (v .waiting) (v .past) (level e) (v .inv .0) (who e) (left e) (some e .2) (some e .0) (some e .1) (here (c .before .before .before .before .before .before .before .before .before)) _ _ _ (c .before .before .before .before .before .relax-giver .ensures .0) (v .inv .2)
+    let h = c .before .before .before .before .before .before .before .before .before .before .before .before in
+    let s = begun (turn h) in
+    let v = turn h .loop in
+    settle-less (s .args .table .now) (s .args .records .now) (s .pre .0 .lent) (s .args .marks) (v .limits) (v .parents) (v .waiting) (v .near) (v .far) (v .settled) _ (v .inv .2 .1) (v .inv .0) (v .inv .1 .queue .covered)
+    _ (h .heaviest .ensures) _ (at-hand (c .before .before .before .before .before .before .before .before .before .before)) _ _ (c .before .before .before .before .before .before .before .before .before .without2 .ensures) (c .before .before .before .before .before .before .before .before .before .before .before .with .ensures) _
 
 loop-again-2 : tie.Need-loop-again-2 Inv-loop μ-loop
 loop-again-2 c =
-    let e = c .before .before .before .before .before .before .before .before .before .before .before in
-    let s = begun (turn e) in
-    let v = turn e .loop in
-    let f = c .before .before .before .before .before .relax-giver .ensures in
-    (state-settle (s .args .table .now) (s .args .records .now) (s .pre .0 .lent) (s .args .marks) (v .limits) (v .parents) (v .waiting) (v .past) (level e) (v .inv .0) (who e) (left e) (some e .2) (some e .0) (some e .1) (here (c .before .before .before .before .before .before .before .before .before)) _ _ _ (f .0), f .1, v .inv .2)
-
-loop-less-3 : tie.Need-loop-less-3 Inv-loop μ-loop
-loop-less-3 c =
-    let e = c .before .before in
-    let s = begun (turn e) in
-    let v = turn e .loop in
-    stale-less (s .args .table .now) (s .args .records .now) (s .pre .0 .lent) (s .args .marks) (v .limits) (v .parents) (v .waiting) (v .past) (level e) (v .inv .0) (who e) (left e) (some e .2) (raised c) (some e .0) (some e .1)
-
-loop-again-3 : tie.Need-loop-again-3 Inv-loop μ-loop
-loop-again-3 c =
-    let e = c .before .before in
-    let s = begun (turn e) in
-    let v = turn e .loop in
-    (state-stale (s .args .table .now) (s .args .records .now) (s .pre .0 .lent) (s .args .marks) (v .limits) (v .parents) (v .waiting) (v .past) (level e) (v .inv .0) (who e) (left e) (some e .2) (raised c), taken e, v .inv .2)
+    let h = c .before .before .before .before .before .before .before .before .before .before .before .before in
+    let s = begun (turn h) in
+    let v = turn h .loop in
+    let g = c .before .before .before .before .before .relax-giver .ensures in
+    let e = at-hand (c .before .before .before .before .before .before .before .before .before .before) in
+    let z = getD (v .limits) (h .heaviest .result) (pos 0) in (
+      state-settle (s .args .table .now) (s .args .records .now) (s .pre .0 .lent) (s .args .marks) (v .limits) (v .parents) (v .waiting) (v .near) (v .far) (v .settled) _ (v .inv .2 .1) (v .inv .0) (v .inv .1 .queue .covered)
+          _ (h .heaviest .ensures) _ e _ _ (c .before .before .before .before .before .before .before .before .before .without2 .ensures) (c .before .before .before .before .before .before .before .before .before .before .before .with .ensures) _ _ _ (g .0),
+      g .1,
+      (
+        read-limit (v .limits) (h .heaviest .result) (omega (arith, h .heaviest .ensures .small, v .inv .0 .limits)) (c .before .before .before .before .before .before .before .before .before .before .most .given) ∙ e,
+        level-small (s .args .table .now) (s .args .records .now) (s .pre .0 .lent) (s .args .marks) (v .limits) (v .parents) (v .waiting) (v .near) (v .far) (v .settled) _ (v .inv .2 .1) (v .inv .0) (v .inv .1 .queue .covered) _ (h .heaviest .ensures) _ e,
+      ),
+    )
 
 same-length : tie.Need-same-length Inv-loop μ-loop
 same-length c = c .before .loop .inv .0 .limits ∙ sym (begun (c .before) .pre .1 .limits)
@@ -185,9 +187,9 @@ returns : tie.Need-returns Inv-loop μ-loop
 returns c =
     let s = begun (c .before) in
     let v = c .before .loop in
-    let e : v .past ≡ 0 = omega (arith, c .loop-test .left) in (
-      state-end (s .args .table .now) (s .args .records .now) (s .pre .0 .lent) (s .args .marks) (v .limits) (v .parents) (v .waiting) (v .past) (v .inv .0) e,
-      empty-end (s .args .table .now) (s .args .records .now) (s .pre .0 .lent) (s .args .marks) (v .limits) (v .parents) (v .waiting) (v .past) (v .inv .0) e (v .inv .1 .queue .size),
+    let both : (y : ℕ) → max (bit (v .near) y) (bit (v .far) y) ≡ 0 = λ y. sym (bit-or (v .near) (v .far) y) ∙ ap (λ (n : ℕ). bit n y) (c .loop-test .left) ∙ bit-zero y in (
+      state-end (s .args .table .now) (s .args .records .now) (s .pre .0 .lent) (s .args .marks) (v .limits) (v .parents) (v .waiting) (v .near) (v .far) (v .settled) _ (v .inv .2 .1) (v .inv .0) (v .inv .1 .queue .covered) (λ y. omega (arith, both y)) (λ y. omega (arith, both y)),
+      empty-end (s .args .table .now) (s .args .records .now) (s .pre .0 .lent) (s .args .marks) (v .limits) (v .parents) (v .waiting) (v .near) (v .far) (v .settled) _ (v .inv .2 .1) (v .inv .0) (v .inv .1 .queue .covered) (λ y. omega (arith, both y)) (λ y. omega (arith, both y)) (v .inv .1 .queue .size),
     )
 
 pub search-spec : {M : Type 1} → statement M
@@ -197,23 +199,21 @@ search-spec =
     Inv-loop
     μ-loop
     start-requires
-    join-requires
     loop-holds
-    sub-take
+    lowest-requires
+    without-requires
     take-requires
-    sub-below
-    below-requires
+    top-requires
     loop-less
     loop-again
-    mul-if2
-    slice-copy-out-if2
-    sub-if2
-    cast-if2
+    heaviest-requires
+    with-requires
+    mul-most
+    slice-copy-out-most
+    without-requires-2
     relax-giver-requires
     loop-less-2
     loop-again-2
-    loop-less-3
-    loop-again-3
     same-length
     same-length-2
     same-length-3

@@ -1,7 +1,7 @@
 -- `search::limits_for` finds the reaches of a receiver by a queue of its own. Assumes nothing.
 use mathlib.Core.Path.{refl}
 use borrow.Author.Needs.{needs}
-use Rattle.queue.specs.Queue.{levels}
+use Rattle.queue.specs.Queue.{groups}
 use Rattle.queue.proofs.Buckets.{empty-waits}
 use Rattle.search.proofs.on_block.limits_for.Statement.{statement}
 use Rattle.search.proofs.on_block.limits_for.Tie as tie
@@ -10,7 +10,7 @@ slice-aggregate-limits-by : tie.Need-slice-aggregate-limits-by
 slice-aggregate-limits-by c = search needs
 
 limits-by-requires : tie.Need-limits-by-requires
-limits-by-requires c κs = let s = c .before .before .before .before .before .before in (s .pre .0, s .pre .1, record { lists = s .pre .2; queue = record { size = refl; none = empty-waits levels } })
+limits-by-requires c κs = let s = c .before .before .before .before .before .before in (s .pre .0, s .pre .1, record { lists = s .pre .2; queue = record { size = refl; none = empty-waits groups } })
 
 same-length : tie.Need-same-length
 same-length c = search needs
