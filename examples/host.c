@@ -1,8 +1,10 @@
 /* A host of the seat register: a maker passes a right to two distributors, both pass it to a dealer,
- * the dealer to a firm. Then one distributor is cut off, and the dealer keeps what the other gives. */
+ * the dealer to a firm. Then one distributor is cut off, and the dealer keeps what the other gives.
+ * After each cut the host says which delegations fell or were lowered. */
 #include <inttypes.h>
 #include <stdio.h>
 #include <stdlib.h>
+#include <string.h>
 
 #include "seatreg.h"
 
@@ -12,6 +14,7 @@ enum { MAKER = SEATREG_OWNER, NORTH, SOUTH, DEALER, FIRM, VISITOR };
 #define TRAINED 1u
 
 static uint8_t block[SEATREG_BLOCK_SIZE];     /* the register */
+static uint8_t before[SEATREG_BLOCK_SIZE];    /* the register before a cut */
 static uint8_t answers[SEATREG_ANSWERS_SIZE]; /* of the last call that was accepted */
 
 /* Ends the program if a call didn't return what this host expects. */
@@ -55,10 +58,31 @@ static void may_use(uint32_t receiver)
     printf("subject %" PRIu32 " may use the right: %s\n", receiver, seatreg_answer(answers, 0) ? "yes" : "no");
 }
 
+/* The weight of a pair of the register, or -1 where it doesn't stand. */
+static int weight_of(uint32_t giver, uint32_t receiver)
+{
+    for (uint32_t i = 0; i < seatreg_delegations(block); i++) {
+        struct seatreg_delegation d = seatreg_delegation_at(block, i);
+        if (d.giver == giver && d.receiver == receiver)
+            return (int)d.weight;
+    }
+    return -1;
+}
+
+/* The answers count what else was dropped or lowered; which delegations these are, the register as it
+ * was before the cut tells, and so does it of the one that was cut. */
 static void print_cut(void)
 {
     printf("  dropped %" PRId32 ", lowered %" PRId32 ", rounds %" PRId32 "\n",
            seatreg_answer(answers, 0), seatreg_answer(answers, 1), seatreg_answer(answers, 2));
+    for (uint32_t i = 0; i < seatreg_delegations(before); i++) {
+        struct seatreg_delegation d = seatreg_delegation_at(before, i);
+        int weight = weight_of(d.giver, d.receiver);
+        if (weight < 0)
+            printf("  %" PRIu32 "-%" PRIu32 " fell\n", d.giver, d.receiver);
+        else if (weight < (int)d.weight)
+            printf("  %" PRIu32 "-%" PRIu32 " lowered from %" PRIu32 " to %d\n", d.giver, d.receiver, d.weight, weight);
+    }
 }
 
 int main(void)
@@ -85,6 +109,7 @@ int main(void)
     check("grant", r, SEATREG_OVERWEIGHT);
     printf("grant %d-%d weight %d: refused with %" PRIu32 "\n", DEALER, VISITOR, SEATREG_UNLIMITED, r);
 
+    memcpy(before, block, sizeof block);
     r = seatreg_revoke(block, sizeof block, MAKER, MAKER, NORTH, answers, sizeof answers);
     check("revoke", r, SEATREG_ACCEPTED);
     printf("revoke %d-%d\n", MAKER, NORTH);
@@ -94,6 +119,7 @@ int main(void)
     reach(DEALER, FIRM);
     reach(DEALER, VISITOR); /* only SOUTH's chain is left, and the visitor isn't trained */
 
+    memcpy(before, block, sizeof block);
     r = seatreg_downgrade(block, sizeof block, SOUTH, SOUTH, DEALER, SEATREG_USE_ONLY, answers, sizeof answers);
     check("downgrade", r, SEATREG_ACCEPTED);
     printf("downgrade %d-%d to %d\n", SOUTH, DEALER, SEATREG_USE_ONLY);
