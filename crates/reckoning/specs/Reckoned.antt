@@ -15,11 +15,13 @@ use Rattle.rules.specs.Support.{allowed}
 use Rattle.rules.specs.Round.{round}
 use Rattle.block.specs.Layout.{mostSubjects, mostRecords}
 use Rattle.block.specs.Records.{HasRecords, delegationAt, leftTo}
-use Rattle.block.specs.Block.{subjectsIn, countIn, decode}
+use Rattle.block.specs.Block.{subjectsIn, countIn, recordsIn, decode}
 use Rattle.queue.specs.Queue.{bit, Empty}
+use Rattle.runs.specs.Steps.{Starts}
 use Rattle.search.specs.Found.{Prepared}
 use Rattle.search.specs.Named.{MarksAmong, AllNamed}
 use Rattle.reckoning.specs.declared.Delegation.{Delegation as DecodedDelegation}
+use Rattle.reckoning.specs.declared.Index.{Index}
 
 -- how many reaches the table of reaches has: one for each giver and receiver
 abbrev pub reachCount : ℕ
@@ -36,6 +38,17 @@ HasReceivers f n set = (k : ℕ) → k < n → bit set (f k .receiver) ≡ 1
 -- every mark that a condition of the first n delegations f names is a mark of m
 abbrev pub FirstNamed : (ℕ → Delegation) → ℕ → ℕ → Type 0
 FirstNamed f n m = (k : ℕ) → k < n → MarksAmong (f k .need) m × MarksAmong (f k .bar) m
+
+-- the receiver of every delegation of ds is in the set
+abbrev pub AllReceivers : ℕ → List Delegation → Type 0
+AllReceivers set ds = (d : Delegation) → d ∈ ds → bit set (d .receiver) ≡ 1
+
+-- what the rounds on the block b need and only a removal changes: how many delegations stand, where the run of each giver starts, who receives, and the marks that conditions name
+pub record IndexOf (b : List ℕ) (i : Index) (places : List ℕ) : Type 0 where
+  pub count : i .count ≡ countIn b
+  pub starts : Starts (recordsIn b) places
+  pub receivers : AllReceivers (i .receivers) (decode b .delegations)
+  pub names : AllNamed (i .named) (decode b .delegations)
 
 -- row r of the table of reaches holds the reach of every giver for the receiver r
 abbrev pub HasRow : List ℤ → Register → ℕ → List ℤ → Type 0

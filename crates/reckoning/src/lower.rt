@@ -134,7 +134,11 @@ pub fn lower_all(block: &[u8], reaches: &[i16], n: usize, weights: &mut [i16]) -
         }
         k += RUN;
     }
-    if lower_run(block, reaches, k, n - k, weights) {
+    let rest = n - k;
+    if rest == 0 {
+        return changed;
+    }
+    if lower_run(block, reaches, k, rest, weights) {
         changed = true;
     }
     changed

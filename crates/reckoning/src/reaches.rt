@@ -1,46 +1,17 @@
 // The table of reaches, by receiver and giver.
 ghost use mathlib.Core.Path.{_≡_};
-ghost use Prim.Native.Nat.{ℕ, _*_, _<_};
+ghost use Prim.Native.Nat.{_*_, _<_};
 ghost use lib.ListN.{length};
 ghost use Rattle.block.specs.Layout.{mostSubjects};
 ghost use Rattle.block.specs.Block.{subjectsIn, decode};
-ghost use Rattle.block.specs.Records.{HasRecords, delegationAt};
-ghost use Rattle.queue.specs.Queue.{setBits, Empty};
+ghost use Rattle.queue.specs.Queue.{Empty};
 ghost use Rattle.search.specs.Found.{Searchable, Prepared};
-ghost use Rattle.reckoning.specs.Reckoned.{reachCount, HasReceivers, FirstNamed, TablesLent, RowAsked, Tabled, PlacesCopied, RowMade};
+ghost use Rattle.reckoning.specs.Reckoned.{reachCount, IndexOf, TablesLent, RowAsked, Tabled, PlacesCopied, RowMade};
+use crate::Index;
 use block::layout;
 
 // A reach for each giver and receiver.
 pub const REACHES: usize = layout::SUBJECTS * layout::SUBJECTS;
-
-// The receivers of the first `n` delegations, in the bits of a number.
-fn receivers(block: &[u8], n: usize) -> u64
-    requires { ⌜ HasRecords (now block) n × ((k : ℕ) → k < n → delegationAt (now block) k .receiver < setBits) ⌝ }
-    ensures { λ r. ⌜ HasReceivers (delegationAt (now (block .entry))) n r ⌝ }
-{
-    let mut set: u64 = 0;
-    let mut k: usize = 0;
-    while k < n {
-        let receiver = block::receiver(block, k) as usize;
-        set = set | (1u64 << receiver);
-        k += 1;
-    }
-    set
-}
-
-// The marks that some condition of the first `n` delegations names.
-fn named_marks(block: &[u8], n: usize) -> u16
-    requires { ⌜ HasRecords (now block) n ⌝ }
-    ensures { λ r. ⌜ FirstNamed (delegationAt (now (block .entry))) n r ⌝ }
-{
-    let mut named: u16 = 0;
-    let mut k: usize = 0;
-    while k < n {
-        named = named | block::need(block, k) | block::bar(block, k);
-        k += 1;
-    }
-    named
-}
 
 // The row of one receiver, by a search.
 fn search_row(
@@ -107,29 +78,24 @@ fn fill_row(
 }
 
 // The rows of all receivers that hold a delegation: one search for those whose marks agree on all that are named.
-pub fn fill_reaches(block: &[u8], table: &[i16], reaches: &mut [i16], waiting: &mut [u64])
-    requires { ⌜ Searchable (now table) (now block) × TablesLent (now reaches) (now waiting) ⌝ }
+pub fn fill_reaches(
+    block: &[u8],
+    starts: &[u16],
+    table: &[i16],
+    index: Index,
+    reaches: &mut [i16],
+    waiting: &mut [u64],
+)
+    requires { ⌜ Searchable (now table) (now block) × IndexOf (now block) index (now starts) × TablesLent (now reaches) (now waiting) ⌝ }
     ensures { λ _. ⌜ Tabled (now (table .entry)) (decode (now (block .entry))) (now (reaches .exit)) × Empty (now (waiting .exit)) ⌝ }
 {
     let n = block::subjects(block) as usize;
-    let records = block::count(block);
-    let set = receivers(block, records);
-    let named = named_marks(block, records);
-    let mut starts = [0u16; runs::STARTS];
-    search::starts_of(block, &mut starts);
+    let set = index.receivers;
+    let named = index.named;
     let mut receiver: usize = 0;
     while receiver < n {
         if (set >> receiver) % 2 == 1 {
-            fill_row(
-                block,
-                &starts,
-                table,
-                named,
-                set,
-                receiver,
-                reaches,
-                waiting,
-            );
+            fill_row(block, starts, table, named, set, receiver, reaches, waiting);
         }
         receiver += 1;
     }

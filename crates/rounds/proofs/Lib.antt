@@ -1,3 +1,4 @@
 pub mod Counting
+pub mod Indexing
 pub mod Merging
 pub mod Settling

@@ -19,12 +19,14 @@ use Rattle.rules.proofs.Lists.{T-true, no}
 use Rattle.block.specs.Bytes.{IsBytes}
 use Rattle.block.specs.Block.{countIn, decode, encode}
 use Rattle.block.specs.WellFormed.{wellFormed}
-use Rattle.block.proofs.Encode.{decode-encode}
+use Rattle.block.proofs.Encode.{bytes-encode, decode-encode}
 use Rattle.block.proofs.Form.{encode-formed}
 use Rattle.block.proofs.Held.{held-formed, held-written}
 use Rattle.block.specs.Records.{delegationAt, leftTo}
-use Rattle.reckoning.specs.Reckoned.{Reckoned}
+use Rattle.reckoning.specs.Reckoned.{IndexOf, Reckoned}
+use Rattle.reckoning.specs.declared.Index.{Index}
 use Rattle.rounds.specs.Rounded.{RoundMade}
+use Rattle.rounds.proofs.Indexing.{index-kept}
 
 -- n rounds from C on changed something and left R: however it goes on from R, it goes on from C
 pub record Going (t : List ℤ) (C : Register) (n : ℕ) (R : Register) : Type 0 where
@@ -101,6 +103,14 @@ module _ (t : List ℤ) (C : Register) (n : ℕ) (b : List ℕ) (s : GoingOn t C
         let p = ap (λ (R : Register). total (R .delegations)) (ap decode left ∙ decode-encode (round t (s .0)) (round-formed t (s .0) (s .2 .formed))) in
         let q = ap (λ (R : Register). total (R .delegations)) held in
         omega (arith, p, q, round-falls t (s .0) (changes e))
+
+    -- where it removed nothing, the index stays right
+    pub on-index : (i : Index) (p : List ℕ) → IndexOf b i p → countIn after ≡ i .count → IndexOf after i p
+    on-index i p h e =
+        let f = round-formed t (s .0) (s .2 .formed) in
+        index-kept t b after (subst IsBytes (sym (s .1)) (bytes-encode (s .0) (s .2 .formed))) on-formed
+        (subst IsBytes (sym left) (bytes-encode (round t (s .0)) f)) (ap wellFormed left ∙ T-true (wellFormed (encode (round t (s .0)))) (encode-formed (round t (s .0)) f))
+        (ap decode left ∙ decode-encode (round t (s .0)) f ∙ ap (round t) (sym held)) (e ∙ h .count) i p h
 
     stays : x ≡ false → round t (s .0) ≡ s .0
     stays e = subst (λ (R : Register). round t R ≡ R) held (r .same e)

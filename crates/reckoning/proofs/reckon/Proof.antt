@@ -14,19 +14,14 @@ use Rattle.reckoning.proofs.reckon.Tie as tie
 fill-reaches-requires : tie.Need-fill-reaches-requires
 fill-reaches-requires c κs = search needs
 
-count-requires : tie.Need-count-requires
-count-requires c κs =
-    let k = c .before .before .before .before .before .before .before in
-    omega (arith, size-held (k .before .args .block .now) (fits-bytes (k .before .args .block .now) (k .shared-slice-known .given)) (k .before .pre .0 .formed))
-
 lower-all-requires : tie.Need-lower-all-requires
 lower-all-requires c κs =
     let k = c .before .before .before .before .before .before .before .before .before .before in
     let b = k .before .args .block .now in
     let g = fits-bytes b (k .shared-slice-known .given) in
-    let e = c .before .before .count .ensures in
+    let e = k .before .pre .1 .count in
     let m = count-most b g (k .before .pre .0 .formed) in
-    (omega (arith, e, m, size-held b g (k .before .pre .0 .formed)), omega (arith, e, m), k .before .pre .2)
+    (omega (arith, e, m, size-held b g (k .before .pre .0 .formed)), omega (arith, e, m), k .before .pre .3)
 
 same-length : tie.Need-same-length
 same-length c = search needs
@@ -40,21 +35,19 @@ same-length-3 c = search needs
 returns : tie.Need-returns
 returns c =
     let r = c .before .lower-all in
-    let n = c .before .before .before .before in
-    let f = c .before .before .before .before .before .before .before .before .fill-reaches in
+    let f = c .before .before .before .before .before .before .before .fill-reaches in
     let k = c .before .before .before .before .before .before .before .before .before .before .before .before in
     let a = k .before .args in
     let b = a .block .now in
     let after = r .last .1 .1 .1 .0 in
-    let left = subst (λ (m : ℕ). RunLowered (f .last .1 .1 .0) (delegationAt b) 0 m (r .result) (a .weights .now) after) (n .count .ensures) (r .ensures) in
-    (reckoned (a .table .now) b (fits-bytes b (k .shared-slice-known .given)) (k .before .pre .0 .formed) (f .last .1 .1 .0) (f .kept .1 .1 .0 ∙ k .before .pre .1 .size) (f .ensures .0) (r .result) (a .weights .now) after left, f .ensures .1)
+    let left = subst (λ (m : ℕ). RunLowered (f .last .1 .1 .1 .1 .0) (delegationAt b) 0 m (r .result) (a .weights .now) after) (k .before .pre .1 .count) (r .ensures) in
+    (reckoned (a .table .now) b (fits-bytes b (k .shared-slice-known .given)) (k .before .pre .0 .formed) (f .last .1 .1 .1 .1 .0) (f .kept .1 .1 .1 .1 .0 ∙ k .before .pre .2 .size) (f .ensures .0) (r .result) (a .weights .now) after left, f .ensures .1)
 
 pub reckon-spec : {M : Type 1} → statement M
 reckon-spec =
     tie.close
     (tie.spec
     fill-reaches-requires
-    count-requires
     lower-all-requires
     same-length
     same-length-2

@@ -23,9 +23,9 @@ same-length-4 c = search needs
 
 returns : tie.Need-returns
 returns c =
-    let s = c .before .before .before .before .before .before .before .before .before .before .before .before in
+    let s = c .before .before .before .before .before .before .before .before .before .before .before .before .before in
     let o = c .before .before .before .before .before .reckon in
-    (round-none (s .args .table .now) (s .args .block .now) (fits-bytes (s .args .block .now) (c .before .before .before .before .before .before .before .before .before .before .before .slice-known .given)) (s .pre .0 .formed) (o .result) (o .last .1 .1 .1 .1 .0) (o .ensures .0) (not-true (o .result) (c .if1 .taken)), o .ensures .1)
+    (round-none (s .args .table .now) (s .args .block .now) (fits-bytes (s .args .block .now) (c .before .before .before .before .before .before .before .before .before .before .before .before .slice-known .given)) (s .pre .0 .formed) (o .result) (o .last .1 .1 .1 .1 .1 .1 .0) (o .ensures .0) (not-true (o .result) (c .if1 .taken)), o .ensures .1)
 
 write-left-requires : tie.Need-write-left-requires
 write-left-requires c κs = search needs
@@ -44,10 +44,10 @@ same-length-8 c = search needs
 
 returns-2 : tie.Need-returns-2
 returns-2 c =
-    let s = c .before .before .before .before .before .before .before .before .before .before .before .before .before .before .before .before .before in
+    let s = c .before .before .before .before .before .before .before .before .before .before .before .before .before .before .before .before .before .before in
     let o = c .before .before .before .before .before .before .before .before .before .before .reckon in
     let w = c .before .before .write-left in
-    (round-some (s .args .table .now) (s .args .block .now) (o .result) (o .last .1 .1 .1 .1 .0) (o .ensures .0) (not-false (o .result) (c .before .before .before .before .before .if1 .left)) (w .last .0) (w .ensures), o .ensures .1)
+    (round-some (s .args .table .now) (s .args .block .now) (o .result) (o .last .1 .1 .1 .1 .1 .1 .0) (o .ensures .0) (not-false (o .result) (c .before .before .before .before .before .if1 .left)) (w .last .0) (w .ensures), o .ensures .1)
 
 pub round-spec : {M : Type 1} → statement M
 round-spec =

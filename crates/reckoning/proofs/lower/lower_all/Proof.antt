@@ -47,39 +47,48 @@ loop-again c =
     (λ w. rw (w .1) (omega (arith, c .before .before .before .before .loop-test .taken), r .kept .1 .1 .1 .1 .0 ∙ l .inv .1, then-same (a .reaches .now) f (l .k) runSize (a .weights .now) (l .weights) _ (l .changed) _ _ refl (w .0 .left) (l .inv .2) (r .ensures)))
     (c .if1 .came)
 
-sub-lower-run : tie.Need-sub-lower-run Inv-loop μ-loop
-sub-lower-run c = omega (arith, c .before .loop .inv .0)
-
-lower-run-requires-2 : tie.Need-lower-run-requires-2 Inv-loop μ-loop
-lower-run-requires-2 c κs =
-    let s = c .before .before .before .before in
-    let l = c .before .before .loop in
-    let e : l .k + (s .args .n - l .k) ≡ s .args .n = omega (arith, l .inv .0) in
-    record { records = rw e (s .pre .0); few = rw e (s .pre .1); run = omega (arith, c .before .loop-test .left); room = l .inv .1 }
+sub-rest : tie.Need-sub-rest Inv-loop μ-loop
+sub-rest c = omega (arith, c .before .loop .inv .0)
 
 same-length : tie.Need-same-length Inv-loop μ-loop
-same-length c = c .before .before .lower-run2 .kept .1 .1 .1 .1 .0 ∙ c .before .before .before .before .before .loop .inv .1 ∙ sym (c .before .before .before .before .before .before .before .pre .2)
+same-length c = c .before .before .loop .inv .1 ∙ sym (c .before .before .before .before .pre .2)
 
 returns : tie.Need-returns Inv-loop μ-loop
 returns c =
-    let a = c .before .before .before .before .before .before .before .args in
-    let l = c .before .before .before .before .before .loop in
-    let r = c .before .before .lower-run2 in
-    let f = delegationAt (a .block .now) in
-    let e : l .k + (a .n - l .k) ≡ a .n = omega (arith, l .inv .0) in
-    then-less (a .reaches .now) f (l .k) (a .n - l .k) (a .weights .now) (l .weights) _ (l .changed) _ _ e (c .if2 .taken) (l .inv .2) (r .ensures)
+    let l = c .before .before .loop in
+    let e : l .k ≡ c .before .before .before .before .args .n = omega (arith, l .inv .0, c .if2 .taken) in
+    rw (← e) (l .inv .2)
+
+lower-run-requires-2 : tie.Need-lower-run-requires-2 Inv-loop μ-loop
+lower-run-requires-2 c κs =
+    let s = c .before .before .before .before .before in
+    let l = c .before .before .before .loop in
+    let e : l .k + (s .args .n - l .k) ≡ s .args .n = omega (arith, l .inv .0) in
+    record { records = rw e (s .pre .0); few = rw e (s .pre .1); run = omega (arith, c .before .before .loop-test .left); room = l .inv .1 }
 
 same-length-2 : tie.Need-same-length-2 Inv-loop μ-loop
-same-length-2 c = c .before .before .lower-run2 .kept .1 .1 .1 .1 .0 ∙ c .before .before .before .before .before .loop .inv .1 ∙ sym (c .before .before .before .before .before .before .before .pre .2)
+same-length-2 c = c .before .before .lower-run2 .kept .1 .1 .1 .1 .0 ∙ c .before .before .before .before .before .before .loop .inv .1 ∙ sym (c .before .before .before .before .before .before .before .before .pre .2)
 
 returns-2 : tie.Need-returns-2 Inv-loop μ-loop
 returns-2 c =
-    let a = c .before .before .before .before .before .before .before .args in
-    let l = c .before .before .before .before .before .loop in
+    let a = c .before .before .before .before .before .before .before .before .args in
+    let l = c .before .before .before .before .before .before .loop in
     let r = c .before .before .lower-run2 in
     let f = delegationAt (a .block .now) in
     let e : l .k + (a .n - l .k) ≡ a .n = omega (arith, l .inv .0) in
-    then-same (a .reaches .now) f (l .k) (a .n - l .k) (a .weights .now) (l .weights) _ (l .changed) _ _ e (c .if2 .left) (l .inv .2) (r .ensures)
+    then-less (a .reaches .now) f (l .k) (a .n - l .k) (a .weights .now) (l .weights) _ (l .changed) _ _ e (c .if3 .taken) (l .inv .2) (r .ensures)
+
+same-length-3 : tie.Need-same-length-3 Inv-loop μ-loop
+same-length-3 c = c .before .before .lower-run2 .kept .1 .1 .1 .1 .0 ∙ c .before .before .before .before .before .before .loop .inv .1 ∙ sym (c .before .before .before .before .before .before .before .before .pre .2)
+
+returns-3 : tie.Need-returns-3 Inv-loop μ-loop
+returns-3 c =
+    let a = c .before .before .before .before .before .before .before .before .args in
+    let l = c .before .before .before .before .before .before .loop in
+    let r = c .before .before .lower-run2 in
+    let f = delegationAt (a .block .now) in
+    let e : l .k + (a .n - l .k) ≡ a .n = omega (arith, l .inv .0) in
+    then-same (a .reaches .now) f (l .k) (a .n - l .k) (a .weights .now) (l .weights) _ (l .changed) _ _ e (c .if3 .left) (l .inv .2) (r .ensures)
 
 pub lower-all-spec : {M : Type 1} → statement M
 lower-all-spec =
@@ -93,9 +102,11 @@ lower-all-spec =
     add-k
     loop-less
     loop-again
-    sub-lower-run
-    lower-run-requires-2
+    sub-rest
     same-length
     returns
+    lower-run-requires-2
     same-length-2
-    returns-2)
+    returns-2
+    same-length-3
+    returns-3)

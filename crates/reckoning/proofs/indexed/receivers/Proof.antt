@@ -7,8 +7,8 @@ use Rattle.block.specs.Records.{delegationAt}
 use Rattle.queue.specs.Queue.{setBits}
 use Rattle.reckoning.specs.Reckoned.{HasReceivers}
 use Rattle.reckoning.proofs.Filling.{set-on}
-use Rattle.reckoning.proofs.reaches.receivers.Statement.{statement}
-use Rattle.reckoning.proofs.reaches.receivers.Tie as tie
+use Rattle.reckoning.proofs.indexed.receivers.Statement.{statement}
+use Rattle.reckoning.proofs.indexed.receivers.Tie as tie
 
 abbrev Inv-loop : tie.InvT-loop
 Inv-loop block n set₀ k₀ set k = (k ≤ n) × HasReceivers (delegationAt block) k set

@@ -4,8 +4,8 @@ use native.Mathlib.Omega.{arith}
 use Rattle.block.specs.Records.{delegationAt}
 use Rattle.reckoning.specs.Reckoned.{FirstNamed}
 use Rattle.reckoning.proofs.Filling.{names-on}
-use Rattle.reckoning.proofs.reaches.named_marks.Statement.{statement}
-use Rattle.reckoning.proofs.reaches.named_marks.Tie as tie
+use Rattle.reckoning.proofs.indexed.named_marks.Statement.{statement}
+use Rattle.reckoning.proofs.indexed.named_marks.Tie as tie
 
 abbrev Inv-loop : tie.InvT-loop
 Inv-loop block n named₀ k₀ named k = (k ≤ n) × FirstNamed (delegationAt block) k named
