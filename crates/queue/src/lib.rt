@@ -61,13 +61,7 @@ pub fn top(group: usize) -> i16
 }
 
 // A subject waits at a level from now on: near where that is in the group at hand, which is the group of the level `at`.
-pub fn join(
-    queue: &mut [u64],
-    at: usize,
-    level: usize,
-    subject: usize,
-    sets: Sets,
-) -> Sets
+pub fn join(queue: &mut [u64], at: usize, level: usize, subject: usize, sets: Sets) -> Sets
     requires { ⌜ IsQueue (now queue) (sets .far) × (at < levels) × (level < levels) × (subject < setBits) ⌝ }
     ensures { λ r. ⌜ BitSet (sets .near ∷ now (queue .entry)) (placeOf at level) subject 1 (r .near ∷ now (queue .exit)) × Covered (now (queue .exit)) (r .far) ⌝ }
 {

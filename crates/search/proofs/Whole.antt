@@ -28,7 +28,6 @@ use Rattle.queue.specs.Queue.{groups, setBits, bit, BitPut, Lowest, waits, BitS
 use Rattle.search.specs.Found.{Searched}
 use Rattle.runs.proofs.Records.{delegation-mem, mem-delegation}
 use Rattle.search.proofs.State.{limitOf, isSettled, InGroup, State, state-limit, ran}
-use Rattle.rules.proofs.Signed.{code-pos}
 use Rattle.queue.proofs.Buckets.{bit-zero, bit-small, left, left-falls, members, members-few, members-fall, put-near, place-near, place-far}
 
 -- how many subjects are open
