@@ -14,7 +14,7 @@ use lib.Pow.{shr-shr}
 use lib.ListN.{length, getD, set, replicate, length-set, length-replicate, getD-replicate, List·getD-eq-default}
 use lib.Seq.{getD-set-same, getD-set-other}
 use Rattle.rules.proofs.Lists.{T-true, unset, either, eq→eqb, eqOr}
-use Rattle.queue.specs.Queue.{setBits, bit, BitPut, Lowest, waits, BitSet, groupOf, placeOf, Covered, Taken}
+use Rattle.queue.specs.Queue.{setBits, bit, BitPut, Without, Lowest, waits, BitSet, groupOf, placeOf, Covered, Taken}
 
 pub bit-zero : (y : ℕ) → bit 0 y ≡ 0
 bit-zero zero = refl
@@ -76,18 +76,8 @@ module _ (y one : ℕ) (e : one ≡ 1 * 2 ^ y) where
   pub put-in : (n : ℕ) → BitPut n y 1 (bitOr n one)
   put-in n = record { here = bit-or n one y ∙ omega (arith, one-here, bit-small n y); others = λ w d. bit-or n one w ∙ omega (arith, one-off w d) }
 
-  pub put-out : (n : ℕ) → bit n y ≡ 1 → BitPut n y 0 (bitXor n one)
-  put-out n f = record {
-    here = bit-xor n one y ∙ (λ i. differ (f i) (one-here i));
-    others = λ w d. bit-xor n one w ∙ (λ i. differ (bit n w) (one-off w d i)) ∙ differ-none (bit n w);
-  }
-    where
-      differ-none : (x : ℕ) → differ x 0 ≡ x
-      differ-none zero = refl
-      differ-none (suc x) = refl
-
 -- what is left of a set without the members of another
-pub bits-without : (n m y : ℕ) → bit (bitXor (bitOr n m) m) y ≡ bit n y - bit m y
+pub bits-without : (n m : ℕ) → Without n m (bitXor (bitOr n m) m)
 bits-without n m y =
     bit-xor (bitOr n m) m y ∙ ap (λ (x : ℕ). differ x (bit m y)) (bit-or n m y) ∙ go (bit n y) (bit m y) (bit-small n y) (bit-small m y)
   where
@@ -100,35 +90,43 @@ bits-without n m y =
     go (suc zero) (suc (suc z)) h k = absurd (omega arith)
     go (suc (suc x)) z h k = absurd (omega arith)
 
--- ── one who waits more ──
--- near, the sets of the queue being as they were
-pub put-near : (near near′ y b : ℕ) (q : List ℕ) → BitPut near y b near′ → BitSet (near ∷ q) 0 y b (near′ ∷ q)
-put-near near near′ y b q put = record { size = refl; here = put .here; others = go }
-  where
-    go : (x w : ℕ) → (0 ≢ x) ⊎ (y ≢ w) → waits (near′ ∷ q) x w ≡ waits (near ∷ q) x w
-    go (suc x) w n = refl
-    go zero w (inl n) = absurd (n refl)
-    go zero w (inr n) = put .others w n
-
--- far, those who wait near being as they were
-pub put-far : (near y b g v : ℕ) (q : List ℕ) → g < length q → BitPut (getD q g 0) y b v → BitSet (near ∷ q) (suc g) y b (near ∷ set q g v)
-put-far near y b g v q h put = record {
-  size = ap suc (length-set q g v);
-  here = ap (λ (n : ℕ). bit n y) (getD-set-same q g v 0 h) ∙ put .here;
-  others = go;
+-- a member less
+pub put-out : (n y one m : ℕ) → BitPut 0 y 1 one → Without n one m → BitPut n y 0 m
+put-out n y one m put w = record {
+  here = w y ∙ omega (arith, bit-small n y, put .here);
+  others = λ x d. w x ∙ omega (arith, put .others x d ∙ bit-zero x);
 }
+
+-- ── one who waits more or less ──
+-- in the first set of a list
+pub put-first : (n m y b : ℕ) (q : List ℕ) → BitPut n y b m → BitSet (n ∷ q) 0 y b (m ∷ q)
+put-first n m y b q put = record { size = refl; here = put .here; others = go }
   where
-    same : (x w : ℕ) → g ≢ x → waits (set q g v) x w ≡ waits q x w
-    same x w n = ap (λ (m : ℕ). bit m w) (getD-set-other q g x v 0 (λ e. n (sym e)))
+    go : (x w : ℕ) → (0 ≢ x) ⊎ (y ≢ w) → waits (m ∷ q) x w ≡ waits (n ∷ q) x w
+    go (suc x) w d = refl
+    go zero w (inl d) = absurd (d refl)
+    go zero w (inr d) = put .others w d
 
-    far : (x w : ℕ) → (suc g ≢ suc x) ⊎ (y ≢ w) → (g ≡ x) ⊎ (g ≢ x) → waits (set q g v) x w ≡ waits q x w
-    far x w n (inr d) = same x w d
-    far x w (inl d) (inl e) = absurd (d (ap suc e))
-    far x w (inr d) (inl e) = subst (λ (i : ℕ). waits (set q g v) i w ≡ waits q i w) e (ap (λ (m : ℕ). bit m w) (getD-set-same q g v 0 h) ∙ put .others w d)
+-- in a later one
+pub put-later : (n y b g : ℕ) (q q′ : List ℕ) → BitSet q g y b q′ → BitSet (n ∷ q) (suc g) y b (n ∷ q′)
+put-later n y b g q q′ put = record { size = ap suc (put .size); here = put .here; others = go }
+  where
+    past : (x : ℕ) {w : ℕ} → (suc g ≢ suc x) ⊎ (y ≢ w) → (g ≢ x) ⊎ (y ≢ w)
+    past x (inl d) = inl (λ e. d (ap suc e))
+    past x (inr d) = inr d
 
-    go : (x w : ℕ) → (suc g ≢ x) ⊎ (y ≢ w) → waits (near ∷ set q g v) x w ≡ waits (near ∷ q) x w
-    go zero w n = refl
-    go (suc x) w n = far x w n (eqOr g x)
+    go : (x w : ℕ) → (suc g ≢ x) ⊎ (y ≢ w) → waits (n ∷ q′) x w ≡ waits (n ∷ q) x w
+    go zero w d = refl
+    go (suc x) w d = put .others x w (past x d)
+
+-- in any
+pub put-at : (y b g v : ℕ) (q : List ℕ) → g < length q → BitPut (getD q g 0) y b v → BitSet q g y b (set q g v)
+put-at y b g v q h put = record { size = length-set q g v; here = ap (λ (n : ℕ). bit n y) (getD-set-same q g v 0 h) ∙ put .here; others = λ x w n. go x w n (eqOr g x) }
+  where
+    go : (x w : ℕ) → (g ≢ x) ⊎ (y ≢ w) → (g ≡ x) ⊎ (g ≢ x) → waits (set q g v) x w ≡ waits q x w
+    go x w n (inr d) = ap (λ (m : ℕ). bit m w) (getD-set-other q g x v 0 (λ e. d (sym e)))
+    go x w (inl d) (inl e) = absurd (d e)
+    go x w (inr d) (inl e) = subst (λ (i : ℕ). waits (set q g v) i w ≡ waits q i w) e (ap (λ (m : ℕ). bit m w) (getD-set-same q g v 0 h) ∙ put .others w d)
 
 -- one group more covers one who waits in it
 pub covered-join : (q : List ℕ) (g v far far′ : ℕ) → Covered q far → BitPut far g 1 far′ → Covered (set q g v) far′
@@ -147,10 +145,10 @@ covered-take q q′ g settled r far far′ c t put x w h = go (eqOr g x)
     go (inr n) = t .others x w n ∙ c x w (sym (put .others x n) ∙ h)
 
 -- all who wait in a group taken
-pub taken : (q : List ℕ) (g settled : ℕ) → g < length q → Taken q g settled (bitXor (bitOr (getD q g 0) settled) settled) (set q g 0)
-taken q g settled h = record {
+pub taken : (q : List ℕ) (g settled r : ℕ) → g < length q → Without (getD q g 0) settled r → Taken q g settled r (set q g 0)
+taken q g settled r h w = record {
   size = length-set q g 0;
-  each = bits-without (getD q g 0) settled;
+  each = w;
   none = λ y. ap (λ (m : ℕ). bit m y) (getD-set-same q g 0 0 h) ∙ bit-zero y;
   others = λ x y n. ap (λ (m : ℕ). bit m y) (getD-set-other q g x 0 0 (λ e. n (sym e)));
 }
@@ -207,6 +205,16 @@ lowest-of n some h = let few = trailing-few setBits n some h in record { small =
 pub some-member : (n y : ℕ) → bit n y ≡ 1 → n ≢ 0
 some-member n y h e = omega (arith, bit-zero y, sym h ∙ ap (λ (m : ℕ). bit m y) e)
 
+same-test : (m n : ℕ) → m ≡ n → eqb m n ≡ true
+same-test m n e = T-true (eqb m n) (eq→eqb e)
+
+other-test : (m n : ℕ) → m ≢ n → eqb m n ≡ false
+other-test m n d = go (either (eqb m n))
+  where
+    go : T (eqb m n) ⊎ T (not (eqb m n)) → eqb m n ≡ false
+    go (inl h) = absurd (d (eqb→eq m n h))
+    go (inr h) = unset (eqb m n) h
+
 -- ── how many are open ──
 -- how many of the first n numbers are not among those that f holds for
 unfoldable pub left : (ℕ → Bool) → ℕ → ℕ
@@ -222,27 +230,39 @@ left-few f (suc n) = go (f n) (left-few f n)
     go true h = omega arith
     go false h = omega arith
 
-pub left-same : (f g : ℕ → Bool) (n : ℕ) → ((y : ℕ) → f y ≡ g y) → left f n ≡ left g n
-left-same f g n e = ap (λ (h : ℕ → Bool). left h n) (λ i y. e y i)
+-- no more of them where g holds wherever f does
+left-most : (f g : ℕ → Bool) (n : ℕ) → ((y : ℕ) → T (f y) → T (g y)) → left g n ≤ left f n
+unfolding left
+left-most f g zero o = omega arith
+left-most f g (suc n) o = go (f n) (g n) (o n) (left-most f g n o)
+  where
+    go : (x y : Bool) → (T x → T y) → left g n ≤ left f n → cond y (left g n) (suc (left g n)) ≤ cond x (left f n) (suc (left f n))
+    go true true i h = h
+    go true false i h = absurd (i tt)
+    go false true i h = omega arith
+    go false false i h = omega arith
 
--- one of them more
-pub left-falls : (f g : ℕ → Bool) (n u : ℕ) → u < n → f u ≡ false → g u ≡ true → ((y : ℕ) → u ≢ y → g y ≡ f y) → left g n < left f n
+-- and fewer where it also holds for another
+pub left-falls : (f g : ℕ → Bool) (n u : ℕ) → u < n → T (not (f u)) → T (g u) → ((y : ℕ) → T (f y) → T (g y)) → left g n < left f n
 unfolding left
 left-falls f g zero u h a b o = absurd (omega arith)
 left-falls f g (suc n) u h a b o = go (eqOr u n) (left-falls f g n u)
   where
-    below : (m : ℕ) → m ≤ u → left g m ≡ left f m
-    below zero k = refl
-    below (suc m) k = ap (λ (x : Bool). cond x (left g m) (suc (left g m))) (o m (λ e. omega arith)) ∙ ap (λ (x : ℕ). cond (f m) x (suc x)) (below m (omega arith))
+    here : (x y : Bool) → T (not x) → T y → left g n ≤ left f n → cond y (left g n) (suc (left g n)) < cond x (left f n) (suc (left f n))
+    here false true a b k = omega arith
+    here true y a b k = absurd a
+    here false false a b k = absurd b
 
-    go : (u ≡ n) ⊎ (u ≢ n) → (u < n → f u ≡ false → g u ≡ true → ((y : ℕ) → u ≢ y → g y ≡ f y) → left g n < left f n)
+    both : (x y : Bool) → (T x → T y) → left g n < left f n → cond y (left g n) (suc (left g n)) < cond x (left f n) (suc (left f n))
+    both true true i k = k
+    both true false i k = absurd (i tt)
+    both false true i k = omega arith
+    both false false i k = omega arith
+
+    go : (u ≡ n) ⊎ (u ≢ n) → (u < n → T (not (f u)) → T (g u) → ((y : ℕ) → T (f y) → T (g y)) → left g n < left f n)
         → cond (g n) (left g n) (suc (left g n)) < cond (f n) (left f n) (suc (left f n))
-    go (inl e) more = rw (sym (ap g e) ∙ b, sym (ap f e) ∙ a) (omega (arith, below n (omega arith)))
-    go (inr d) more = rw (o n d) (both (f n) (more (omega (arith, d)) a b o))
-      where
-        both : (c : Bool) → left g n < left f n → cond c (left g n) (suc (left g n)) < cond c (left f n) (suc (left f n))
-        both true k = k
-        both false k = omega arith
+    go (inl e) more = here (f n) (g n) (subst (λ (i : ℕ). T (not (f i))) e a) (subst (λ (i : ℕ). T (g i)) e b) (left-most f g n o)
+    go (inr d) more = both (f n) (g n) (o n) (more (omega (arith, d)) a b o)
 
 -- how many are in a set
 abbrev pub members : ℕ → ℕ
@@ -251,18 +271,29 @@ members n = left (λ y. eqb (bit n y) 0) setBits
 pub members-few : (n : ℕ) → members n ≤ setBits
 members-few n = left-few (λ y. eqb (bit n y) 0) setBits
 
-pub members-fall : (n m y : ℕ) → y < setBits → bit n y ≡ 1 → BitPut n y 0 m → members m < members n
-members-fall n m y h w put =
-    left-falls (λ x. eqb (bit n x) 0) (λ x. eqb (bit m x) 0) setBits y h (ap (λ (x : ℕ). eqb x 0) w) (ap (λ (x : ℕ). eqb x 0) (put .here))
-    (λ x d. ap (λ (z : ℕ). eqb z 0) (put .others x d))
+-- fewer where one is missing and none is new
+pub members-fall : (n m y : ℕ) → y < setBits → bit n y ≡ 1 → bit m y ≡ 0 → ((x : ℕ) → bit n x ≡ 0 → bit m x ≡ 0) → members m < members n
+members-fall n m y h w out part =
+    left-falls (λ x. eqb (bit n x) 0) (λ x. eqb (bit m x) 0) setBits y h (subst (λ (b : Bool). T (not b)) (sym (other-test (bit n y) 0 (λ e. omega (arith, sym w ∙ e)))) tt) (eq→eqb out)
+    (λ x k. eq→eqb (part x (eqb→eq (bit n x) 0 k)))
 
--- the entry of a level: those who wait near, where its group is at hand, and its group's set else
-pub place-near : (at z : ℕ) → groupOf z ≡ groupOf at → placeOf at z ≡ 0
-place-near at z e = ap (λ (b : Bool). cond b 0 (suc (groupOf z))) (T-true (eqb (groupOf z) (groupOf at)) (eq→eqb e))
-
-pub place-far : (at z : ℕ) → groupOf z ≢ groupOf at → placeOf at z ≡ suc (groupOf z)
-place-far at z n = ap (λ (b : Bool). cond b 0 (suc (groupOf z))) (off (either (eqb (groupOf z) (groupOf at))))
+-- as where one member is taken out
+pub part-put : (n m y : ℕ) → BitPut n y 0 m → (x : ℕ) → bit n x ≡ 0 → bit m x ≡ 0
+part-put n m y put x e = go (eqOr y x)
   where
-    off : T (eqb (groupOf z) (groupOf at)) ⊎ T (not (eqb (groupOf z) (groupOf at))) → eqb (groupOf z) (groupOf at) ≡ false
-    off (inl h) = absurd (n (eqb→eq (groupOf z) (groupOf at) h))
-    off (inr h) = unset (eqb (groupOf z) (groupOf at)) h
+    go : (y ≡ x) ⊎ (y ≢ x) → bit m x ≡ 0
+    go (inl i) = ap (bit m) (sym i) ∙ put .here
+    go (inr d) = put .others x d ∙ e
+
+-- the entry of a level
+place-by : (a b : Bool) (g : ℕ) {x y : Bool} → x ≡ a → y ≡ b → cond x 0 (cond y 1 (suc (suc g))) ≡ cond a 0 (cond b 1 (suc (suc g)))
+place-by a b g e f i = cond (e i) 0 (cond (f i) 1 (suc (suc g)))
+
+pub place-here : (at z : ℕ) → z ≡ at → placeOf at z ≡ 0
+place-here at z e = place-by true true (groupOf z) (same-test z at e) (same-test (groupOf z) (groupOf at) (ap groupOf e))
+
+pub place-near : (at z : ℕ) → z ≢ at → groupOf z ≡ groupOf at → placeOf at z ≡ 1
+place-near at z d e = place-by false true (groupOf z) (other-test z at d) (same-test (groupOf z) (groupOf at) e)
+
+pub place-far : (at z : ℕ) → groupOf z ≢ groupOf at → placeOf at z ≡ suc (suc (groupOf z))
+place-far at z d = place-by false false (groupOf z) (other-test z at (λ e. d (ap groupOf e))) (other-test (groupOf z) (groupOf at) d)

@@ -1,5 +1,5 @@
--- The subjects that wait to be settled, by limit: a bucket queue. The levels, which are the limits, stand in groups of four, the highest group first. Those who wait in the group at hand wait near, in the bits of one
--- number; the others wait far: entry g of the queue is the set of those who wait in group g.
+-- The subjects that wait to be settled, by limit: a bucket queue. The levels, which are the limits, stand in groups of four, the highest group first. One level is at hand: those who wait at it wait here, the others who
+-- wait in its group wait near, each in the bits of one number, and all others wait far: entry g of the queue is the set of those who wait in group g.
 -- Assumes nothing.
 use mathlib.Core.Path.{_≡_}
 use mathlib.Core.Logic.{_≢_, _⊎_}
@@ -8,6 +8,7 @@ use mathlib.Core.List.{List}
 use Prim.Native.Nat.{ℕ, zero, suc, _*_, _-_, _/_, _%_, _<_}
 use lib.Dec.{eqb}
 use lib.ListN.{length, getD}
+use Rattle.queue.specs.declared.Sets.{Sets}
 
 -- the levels: the limits from 0 to 255
 abbrev pub levels : ℕ
@@ -30,6 +31,10 @@ bit n (suc y) = bit (n / 2) y
 pub record BitPut (n y b m : ℕ) : Type 0 where
   pub here : bit m y ≡ b
   pub others : (w : ℕ) → y ≢ w → bit m w ≡ bit n w
+
+-- m has the members of n that r does not have
+abbrev pub Without : ℕ → ℕ → ℕ → Type 0
+Without n r m = (y : ℕ) → bit m y ≡ bit n y - bit r y
 
 -- y is the lowest member of the set n
 pub record Lowest (n y : ℕ) : Type 0 where
@@ -55,9 +60,9 @@ groupOf z = (levels - 1 - z) / 4
 abbrev pub topOf : ℕ → ℕ
 topOf g = levels - 1 - 4 * g
 
--- the group of level `at` being at hand, the entry of level z in the list of those who wait near and then the queue
+-- level `at` being at hand, the entry of level z in the list of those who wait here, those who wait near and then the queue
 abbrev pub placeOf : ℕ → ℕ → ℕ
-placeOf at z = cond (eqb (groupOf z) (groupOf at)) 0 (suc (groupOf z))
+placeOf at z = cond (eqb z at) 0 (cond (eqb (groupOf z) (groupOf at)) 1 (suc (suc (groupOf z))))
 
 -- none waits in a group that is not among those of `far`
 abbrev pub Covered : List ℕ → ℕ → Type 0
@@ -73,9 +78,13 @@ pub record Empty (q : List ℕ) : Type 0 where
   pub size : length q ≡ groups
   pub none : (g y : ℕ) → waits q g y ≡ 0
 
+-- subject 0 alone waits, at the level at hand
+abbrev pub ownerHere : Sets
+ownerHere = record { here = 1; near = 0; far = 0 }
+
 -- all who wait in group g are taken from the queue q; r has those of them that are not settled
 pub record Taken (q : List ℕ) (g settled r : ℕ) (q′ : List ℕ) : Type 0 where
   pub size : length q′ ≡ length q
-  pub each : (y : ℕ) → bit r y ≡ waits q g y - bit settled y
+  pub each : Without (getD q g 0) settled r
   pub none : (y : ℕ) → waits q′ g y ≡ 0
   pub others : (x y : ℕ) → g ≢ x → waits q′ x y ≡ waits q x y

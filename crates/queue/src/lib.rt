@@ -3,9 +3,8 @@ ghost use mathlib.Core.Path.{_≡_};
 ghost use mathlib.Core.Logic.{_≢_};
 ghost use mathlib.Core.List.{_∷_};
 ghost use Prim.Native.Nat.{_<_};
-ghost use lib.IntN.{pos};
 ghost use lib.ListN.{length};
-ghost use Rattle.queue.specs.Queue.{levels, groups, setBits, bit, BitPut, Lowest, BitSet, groupOf, topOf, placeOf, Covered, IsQueue, Taken};
+ghost use Rattle.queue.specs.Queue.{levels, groups, setBits, BitPut, Without, Lowest, BitSet, groupOf, placeOf, Covered, IsQueue, Taken, ownerHere};
 
 // The levels: the limits from 0 to 255.
 const LEVELS: usize = 256;
@@ -15,8 +14,9 @@ const GROUP: usize = 4;
 
 pub const GROUPS: usize = LEVELS / GROUP;
 
-// The subjects that wait in the group at hand, and the groups of the queue in which others may wait.
+// The subjects that wait at the level at hand, the others that wait in its group, and the groups of the queue in which others may wait.
 pub struct Sets {
+    pub here: u64,
     pub near: u64,
     pub far: u64,
 }
@@ -29,12 +29,19 @@ pub fn with(set: u64, member: usize) -> u64
     set | (1u64 << member)
 }
 
-// A set without one of its members.
+// The members of a set that another does not have.
+pub fn minus(set: u64, other: u64) -> u64
+    ensures { λ r. ⌜ Without set other r ⌝ }
+{
+    (set | other) ^ other
+}
+
+// A set without this member.
 pub fn without(set: u64, member: usize) -> u64
-    requires { ⌜ (member < setBits) × (bit set member ≡ 1) ⌝ }
+    requires { ⌜ member < setBits ⌝ }
     ensures { λ r. ⌜ BitPut set member 0 r ⌝ }
 {
-    set ^ (1u64 << member)
+    minus(set, with(0, member))
 }
 
 // The lowest member of a set that has one.
@@ -45,6 +52,29 @@ pub fn lowest(set: u64) -> usize
     u64::trailing_zeros(set) as usize
 }
 
+// Subject 0 alone waits, here.
+pub fn first() -> Sets
+    ensures { λ r. ⌜ r ≡ ownerHere ⌝ }
+{
+    Sets {
+        here: 1,
+        near: 0,
+        far: 0,
+    }
+}
+
+// A subject waits no more, here or near.
+pub fn apart(sets: Sets, subject: usize) -> Sets
+    requires { ⌜ subject < setBits ⌝ }
+    ensures { λ r. ⌜ BitPut (sets .here) subject 0 (r .here) × BitPut (sets .near) subject 0 (r .near) × (r .far ≡ sets .far) ⌝ }
+{
+    Sets {
+        here: without(sets.here, subject),
+        near: without(sets.near, subject),
+        far: sets.far,
+    }
+}
+
 fn group_of(level: usize) -> usize
     requires { ⌜ level < levels ⌝ }
     ensures { λ r. ⌜ r ≡ groupOf level ⌝ }
@@ -52,28 +82,29 @@ fn group_of(level: usize) -> usize
     (LEVELS - 1 - level) / GROUP
 }
 
-// The highest level of a group.
-pub fn top(group: usize) -> i16
-    requires { ⌜ group < groups ⌝ }
-    ensures { λ r. ⌜ r ≡ pos (topOf group) ⌝ }
-{
-    (LEVELS - 1 - GROUP * group) as i16
-}
-
-// A subject waits at a level from now on: near where that is in the group at hand, which is the group of the level `at`.
+// A subject waits at a level from now on: here where that is the level at hand, `at`, near where it is in the same group.
 pub fn join(queue: &mut [u64], at: usize, level: usize, subject: usize, sets: Sets) -> Sets
     requires { ⌜ IsQueue (now queue) (sets .far) × (at < levels) × (level < levels) × (subject < setBits) ⌝ }
-    ensures { λ r. ⌜ BitSet (sets .near ∷ now (queue .entry)) (placeOf at level) subject 1 (r .near ∷ now (queue .exit)) × Covered (now (queue .exit)) (r .far) ⌝ }
+    ensures { λ r. ⌜ BitSet (sets .here ∷ sets .near ∷ now (queue .entry)) (placeOf at level) subject 1 (r .here ∷ r .near ∷ now (queue .exit)) × Covered (now (queue .exit)) (r .far) ⌝ }
 {
+    if level == at {
+        return Sets {
+            here: with(sets.here, subject),
+            near: sets.near,
+            far: sets.far,
+        };
+    }
     let group = group_of(level);
     if group == group_of(at) {
         return Sets {
+            here: sets.here,
             near: with(sets.near, subject),
             far: sets.far,
         };
     }
     queue[group] = with(queue[group], subject);
     Sets {
+        here: sets.here,
         near: sets.near,
         far: with(sets.far, group),
     }
@@ -86,5 +117,5 @@ pub fn take(queue: &mut [u64], group: usize, settled: u64) -> u64
 {
     let set = queue[group];
     queue[group] = 0;
-    (set | settled) ^ settled
+    minus(set, settled)
 }

@@ -27,16 +27,16 @@ use Rattle.rules.proofs.Signed.{kept, more, read-limit, live-natural}
 pub limit-level : (limit : ℤ) → SFits w16 limit → pos 0 ≼ limit → limit ≼ pos 255 → T (nonNeg (kept limit)) × (natAbs (kept limit) < levels)
 limit-level limit f live most = live-natural (kept limit) (subst (λ (z : ℤ). pos 0 ≼ z) (sym (toZ-ofZ f)) live) (subst (λ (z : ℤ). z ≼ pos 255) (sym (toZ-ofZ f)) most)
 
-module _ (t : List ℤ) (d : Delegation) (place : ℕ) (limit : ℤ) (marks : ℕ) (l : List ℤ) (p q : List ℕ) (near far need bar : ℕ) (m : Bool)
+module _ (t : List ℤ) (d : Delegation) (place : ℕ) (limit : ℤ) (marks : ℕ) (l : List ℤ) (p q : List ℕ) (here near far need bar : ℕ) (m : Bool)
     (en : need ≡ d .need) (eb : bar ≡ d .bar) (em : m ≡ meets marks need bar) (w : Waiting l q far) where
-  -- what the step makes of the limits, the parents, those who wait near and the queue
-  abbrev Made : List ℤ → List ℕ → ℕ → List ℕ → ℕ → Type 0
-  Made l′ p′ near′ q′ far′ = Stepped t limit marks d place l p (near ∷ q) l′ p′ (near′ ∷ q′) × Waiting l′ q′ far′
+  -- what the step makes of the limits, the parents, those who wait here and near, and the queue
+  abbrev Made : List ℤ → List ℕ → ℕ → ℕ → List ℕ → ℕ → Type 0
+  Made l′ p′ here′ near′ q′ far′ = Stepped t limit marks d place l p (here ∷ near ∷ q) l′ p′ (here′ ∷ near′ ∷ q′) × Waiting l′ q′ far′
 
   met : m ≡ meets marks (d .need) (d .bar)
   met = em ∙ (λ i. meets marks (en i) (eb i))
 
-  pub step-unmet : m ≡ false → Made l p near q far
+  pub step-unmet : m ≡ false → Made l p here near q far
   step-unmet f = (inl ((λ k. no f (subst T (sym met) (k .0))), refl, refl, refl), w)
 
   module _ (who weight : ℕ) (er : who ≡ d .receiver) (ew : weight ≡ d .weight) (given : ℤ) (f : SFits w16 limit) (h : who < length l) (b : mag (getD l who (pos 0)) < 32768)
@@ -47,7 +47,7 @@ module _ (t : List ℤ) (d : Delegation) (place : ℕ) (limit : ℤ) (marks : �
     test : ltZ (kept (getD l who (pos 0))) (kept given) ≡ ltZ (getD l (d .receiver) none) (next t limit (d .weight))
     test = (λ i. ltZ (read-limit l who h b i) (gives i)) ∙ ap (λ (x : ℕ). ltZ (getD l x none) (next t limit (d .weight))) er
 
-    pub step-not-raised : ltZ (kept (getD l who (pos 0))) (kept given) ≡ false → Made l p near q far
+    pub step-not-raised : ltZ (kept (getD l who (pos 0))) (kept given) ≡ false → Made l p here near q far
     step-not-raised k = (inl ((λ r. no k (subst T (sym test) (r .1))), refl, refl, refl), w)
 
     module _ (k : ltZ (kept (getD l who (pos 0))) (kept given) ≡ true) where
@@ -59,15 +59,15 @@ module _ (t : List ℤ) (d : Delegation) (place : ℕ) (limit : ℤ) (marks : �
       pub given-level : TableRule t → limit ≼ pos 255 → T (nonNeg (kept given)) × (natAbs (kept given) < levels)
       given-level rule small = live-natural (kept given) given-live (subst (λ (z : ℤ). z ≼ pos 255) (sym gives) (next-top t rule limit (d .weight) small))
 
-      pub step-raised : m ≡ true → (near′ : ℕ) (q′ : List ℕ) (far′ : ℕ) → BitSet (near ∷ q) (placeOf (natAbs (kept limit)) (natAbs (kept given))) who 1 (near′ ∷ q′) → Covered q′ far′
-          → Made (set l who (kept given)) (set p who place) near′ q′ far′
-      step-raised y near′ q′ far′ put covered = (
+      pub step-raised : m ≡ true → (here′ near′ : ℕ) (q′ : List ℕ) (far′ : ℕ) → BitSet (here ∷ near ∷ q) (placeOf (natAbs (kept limit)) (natAbs (kept given))) who 1 (here′ ∷ near′ ∷ q′) → Covered q′ far′
+          → Made (set l who (kept given)) (set p who place) here′ near′ q′ far′
+      step-raised y here′ near′ q′ far′ put covered = (
         inr (
           (subst T met (yes y), subst T test (yes k)),
           (λ i. set l (er i) (gives i)),
           (λ i. set p (er i) place),
-          (subst (λ (z : ℤ). BitSet (near ∷ q) (placeOf (natAbs z) (natAbs (next t limit (d .weight)))) (d .receiver) 1 (near′ ∷ q′)) (toZ-ofZ f) (subst (λ (z : ℤ). BitSet (near ∷ q) (placeOf (natAbs (kept limit)) (natAbs z)) (d .receiver) 1 (near′ ∷ q′)) gives
-              (subst (λ (x : ℕ). BitSet (near ∷ q) (placeOf (natAbs (kept limit)) (natAbs (kept given))) x 1 (near′ ∷ q′)) er put))),
+          (subst (λ (z : ℤ). BitSet (here ∷ near ∷ q) (placeOf (natAbs z) (natAbs (next t limit (d .weight)))) (d .receiver) 1 (here′ ∷ near′ ∷ q′)) (toZ-ofZ f) (subst (λ (z : ℤ). BitSet (here ∷ near ∷ q) (placeOf (natAbs (kept limit)) (natAbs z)) (d .receiver) 1 (here′ ∷ near′ ∷ q′)) gives
+              (subst (λ (x : ℕ). BitSet (here ∷ near ∷ q) (placeOf (natAbs (kept limit)) (natAbs (kept given))) x 1 (here′ ∷ near′ ∷ q′)) er put))),
         ),
         record { queue = record { size = omega (arith, put .size, w .queue .size); covered = covered }; limits = λ y. go y (eqOr who y) },
       )

@@ -1,4 +1,4 @@
--- What each part of a search does to the limits `l`, to the places `p` of the parents' records and to the subjects to be settled: `q` has those who wait near, and then the sets of the queue. Assumes nothing.
+-- What each part of a search does to the limits `l`, to the places `p` of the parents' records and to the subjects to be settled: `q` has those who wait here, those who wait near, and then the sets of the queue. Assumes nothing.
 use mathlib.Core.Path.{_≡_}
 use mathlib.Core.Logic.{_⊎_}
 use mathlib.Core.List.{List}
@@ -19,7 +19,7 @@ use Rattle.runs.specs.Lent.{recordCount, recordAt, Lent, SubjectLists}
 abbrev pub Raises : List ℤ → ℤ → ℕ → List ℤ → Delegation → Type 0
 Raises t limit marks l d = T (meets marks (d .need) (d .bar)) × T (ltZ (getD l (d .receiver) none) (next t limit (d .weight)))
 
--- d, whose record is at this place, raises its receiver, which then waits at its new limit with d as its parent, the group of the giver's limit being at hand; or nothing changes
+-- d, whose record is at this place, raises its receiver, which then waits at its new limit with d as its parent, the giver's limit being the level at hand; or nothing changes
 abbrev pub Stepped : List ℤ → ℤ → ℕ → Delegation → ℕ → List ℤ → List ℕ → List ℕ → List ℤ → List ℕ → List ℕ → Type 0
 Stepped t limit marks d place l p q l′ p′ q′ =
     ((Raises t limit marks l d → ⊥) × (l′ ≡ l) × (p′ ≡ p) × (q′ ≡ q))

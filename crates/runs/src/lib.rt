@@ -29,7 +29,7 @@ fn relax_at(
     sets: queue::Sets,
 ) -> queue::Sets
     requires { ⌜ TableRule (now table) × RecordLent (now run) at place × Ready limit (now limits) (now parents) (now waiting) (sets .far) ⌝ }
-    ensures { λ r. ⌜ Stepped (now (table .entry)) limit marks (delegationIn (drop at (now (run .entry)))) place (now (limits .entry)) (now (parents .entry)) (sets .near ∷ now (waiting .entry)) (now (limits .exit)) (now (parents .exit)) (r .near ∷ now (waiting .exit)) × Waiting (now (limits .exit)) (now (waiting .exit)) (r .far) ⌝ }
+    ensures { λ r. ⌜ Stepped (now (table .entry)) limit marks (delegationIn (drop at (now (run .entry)))) place (now (limits .entry)) (now (parents .entry)) (sets .here ∷ sets .near ∷ now (waiting .entry)) (now (limits .exit)) (now (parents .exit)) (r .here ∷ r .near ∷ now (waiting .exit)) × Waiting (now (limits .exit)) (now (waiting .exit)) (r .far) ⌝ }
 {
     let need = block::read_two(run, at + layout::NEED);
     let bar = block::read_two(run, at + layout::BAR);
@@ -58,7 +58,7 @@ fn relax_run(
     sets: queue::Sets,
 ) -> queue::Sets
     requires { ⌜ TableRule (now table) × RunLent (now run) first × Ready limit (now limits) (now parents) (now waiting) (sets .far) ⌝ }
-    ensures { λ r. ⌜ SteppedTo (now (table .entry)) limit marks (now (run .entry)) first (now (limits .entry)) (now (parents .entry)) (sets .near ∷ now (waiting .entry)) (recordCount (now (run .entry))) (now (limits .exit)) (now (parents .exit)) (r .near ∷ now (waiting .exit)) × Waiting (now (limits .exit)) (now (waiting .exit)) (r .far) ⌝ }
+    ensures { λ r. ⌜ SteppedTo (now (table .entry)) limit marks (now (run .entry)) first (now (limits .entry)) (now (parents .entry)) (sets .here ∷ sets .near ∷ now (waiting .entry)) (recordCount (now (run .entry))) (now (limits .exit)) (now (parents .exit)) (r .here ∷ r .near ∷ now (waiting .exit)) × Waiting (now (limits .exit)) (now (waiting .exit)) (r .far) ⌝ }
 {
     let n = run.len() / layout::RECORD_SIZE;
     let mut left = sets;
@@ -142,7 +142,7 @@ pub fn relax_giver(
     sets: queue::Sets,
 ) -> queue::Sets
     requires { ⌜ Indexed (now table) (now records) (now starts) × (giver < mostSubjects) × Ready (getD (now limits) giver none) (now limits) (now parents) (now waiting) (sets .far) ⌝ }
-    ensures { λ r. ⌜ Gave (now (table .entry)) (now (records .entry)) marks giver (now (limits .entry)) (now (parents .entry)) (sets .near ∷ now (waiting .entry)) (now (limits .exit)) (now (parents .exit)) (r .near ∷ now (waiting .exit)) × Waiting (now (limits .exit)) (now (waiting .exit)) (r .far) ⌝ }
+    ensures { λ r. ⌜ Gave (now (table .entry)) (now (records .entry)) marks giver (now (limits .entry)) (now (parents .entry)) (sets .here ∷ sets .near ∷ now (waiting .entry)) (now (limits .exit)) (now (parents .exit)) (r .here ∷ r .near ∷ now (waiting .exit)) × Waiting (now (limits .exit)) (now (waiting .exit)) (r .far) ⌝ }
 {
     let a = starts[giver] as usize;
     let e = starts[giver + 1] as usize;

@@ -1,96 +1,147 @@
 -- The choice of the heaviest of a set, member by member. Assumes nothing.
-use mathlib.Core.Path.{_≡_, sym, ap, subst, _∙_}
+use mathlib.Core.Path.{_≡_, refl, sym, ap, subst, _∙_}
 use mathlib.Core.Logic.{_≢_, _⊎_, inl, inr}
 use mathlib.Core.Bool.{true, false}
 use mathlib.Core.List.{List}
-use Prim.Native.Nat.{ℕ, _<_, zero-le}
-use native.Mathlib.Nat.{le-refl}
+use Prim.Native.Nat.{ℕ, _<_}
 use native.Mathlib.Omega.{arith}
 use lib.ListN.{length, getD}
-use lib.Dec.{T, leb→le}
-use lib.IntN.{ℤ, pos, negsuc}
-use lib.Signed.{ltZ, leZ, mag}
+use lib.IntN.{ℤ, pos, natAbs}
+use lib.Signed.{ltZ, mag}
 use mir.Syntax.{w16}
-use mir.Val.{SFits}
-use mir.Facts.{toZ-ofZ}
+use mir.Val.{ofZ, toZ}
 use Rattle.rules.specs.Limit.{none, code, _≼_}
 use Rattle.rules.proofs.Lists.{yes, no, eqOr}
-use Rattle.rules.proofs.Signed.{kept, read-limit, more, not-more}
+use Rattle.rules.proofs.Signed.{kept, getD-within, read-limit, more, not-more, code-live, code-pos}
 use Rattle.block.specs.Layout.{mostSubjects}
 use Rattle.queue.specs.Queue.{bit, BitPut, Lowest}
 use Rattle.queue.proofs.Buckets.{bit-zero}
-use Rattle.search.specs.Search.{Choice, Heaviest}
-
--- a limit that the code finds no smaller than another
-no-smaller : (y z : ℤ) → T (leZ y z) → y ≼ z
-no-smaller (pos k) (pos m) h = omega (arith, leb→le k m h)
-no-smaller (pos k) (negsuc m) h = absurd h
-no-smaller (negsuc k) z h = zero-le
-
-pub no-smaller-read : (l : List ℤ) (i : ℕ) (most : ℤ) → i < length l → mag (getD l i (pos 0)) < 32768 → SFits w16 most → leZ (kept most) (kept (getD l i (pos 0))) ≡ true → most ≼ getD l i none
-no-smaller-read l i most h f fits e = no-smaller most (getD l i none) (yes (sym (λ n. leZ (toZ-ofZ fits n) (read-limit l i h f n)) ∙ e))
+use Rattle.search.specs.Search.{Heaviest}
 
 -- two limits that the code reads and compares
-module _ (l : List ℤ) (i j : ℕ) (h : i < length l) (k : j < length l) (f : mag (getD l i (pos 0)) < 32768) (g : mag (getD l j (pos 0)) < 32768) where
-  test : ltZ (kept (getD l i (pos 0))) (kept (getD l j (pos 0))) ≡ ltZ (getD l i none) (getD l j none)
-  test n = ltZ (read-limit l i h f n) (read-limit l j k g n)
+module _ (l : List ℤ) (i j : ℕ) (h : i < length l) (k : j < length l) where
+  -- they are the same limit where the code finds them equal
+  pub same-read : mag (getD l i (pos 0)) < 32768 → mag (getD l j (pos 0)) < 32768 → ofZ w16 (getD l i (pos 0)) ≡ ofZ w16 (getD l j (pos 0)) → getD l i none ≡ getD l j none
+  same-read f g e = sym (read-limit l i h f) ∙ ap (toZ w16) e ∙ read-limit l j k g
 
-  pub less-read : pos 0 ≼ getD l i none → ltZ (kept (getD l i (pos 0))) (kept (getD l j (pos 0))) ≡ true → getD l i none ≼ getD l j none
-  less-read live e = omega (arith, more (getD l i none) (getD l j none) (inr live) (yes (sym test ∙ e)))
+  module _ (f : mag (getD l i (pos 0)) < 32768) (g : mag (getD l j (pos 0)) < 32768) where
+    test : ltZ (kept (getD l i (pos 0))) (kept (getD l j (pos 0))) ≡ ltZ (getD l i none) (getD l j none)
+    test n = ltZ (read-limit l i h f n) (read-limit l j k g n)
 
-  pub not-less-read : ltZ (kept (getD l i (pos 0))) (kept (getD l j (pos 0))) ≡ false → getD l j none ≼ getD l i none
-  not-less-read e = not-more (getD l i none) (getD l j none) (no (sym test ∙ e))
+    pub less-read : pos 0 ≼ getD l i none → ltZ (kept (getD l i (pos 0))) (kept (getD l j (pos 0))) ≡ true → code (getD l i none) < code (getD l j none)
+    less-read live e = more (getD l i none) (getD l j none) (inr live) (yes (sym test ∙ e))
 
--- `best` is one of the set, and none of them has a larger limit but those of `rest`
-pub record Chosen (l : List ℤ) (set best rest : ℕ) : Type 0 where
-  pub small : best < mostSubjects
-  pub member : bit set best ≡ 1
+    -- neither smaller nor equal
+    pub more-read : pos 0 ≼ getD l i none → pos 0 ≼ getD l j none → ltZ (kept (getD l i (pos 0))) (kept (getD l j (pos 0))) ≡ false → ofZ w16 (getD l i (pos 0)) ≢ ofZ w16 (getD l j (pos 0)) → code (getD l j none) < code (getD l i none)
+    more-read live live′ e d = omega (arith, not-more (getD l i none) (getD l j none) (no (sym test ∙ e)), differ)
+      where
+        same : code (getD l i none) ≡ code (getD l j none) → getD l i none ≡ getD l j none
+        same e = code-pos (getD l i none) (natAbs (getD l j none)) (e ∙ code-live (getD l j none) live′) ∙ sym (code-pos (getD l j none) (natAbs (getD l j none)) (code-live (getD l j none) live′))
+
+        differ : code (getD l i none) ≢ code (getD l j none)
+        differ e = d (ap (ofZ w16) (getD-within l i (pos 0) none h ∙ same e ∙ getD-within l j none (pos 0) k))
+
+-- `best` has those of the set whose limit is the largest, that of `first`, but perhaps some of `rest`
+pub record Chosen (l : List ℤ) (set first best rest : ℕ) : Type 0 where
+  pub small : first < mostSubjects
+  pub member : bit best first ≡ 1
+  pub each : (y : ℕ) → bit best y ≡ 1 → (bit set y ≡ 1) × (getD l y none ≡ getD l first none)
   pub among : (y : ℕ) → bit rest y ≡ 1 → bit set y ≡ 1
-  pub past : (y : ℕ) → bit set y ≡ 1 → (bit rest y ≡ 1) ⊎ (getD l y none ≼ getD l best none)
+  pub past : (y : ℕ) → bit set y ≡ 1 → (bit rest y ≡ 1) ⊎ ((bit best y ≡ 1) ⊎ (code (getD l y none) < code (getD l first none)))
+
+-- a set with one member
+only : (y one : ℕ) → BitPut 0 y 1 one → (x : ℕ) → bit one x ≡ 1 → x ≡ y
+only y one put x w = go (eqOr y x)
+  where
+    go : (y ≡ x) ⊎ (y ≢ x) → x ≡ y
+    go (inl e) = sym e
+    go (inr d) = absurd (omega (arith, sym (put .others x d ∙ bit-zero x) ∙ w))
+
+-- one of those left is looked at: it is that one, or it is still left
+looked : (rest rest′ other : ℕ) → BitPut rest other 0 rest′ → (y : ℕ) → bit rest y ≡ 1 → (y ≡ other) ⊎ (bit rest′ y ≡ 1)
+looked rest rest′ other out y w = go (eqOr other y)
+  where
+    go : (other ≡ y) ⊎ (other ≢ y) → (y ≡ other) ⊎ (bit rest′ y ≡ 1)
+    go (inl e) = inl (sym e)
+    go (inr d) = inr (out .others y d ∙ w)
+
+left-over : (rest rest′ other : ℕ) → BitPut rest other 0 rest′ → (y : ℕ) → bit rest′ y ≡ 1 → bit rest y ≡ 1
+left-over rest rest′ other out y w = go (eqOr other y)
+  where
+    go : (other ≡ y) ⊎ (other ≢ y) → bit rest y ≡ 1
+    go (inl e) = absurd (omega (arith, sym (out .here) ∙ ap (bit rest′) e ∙ w))
+    go (inr d) = sym (out .others y d) ∙ w
 
 module _ (l : List ℤ) (set : ℕ) where
-  pub chosen-first : (best rest : ℕ) → Lowest set best → BitPut set best 0 rest → Chosen l set best rest
-  chosen-first best rest low out = record { small = low .small; member = low .member; among = λ y w. kept y w (eqOr best y); past = λ y w. left y w (eqOr best y) }
+  pub chosen-first : (first best rest : ℕ) → Lowest set first → BitPut 0 first 1 best → BitPut set first 0 rest → Chosen l set first best rest
+  chosen-first first best rest low one out = record {
+    small = low .small;
+    member = one .here;
+    each = λ y w. let e = only first best one y w in (ap (bit set) e ∙ low .member, ap (λ (x : ℕ). getD l x none) e);
+    among = left-over set rest first out;
+    past = λ y w. go y (looked set rest first out y w);
+  }
     where
-      kept : (y : ℕ) → bit rest y ≡ 1 → (best ≡ y) ⊎ (best ≢ y) → bit set y ≡ 1
-      kept y w (inl e) = ap (bit set) (sym e) ∙ low .member
-      kept y w (inr n) = sym (out .others y n) ∙ w
+      go : (y : ℕ) → (y ≡ first) ⊎ (bit rest y ≡ 1) → (bit rest y ≡ 1) ⊎ ((bit best y ≡ 1) ⊎ (code (getD l y none) < code (getD l first none)))
+      go y (inl e) = inr (inl (ap (bit best) e ∙ one .here))
+      go y (inr w) = inl w
 
-      left : (y : ℕ) → bit set y ≡ 1 → (best ≡ y) ⊎ (best ≢ y) → (bit rest y ≡ 1) ⊎ (getD l y none ≼ getD l best none)
-      left y w (inl e) = inr (subst (λ (i : ℕ). getD l i none ≼ getD l best none) e (le-refl (code (getD l best none))))
-      left y w (inr n) = inl (out .others y n ∙ w)
-
-  module _ (best rest : ℕ) (chosen : Chosen l set best rest) where
-    -- no other is left
+  module _ (first best rest : ℕ) (chosen : Chosen l set first best rest) where
     pub chosen-last : rest ≡ 0 → Heaviest l set best
-    chosen-last e = record { small = chosen .small; member = chosen .member; most = λ y w. go y (chosen .past y w) }
+    chosen-last e = record { first = first; small = chosen .small; member = chosen .member; each = chosen .each; rest = λ y w. go y (chosen .past y w) }
       where
-        go : (y : ℕ) → (bit rest y ≡ 1) ⊎ (getD l y none ≼ getD l best none) → getD l y none ≼ getD l best none
-        go y (inl w) = absurd (omega (arith, ap (λ (n : ℕ). bit n y) e ∙ bit-zero y, w))
+        go : (y : ℕ) → (bit rest y ≡ 1) ⊎ ((bit best y ≡ 1) ⊎ (code (getD l y none) < code (getD l first none))) → (bit best y ≡ 1) ⊎ (code (getD l y none) < code (getD l first none))
+        go y (inl w) = absurd (omega (arith, sym (ap (λ (n : ℕ). bit n y) e ∙ bit-zero y) ∙ w))
         go y (inr h) = h
 
-    -- none can be above it
-    pub chosen-most : (most : ℤ) → Choice l set most → most ≼ getD l best none → Heaviest l set best
-    chosen-most most c h = record { small = chosen .small; member = chosen .member; most = λ y w. omega (arith, c .within y w, h) }
+    module _ (other rest′ : ℕ) (low : Lowest rest other) (out : BitPut rest other 0 rest′) where
+      abbrev in-set : bit set other ≡ 1
+      in-set = chosen .among other (low .member)
 
-    -- one more of the others is looked at, and the heavier of the two kept
-    pub chosen-more : (other rest′ next : ℕ) → Lowest rest other → BitPut rest other 0 rest′ → (next ≡ best) ⊎ (next ≡ other) → getD l best none ≼ getD l next none → getD l other none ≼ getD l next none → Chosen l set next rest′
-    chosen-more other rest′ next low out which a b =
-        record { small = small which; member = member which; among = λ y w. chosen .among y (kept y w (eqOr other y)); past = λ y w. left y (chosen .past y w) (eqOr other y) }
-      where
-        small : (next ≡ best) ⊎ (next ≡ other) → next < mostSubjects
-        small (inl e) = omega (arith, e, chosen .small)
-        small (inr e) = omega (arith, e, low .small)
+      among : (y : ℕ) → bit rest′ y ≡ 1 → bit set y ≡ 1
+      among y w = chosen .among y (left-over rest rest′ other out y w)
 
-        member : (next ≡ best) ⊎ (next ≡ other) → bit set next ≡ 1
-        member (inl e) = ap (bit set) e ∙ chosen .member
-        member (inr e) = ap (bit set) e ∙ chosen .among other (low .member)
+      -- those past, once the other is looked at
+      past-by : {A : ℕ → Type 0} → A other → ((y : ℕ) → bit best y ≡ 1 → A y) → ((y : ℕ) → code (getD l y none) < code (getD l first none) → A y) → (y : ℕ) → bit set y ≡ 1 → (bit rest′ y ≡ 1) ⊎ A y
+      past-by {A} a b c y w = go (chosen .past y w)
+        where
+          left : (y ≡ other) ⊎ (bit rest′ y ≡ 1) → (bit rest′ y ≡ 1) ⊎ A y
+          left (inl e) = inr (subst A (sym e) a)
+          left (inr v) = inl v
 
-        kept : (y : ℕ) → bit rest′ y ≡ 1 → (other ≡ y) ⊎ (other ≢ y) → bit rest y ≡ 1
-        kept y w (inl e) = ap (bit rest) (sym e) ∙ low .member
-        kept y w (inr n) = sym (out .others y n) ∙ w
+          go : (bit rest y ≡ 1) ⊎ ((bit best y ≡ 1) ⊎ (code (getD l y none) < code (getD l first none))) → (bit rest′ y ≡ 1) ⊎ A y
+          go (inl v) = left (looked rest rest′ other out y v)
+          go (inr (inl v)) = inr (b y v)
+          go (inr (inr v)) = inr (c y v)
 
-        left : (y : ℕ) → (bit rest y ≡ 1) ⊎ (getD l y none ≼ getD l best none) → (other ≡ y) ⊎ (other ≢ y) → (bit rest′ y ≡ 1) ⊎ (getD l y none ≼ getD l next none)
-        left y (inr h) e = inr (omega (arith, h, a))
-        left y (inl w) (inl e) = inr (subst (λ (i : ℕ). getD l i none ≼ getD l next none) e b)
-        left y (inl w) (inr n) = inl (out .others y n ∙ w)
+      pub chosen-heavier : (one : ℕ) → code (getD l first none) < code (getD l other none) → BitPut 0 other 1 one → Chosen l set other one rest′
+      chosen-heavier one h put = record {
+        small = low .small;
+        member = put .here;
+        each = λ y w. let e = only other one put y w in (ap (bit set) e ∙ in-set, ap (λ (x : ℕ). getD l x none) e);
+        among = among;
+        past = past-by (inl (put .here)) (λ y w. inr (omega (arith, ap code (chosen .each y w .1), h))) (λ y k. inr (omega (arith, k, h)));
+      }
+
+      pub chosen-equal : (more : ℕ) → getD l first none ≡ getD l other none → BitPut best other 1 more → Chosen l set first more rest′
+      chosen-equal more e put = record {
+        small = chosen .small;
+        member = kept-member first (chosen .member);
+        each = λ y w. each y w (eqOr other y);
+        among = among;
+        past = past-by (inl (put .here)) (λ y w. inl (kept-member y w)) (λ y k. inr k);
+      }
+        where
+          kept-member : (y : ℕ) → bit best y ≡ 1 → bit more y ≡ 1
+          kept-member y w = go (eqOr other y)
+            where
+              go : (other ≡ y) ⊎ (other ≢ y) → bit more y ≡ 1
+              go (inl i) = ap (bit more) (sym i) ∙ put .here
+              go (inr d) = put .others y d ∙ w
+
+          each : (y : ℕ) → bit more y ≡ 1 → (other ≡ y) ⊎ (other ≢ y) → (bit set y ≡ 1) × (getD l y none ≡ getD l first none)
+          each y w (inl i) = (ap (bit set) (sym i) ∙ in-set, ap (λ (x : ℕ). getD l x none) (sym i) ∙ sym e)
+          each y w (inr d) = chosen .each y (sym (put .others y d) ∙ w)
+
+      pub chosen-lighter : code (getD l other none) < code (getD l first none) → Chosen l set first best rest′
+      chosen-lighter h = record { small = chosen .small; member = chosen .member; each = chosen .each; among = among; past = past-by (inr h) (λ y w. inl w) (λ y k. inr k) }

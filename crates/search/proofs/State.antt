@@ -1,4 +1,4 @@
--- The state of a search over limits, places of parents and those who wait, near and then in the queue, and the steps that keep it: the invariant of the rules' search, with the sizes of the lists. Assumes nothing.
+-- The state of a search over limits, places of parents and those who wait, here, near and then in the queue, and the steps that keep it: the invariant of the rules' search, with the sizes of the lists. Assumes nothing.
 use mathlib.Core.Path.{_≡_, refl, sym, ap, subst, _∙_}
 use mathlib.Core.Logic.{_≢_, _⊎_, inl, inr}
 use mathlib.Core.Bool.{Bool, not}
@@ -24,7 +24,7 @@ use Rattle.block.specs.Layout.{mostSubjects, recordSize}
 use Rattle.search.specs.Search.{underMarks, parentIn}
 use Rattle.runs.specs.Steps.{Stepped, SteppedTo, stepped-none, stepped-more, part}
 use Rattle.queue.specs.Queue.{bit, waits, BitSet, groupOf, topOf, placeOf}
-use Rattle.queue.proofs.Buckets.{place-near, place-far}
+use Rattle.queue.proofs.Buckets.{place-here, place-near, place-far}
 use Rattle.runs.specs.Lent.{recordCount, recordAt, delegationsIn}
 use Rattle.search.specs.Found.{ParentsAmong}
 use Rattle.runs.proofs.Records.{delegation-at, record-part}
@@ -43,15 +43,37 @@ pub record InGroup (at : ℕ) (limit : ℤ) : Type 0 where
   pub has : code limit ≡ suc level
   pub same : groupOf level ≡ groupOf at
 
--- the group of level `at` being at hand: no open subject has a limit above `at`, each that has one waits in the entry of its limit, those who wait near are open and have limits in this group, and whoever is in the
--- set of a group has no limit below that group
+-- level `at` being at hand, where a subject waits whose limit is z: here or near where z is in the group of `at`, else in the set of its group
+pub data Waits (at : ℕ) (q : List ℕ) (u z : ℕ) : Type 0 where
+  waits-here : groupOf z ≡ groupOf at → waits q 0 u ≡ 1 → Waits at q u z
+  waits-near : groupOf z ≡ groupOf at → waits q 1 u ≡ 1 → Waits at q u z
+  waits-far : groupOf z ≢ groupOf at → waits q (suc (suc (groupOf z))) u ≡ 1 → Waits at q u z
+
+-- it still does where the sets have it as before
+pub waits-same : (at : ℕ) (q q′ : List ℕ) (u z : ℕ) → ((x : ℕ) → waits q′ x u ≡ waits q x u) → Waits at q u z → Waits at q′ u z
+waits-same at q q′ u z e (waits-here g w) = waits-here g (e 0 ∙ w)
+waits-same at q q′ u z e (waits-near g w) = waits-near g (e 1 ∙ w)
+waits-same at q q′ u z e (waits-far g w) = waits-far g (e (suc (suc (groupOf z))) ∙ w)
+
+-- it waits in the entry of its limit
+pub waits-placed : (at : ℕ) (q : List ℕ) (u z : ℕ) → waits q (placeOf at z) u ≡ 1 → Waits at q u z
+waits-placed at q u z w = go (eqOr z at) (eqOr (groupOf z) (groupOf at))
+  where
+    go : (z ≡ at) ⊎ (z ≢ at) → (groupOf z ≡ groupOf at) ⊎ (groupOf z ≢ groupOf at) → Waits at q u z
+    go (inl e) g = waits-here (ap groupOf e) (subst (λ (x : ℕ). waits q x u ≡ 1) (place-here at z e) w)
+    go (inr e) (inl g) = waits-near g (subst (λ (x : ℕ). waits q x u ≡ 1) (place-near at z e g) w)
+    go (inr e) (inr g) = waits-far g (subst (λ (x : ℕ). waits q x u ≡ 1) (place-far at z g) w)
+
+-- level `at` being at hand: no open subject has a limit above it, each that has one waits, those who wait here are open and have this limit, those who wait near are open and have limits in
+-- the group of `at`, and whoever is in the set of a group has no limit below that group
 pub record State (t : List ℤ) (s : List ℕ) (marks : ℕ) (settled : ℕ → Bool) (at : ℕ) (l : List ℤ) (p q : List ℕ) (pending : List Delegation) : Type 0 where
   pub limits : length l ≡ mostSubjects
   pub parents : length p ≡ mostSubjects
   pub most : (u : ℕ) → T (not (settled u)) → code (limitOf l u) ≤ suc at
-  pub waiting : (u z : ℕ) → T (not (settled u)) → code (limitOf l u) ≡ suc z → waits q (placeOf at z) u ≡ 1
-  pub near : (u : ℕ) → waits q 0 u ≡ 1 → T (not (settled u)) × InGroup at (limitOf l u)
-  pub far : (g u : ℕ) → waits q (suc g) u ≡ 1 → topOf g ≤ code (limitOf l u) + 2
+  pub waiting : (u z : ℕ) → T (not (settled u)) → code (limitOf l u) ≡ suc z → Waits at q u z
+  pub here : (u : ℕ) → waits q 0 u ≡ 1 → T (not (settled u)) × (code (limitOf l u) ≡ suc at)
+  pub near : (u : ℕ) → waits q 1 u ≡ 1 → T (not (settled u)) × InGroup at (limitOf l u)
+  pub far : (g u : ℕ) → waits q (suc (suc g)) u ≡ 1 → topOf g ≤ code (limitOf l u) + 2
   pub among : 0 < recordCount s → ParentsAmong p (recordCount s)
   pub search : Search t (underMarks (delegationsIn s) marks) 0 (limitOf l) settled (parentIn (delegationsIn s) p) pending
 
@@ -94,6 +116,7 @@ module _ (t : List ℤ) (rule : TableRule t) (s : List ℕ) (marks : ℕ) (settl
           parents = now .0 .parents;
           most = now .0 .most;
           waiting = now .0 .waiting;
+          here = now .0 .here;
           near = now .0 .near;
           far = now .0 .far;
           among = now .0 .among;
@@ -143,35 +166,55 @@ module _ (t : List ℤ) (rule : TableRule t) (s : List ℕ) (marks : ℕ) (settl
         most y o (inr n) = omega (arith, ap code (off y n), now .0 .most y o)
 
         module _ (q′ : List ℕ) (put : BitSet q (placeOf at level) (d .receiver) 1 q′) where
-          waiting : (y z : ℕ) → T (not (settled y)) → code (limitOf l′ y) ≡ suc z → (d .receiver ≡ y) ⊎ (d .receiver ≢ y) → waits q′ (placeOf at z) y ≡ 1
-          waiting y z o e (inr n) = put .others (placeOf at z) y (inr n) ∙ now .0 .waiting y z o (ap code (sym (off y n)) ∙ e)
+          waiting : (y z : ℕ) → T (not (settled y)) → code (limitOf l′ y) ≡ suc z → (d .receiver ≡ y) ⊎ (d .receiver ≢ y) → Waits at q′ y z
+          waiting y z o e (inr n) = waits-same at q q′ y z (λ x. put .others x y (inr n)) (now .0 .waiting y z o (ap code (sym (off y n)) ∙ e))
           waiting y z o e (inl i) =
               let here : level ≡ z = omega (arith, at-level, ap code raised-to, ap code (ap (limitOf l′) i)) in
-              subst (λ (x : ℕ). waits q′ (placeOf at x) y ≡ 1) here (subst (λ (x : ℕ). waits q′ (placeOf at level) x ≡ 1) i (put .here))
+              waits-placed at q′ y z (subst (λ (x : ℕ). waits q′ (placeOf at x) y ≡ 1) here (subst (λ (x : ℕ). waits q′ (placeOf at level) x ≡ 1) i (put .here)))
 
-          -- the receiver waits near only if its new limit is in the group at hand
-          near-group : waits q′ 0 (d .receiver) ≡ 1 → (groupOf level ≡ groupOf at) ⊎ (groupOf level ≢ groupOf at) → groupOf level ≡ groupOf at
+          -- the receiver waits here only if its new limit is the level at hand
+          at-hand : waits q′ 0 (d .receiver) ≡ 1 → (level ≡ at) ⊎ (level ≢ at) → level ≡ at
+          at-hand w (inl e) = e
+          at-hand w (inr n) = absurd (omega (arith, now .0 .here (d .receiver) (sym (put .others 0 (d .receiver) (inl (λ e. elsewhere n e))) ∙ w) .1, f, below))
+            where
+              elsewhere : level ≢ at → placeOf at level ≡ 0 → ⊥
+              elsewhere n e = go (eqOr (groupOf level) (groupOf at))
+                where
+                  go : (groupOf level ≡ groupOf at) ⊎ (groupOf level ≢ groupOf at) → ⊥
+                  go (inl g) = omega (arith, sym (place-near at level n g) ∙ e)
+                  go (inr g) = omega (arith, sym (place-far at level g) ∙ e)
+
+          here : (y : ℕ) → waits q′ 0 y ≡ 1 → (d .receiver ≡ y) ⊎ (d .receiver ≢ y) → T (not (settled y)) × (code (limitOf l′ y) ≡ suc at)
+          here y w (inr n) = subst (λ (z : ℤ). T (not (settled y)) × (code z ≡ suc at)) (sym (off y n)) (now .0 .here y (sym (put .others 0 y (inr n)) ∙ w))
+          here y w (inl e) =
+              subst (λ (i : ℕ). T (not (settled i)) × (code (limitOf l′ i) ≡ suc at)) e
+              (open-still, ap code raised-to ∙ at-level ∙ ap suc (at-hand (ap (waits q′ 0) e ∙ w) (eqOr level at)))
+
+          -- and near only if that is in its group
+          near-group : waits q′ 1 (d .receiver) ≡ 1 → (groupOf level ≡ groupOf at) ⊎ (groupOf level ≢ groupOf at) → groupOf level ≡ groupOf at
           near-group w (inl e) = e
           near-group w (inr n) =
-              let was = now .0 .near (d .receiver) (sym (put .others 0 (d .receiver) (inl (λ e. omega (arith, sym (place-far at level n) ∙ e)))) ∙ w) .1 in
+              let was = now .0 .near (d .receiver) (sym (put .others 1 (d .receiver) (inl (λ e. omega (arith, sym (place-far at level n) ∙ e)))) ∙ w) .1 in
               omega (arith, was .has, was .same, f, at-level, below)
 
-          near : (y : ℕ) → waits q′ 0 y ≡ 1 → (d .receiver ≡ y) ⊎ (d .receiver ≢ y) → T (not (settled y)) × InGroup at (limitOf l′ y)
-          near y w (inr n) = subst (λ (z : ℤ). T (not (settled y)) × InGroup at z) (sym (off y n)) (now .0 .near y (sym (put .others 0 y (inr n)) ∙ w))
+          near : (y : ℕ) → waits q′ 1 y ≡ 1 → (d .receiver ≡ y) ⊎ (d .receiver ≢ y) → T (not (settled y)) × InGroup at (limitOf l′ y)
+          near y w (inr n) = subst (λ (z : ℤ). T (not (settled y)) × InGroup at z) (sym (off y n)) (now .0 .near y (sym (put .others 1 y (inr n)) ∙ w))
           near y w (inl e) =
               subst (λ (i : ℕ). T (not (settled i)) × InGroup at (limitOf l′ i)) e
-              (open-still, record { level = level; has = ap code raised-to ∙ at-level; same = near-group (ap (waits q′ 0) e ∙ w) (eqOr (groupOf level) (groupOf at)) })
+              (open-still, record { level = level; has = ap code raised-to ∙ at-level; same = near-group (ap (waits q′ 1) e ∙ w) (eqOr (groupOf level) (groupOf at)) })
 
-          far-raised : (g : ℕ) → waits q′ (suc g) (d .receiver) ≡ 1 → (placeOf at level ≡ suc g) ⊎ (placeOf at level ≢ suc g) → (groupOf level ≡ groupOf at) ⊎ (groupOf level ≢ groupOf at) → topOf g ≤ code given + 2
-          far-raised g w (inr n) i = omega (arith, now .0 .far g (d .receiver) (sym (put .others (suc g) (d .receiver) (inl n)) ∙ w), f)
-          far-raised g w (inl e) (inl i) = absurd (omega (arith, sym (place-near at level i) ∙ e))
-          far-raised g w (inl e) (inr i) = let here : groupOf level ≡ g = omega (arith, sym (place-far at level i) ∙ e) in omega (arith, here, at-level)
+          far-raised : (g : ℕ) → waits q′ (suc (suc g)) (d .receiver) ≡ 1 → (placeOf at level ≡ suc (suc g)) ⊎ (placeOf at level ≢ suc (suc g)) → (level ≡ at) ⊎ (level ≢ at) → (groupOf level ≡ groupOf at) ⊎ (groupOf level ≢ groupOf at)
+              → topOf g ≤ code given + 2
+          far-raised g w (inr n) h i = omega (arith, now .0 .far g (d .receiver) (sym (put .others (suc (suc g)) (d .receiver) (inl n)) ∙ w), f)
+          far-raised g w (inl e) (inl h) i = absurd (omega (arith, sym (place-here at level h) ∙ e))
+          far-raised g w (inl e) (inr h) (inl i) = absurd (omega (arith, sym (place-near at level h i) ∙ e))
+          far-raised g w (inl e) (inr h) (inr i) = let here : groupOf level ≡ g = omega (arith, sym (place-far at level i) ∙ e) in omega (arith, here, at-level)
 
-          far : (g y : ℕ) → waits q′ (suc g) y ≡ 1 → (d .receiver ≡ y) ⊎ (d .receiver ≢ y) → topOf g ≤ code (limitOf l′ y) + 2
-          far g y w (inr n) = omega (arith, ap code (off y n), now .0 .far g y (sym (put .others (suc g) y (inr n)) ∙ w))
+          far : (g y : ℕ) → waits q′ (suc (suc g)) y ≡ 1 → (d .receiver ≡ y) ⊎ (d .receiver ≢ y) → topOf g ≤ code (limitOf l′ y) + 2
+          far g y w (inr n) = omega (arith, ap code (off y n), now .0 .far g y (sym (put .others (suc (suc g)) y (inr n)) ∙ w))
           far g y w (inl e) =
               subst (λ (i : ℕ). topOf g ≤ code (limitOf l′ i) + 2) e
-              (omega (arith, ap code raised-to, far-raised g (ap (waits q′ (suc g)) e ∙ w) (eqOr (placeOf at level) (suc g)) (eqOr (groupOf level) (groupOf at))))
+              (omega (arith, ap code raised-to, far-raised g (ap (waits q′ (suc (suc g))) e ∙ w) (eqOr (placeOf at level) (suc (suc g))) (eqOr level at) (eqOr (groupOf level) (groupOf at))))
 
         place : {y : ℕ} → (d .receiver ≡ y) ⊎ (d .receiver ≢ y) → getD p y 0 < recordCount s → getD (set p (d .receiver) k) y 0 < recordCount s
         place {y} (inl e) b = subst (λ (i : ℕ). getD (set p (d .receiver) k) i 0 < recordCount s) e (subst (λ (i : ℕ). i < recordCount s) (sym (getD-set-same p (d .receiver) k 0 (omega (arith, now .0 .parents)))) h)
@@ -184,6 +227,7 @@ module _ (t : List ℤ) (rule : TableRule t) (s : List ℕ) (marks : ℕ) (settl
             parents = simp length-set (now .0 .parents);
             most = λ y o. most y o (eqOr (d .receiver) y);
             waiting = λ y z o e. waiting q′ put y z o e (eqOr (d .receiver) y);
+            here = λ y w. here q′ put y w (eqOr (d .receiver) y);
             near = λ y w. near q′ put y w (eqOr (d .receiver) y);
             far = λ g y w. far q′ put g y w (eqOr (d .receiver) y);
             among = λ z y b. place (eqOr (d .receiver) y) (now .0 .among z y b);

@@ -6,13 +6,14 @@ use Prim.Native.Nat.{ℕ, _-_, _<_}
 use lib.ListN.{length, getD}
 use lib.IntN.{ℤ, pos}
 use Rattle.rules.specs.List.{tabulate}
-use Rattle.rules.specs.Limit.{none, _≼_}
+use Rattle.rules.specs.Limit.{none, code, _≼_}
 use Rattle.rules.specs.Register.{Delegation, Register, noDelegation}
 use Rattle.rules.specs.Chain.{limit, IsChain}
 use Rattle.rules.specs.Reach.{reach}
 use Rattle.rules.specs.Links.{linksTo}
 use Rattle.block.specs.Layout.{mostSubjects}
-use Rattle.queue.specs.Queue.{bit}
+use Rattle.queue.specs.Queue.{bit, BitPut, Without, Lowest, Taken}
+use Rattle.queue.specs.declared.Sets.{Sets}
 
 -- a register with these delegations in which subject 0 has these marks: the reach of a pair looks at nothing else
 abbrev pub underMarks : List Delegation → ℕ → Register
@@ -24,18 +25,36 @@ pub record Started (l : List ℤ) (p : List ℕ) : Type 0 where
   pub others : (y : ℕ) → 0 ≢ y → getD l y none ≡ none
   pub places : (y : ℕ) → getD p y 0 ≡ 0
 
--- a set of subjects that have limits, none of them above `most`
-pub record Choice (l : List ℤ) (set : ℕ) (most : ℤ) : Type 0 where
+-- a set of subjects that have limits
+pub record Choice (l : List ℤ) (set : ℕ) : Type 0 where
   pub size : length l ≡ mostSubjects
   pub some : set ≢ 0
   pub live : (y : ℕ) → bit set y ≡ 1 → pos 0 ≼ getD l y none
-  pub within : (y : ℕ) → bit set y ≡ 1 → getD l y none ≼ most
 
--- u is one of the set whose limit is as large as any of theirs
-pub record Heaviest (l : List ℤ) (set u : ℕ) : Type 0 where
-  pub small : u < mostSubjects
-  pub member : bit set u ≡ 1
-  pub most : (y : ℕ) → bit set y ≡ 1 → getD l y none ≼ getD l u none
+-- r has those of the set whose limit is the largest of theirs; `first` is one of them
+pub record Heaviest (l : List ℤ) (set r : ℕ) : Type 0 where
+  pub first : ℕ
+  pub small : first < mostSubjects
+  pub member : bit r first ≡ 1
+  pub each : (y : ℕ) → bit r y ≡ 1 → (bit set y ≡ 1) × (getD l y none ≡ getD l first none)
+  pub rest : (y : ℕ) → bit set y ≡ 1 → (bit r y ≡ 1) ⊎ (code (getD l y none) < code (getD l first none))
+
+-- the heaviest of those who wait near wait here then
+pub record LevelTaken (l : List ℤ) (sets left : Sets) (q q′ : List ℕ) : Type 0 where
+  pub some : sets .near ≢ 0
+  pub heaviest : Heaviest l (sets .near) (left .here)
+  pub near : Without (sets .near) (left .here) (left .near)
+  pub far : left .far ≡ sets .far
+  pub queue : q′ ≡ q
+
+-- none waits near, and those of the first group in which one may wait, but those settled, wait near then
+pub record GroupTaken (settled : ℕ) (sets left : Sets) (q q′ : List ℕ) : Type 0 where
+  pub none : sets .near ≡ 0
+  pub here : left .here ≡ 0
+  pub group : ℕ
+  pub first : Lowest (sets .far) group
+  pub near : Taken q group settled (left .near) q′
+  pub far : BitPut (sets .far) group 0 (left .far)
 
 -- the reach of each subject, for these marks
 abbrev pub reaches : List ℤ → List Delegation → ℕ → List ℤ

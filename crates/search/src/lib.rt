@@ -1,8 +1,11 @@
 // The search for reach: for one receiver's marks, the largest limit of every subject.
-ghost use Rattle.queue.specs.Queue.{Empty};
+ghost use mathlib.Core.Path.{_≡_};
+ghost use mathlib.Core.Logic.{_≢_, _⊎_};
+ghost use lib.ListN.{length};
+ghost use Rattle.queue.specs.Queue.{groups, Empty};
 ghost use Rattle.runs.specs.Lent.{SubjectLists};
 ghost use Rattle.runs.specs.Steps.{Indexed};
-ghost use Rattle.search.specs.Search.{Started, Choice, Heaviest};
+ghost use Rattle.search.specs.Search.{Started, Choice, Heaviest, LevelTaken, GroupTaken};
 ghost use Rattle.search.specs.Found.{Searched};
 use block::layout;
 
@@ -27,24 +30,48 @@ fn start(limits: &mut [i16], parents: &mut [u16])
     limits[0] = 255;
 }
 
-// A subject of a set whose limit is as large as any of theirs: the lowest of these. No limit of theirs is above `most`.
-fn heaviest(limits: &[i16], set: u64, most: i16) -> usize
-    requires { ⌜ Choice (now limits) set most ⌝ }
+// Those of a set whose limit is the largest of theirs.
+fn heaviest(limits: &[i16], set: u64) -> u64
+    requires { ⌜ Choice (now limits) set ⌝ }
     ensures { λ r. ⌜ Heaviest (now (limits .entry)) set r ⌝ }
 {
-    let mut best = queue::lowest(set);
-    let mut rest = queue::without(set, best);
+    let mut first = queue::lowest(set);
+    let mut best = queue::with(0, first);
+    let mut rest = queue::without(set, first);
     while rest != 0 {
-        if limits[best] >= most {
-            return best;
-        }
         let other = queue::lowest(rest);
         rest = queue::without(rest, other);
-        if limits[best] < limits[other] {
-            best = other;
+        let most = limits[first];
+        let limit = limits[other];
+        if most < limit {
+            first = other;
+            best = queue::with(0, other);
+        } else if most == limit {
+            best = queue::with(best, other);
         }
     }
     best
+}
+
+// None waits here: the next level is at hand then, or, where none waits near either, the next group in which one may wait.
+fn next_level(limits: &[i16], waiting: &mut [u64], settled: u64, sets: queue::Sets) -> queue::Sets
+    requires { ⌜ (length (now waiting) ≡ groups) × (sets .near ≢ 0 → Choice (now limits) (sets .near)) × (sets .near ≡ 0 → sets .far ≢ 0) ⌝ }
+    ensures { λ r. ⌜ LevelTaken (now (limits .entry)) sets r (now (waiting .entry)) (now (waiting .exit)) ⊎ GroupTaken settled sets r (now (waiting .entry)) (now (waiting .exit)) ⌝ }
+{
+    if sets.near != 0 {
+        let level = heaviest(limits, sets.near);
+        return queue::Sets {
+            here: level,
+            near: queue::minus(sets.near, level),
+            far: sets.far,
+        };
+    }
+    let group = queue::lowest(sets.far);
+    queue::Sets {
+        here: 0,
+        near: queue::take(waiting, group, settled),
+        far: queue::without(sets.far, group),
+    }
 }
 
 // The reach of every subject, and for each subject that has one the place of the record by which it is reached.
@@ -63,25 +90,15 @@ fn search(
     ensures { λ _. ⌜ Searched (now (table .entry)) (now (records .entry)) marks (now (limits .exit)) (now (parents .exit)) × Empty (now (waiting .exit)) ⌝ }
 {
     start(limits, parents);
-    let mut near: u64 = 1;
-    let mut far: u64 = 0;
+    let mut sets = queue::first();
     let mut settled: u64 = 0;
-    let mut most: i16 = 255;
-    while (near | far) != 0 {
-        if near == 0 {
-            let group = queue::lowest(far);
-            far = queue::without(far, group);
-            near = queue::take(waiting, group, settled);
-            most = queue::top(group);
+    while (sets.here | sets.near | sets.far) != 0 {
+        if sets.here == 0 {
+            sets = next_level(limits, waiting, settled, sets);
         } else {
-            let u = heaviest(limits, near, most);
+            let u = queue::lowest(sets.here);
             settled = queue::with(settled, u);
-            most = limits[u];
-            let sets = queue::Sets {
-                near: queue::without(near, u),
-                far: far,
-            };
-            let left = runs::relax_giver(
+            sets = runs::relax_giver(
                 records,
                 starts,
                 u,
@@ -90,10 +107,8 @@ fn search(
                 limits,
                 parents,
                 waiting,
-                sets,
+                queue::apart(sets, u),
             );
-            near = left.near;
-            far = left.far;
         }
     }
 }

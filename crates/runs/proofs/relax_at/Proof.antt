@@ -83,7 +83,7 @@ level c =
     let m = n .before .before .before .before in
     let s = m .before .before .before .before .before .before in
     let a = s .args in
-    given-level (a .table .now) (delegationIn (drop (a .at) (a .run .now))) (a .place) (a .limit) (a .marks) (a .limits .now) (a .parents .now) (a .waiting .now) (a .sets .near) (a .sets .far)
+    given-level (a .table .now) (delegationIn (drop (a .at) (a .run .now))) (a .place) (a .limit) (a .marks) (a .limits .now) (a .parents .now) (a .waiting .now) (a .sets .here) (a .sets .near) (a .sets .far)
     _ _ _ (m .before .before .read-two .ensures ∙ two-in (a .run .now) (a .at) needByte) (m .before .read-two2 .ensures ∙ two-in (a .run .now) (a .at) barByte) (m .meets .ensures) (s .pre .2 .waiting)
     _ _ (sym (getD-drop (a .at) (a .run .now) receiverByte 0)) (sym (getD-drop (a .at) (a .run .now) weightByte 0)) _ (s .fits .limit) (omega (arith, subject s)) (i .if22 .given) (record { sfits = n .next .ok }) (n .next .ensures) (c .if2 .taken) (s .pre .0) (s .pre .2 .most)
 
@@ -119,9 +119,9 @@ returns c =
     let m = n .before .before .before .before in
     let s = m .before .before .before .before .before .before in
     let a = s .args in
-    step-raised (a .table .now) (delegationIn (drop (a .at) (a .run .now))) (a .place) (a .limit) (a .marks) (a .limits .now) (a .parents .now) (a .waiting .now) (a .sets .near) (a .sets .far)
+    step-raised (a .table .now) (delegationIn (drop (a .at) (a .run .now))) (a .place) (a .limit) (a .marks) (a .limits .now) (a .parents .now) (a .waiting .now) (a .sets .here) (a .sets .near) (a .sets .far)
     _ _ _ (m .before .before .read-two .ensures ∙ two-in (a .run .now) (a .at) needByte) (m .before .read-two2 .ensures ∙ two-in (a .run .now) (a .at) barByte) (m .meets .ensures) (s .pre .2 .waiting)
-    _ _ (sym (getD-drop (a .at) (a .run .now) receiverByte 0)) (sym (getD-drop (a .at) (a .run .now) weightByte 0)) _ (s .fits .limit) (omega (arith, subject s)) (i .if22 .given) (record { sfits = n .next .ok }) (n .next .ensures) (j .before .before .if2 .taken) (n .before .before .before .if1 .taken) _ _ _ (j .join .ensures .0) (j .join .ensures .1)
+    _ _ (sym (getD-drop (a .at) (a .run .now) receiverByte 0)) (sym (getD-drop (a .at) (a .run .now) weightByte 0)) _ (s .fits .limit) (omega (arith, subject s)) (i .if22 .given) (record { sfits = n .next .ok }) (n .next .ensures) (j .before .before .if2 .taken) (n .before .before .before .if1 .taken) _ _ _ _ (j .join .ensures .0) (j .join .ensures .1)
 
 returns-2 : tie.Need-returns-2
 returns-2 c =
@@ -130,7 +130,7 @@ returns-2 c =
     let m = n .before .before .before .before in
     let s = m .before .before .before .before .before .before in
     let a = s .args in
-    step-not-raised (a .table .now) (delegationIn (drop (a .at) (a .run .now))) (a .place) (a .limit) (a .marks) (a .limits .now) (a .parents .now) (a .waiting .now) (a .sets .near) (a .sets .far)
+    step-not-raised (a .table .now) (delegationIn (drop (a .at) (a .run .now))) (a .place) (a .limit) (a .marks) (a .limits .now) (a .parents .now) (a .waiting .now) (a .sets .here) (a .sets .near) (a .sets .far)
     _ _ _ (m .before .before .read-two .ensures ∙ two-in (a .run .now) (a .at) needByte) (m .before .read-two2 .ensures ∙ two-in (a .run .now) (a .at) barByte) (m .meets .ensures) (s .pre .2 .waiting)
     _ _ (sym (getD-drop (a .at) (a .run .now) receiverByte 0)) (sym (getD-drop (a .at) (a .run .now) weightByte 0)) _ (s .fits .limit) (omega (arith, subject s)) (i .if22 .given) (record { sfits = n .next .ok }) (n .next .ensures) (c .if2 .left)
 
@@ -139,7 +139,7 @@ returns-3 c =
     let m = c .before in
     let s = m .before .before .before .before .before .before in
     let a = s .args in
-    step-unmet (a .table .now) (delegationIn (drop (a .at) (a .run .now))) (a .place) (a .limit) (a .marks) (a .limits .now) (a .parents .now) (a .waiting .now) (a .sets .near) (a .sets .far)
+    step-unmet (a .table .now) (delegationIn (drop (a .at) (a .run .now))) (a .place) (a .limit) (a .marks) (a .limits .now) (a .parents .now) (a .waiting .now) (a .sets .here) (a .sets .near) (a .sets .far)
     _ _ _ (m .before .before .read-two .ensures ∙ two-in (a .run .now) (a .at) needByte) (m .before .read-two2 .ensures ∙ two-in (a .run .now) (a .at) barByte) (m .meets .ensures) (s .pre .2 .waiting) (c .if1 .left)
 
 pub relax-at-spec : {M : Type 1} → statement M

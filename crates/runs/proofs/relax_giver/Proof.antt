@@ -97,7 +97,7 @@ returns c =
     let r = run s in
     let f = c .before .before .before .before .before .relax-run in
     let e = read-limit (a .limits .now) g (omega (arith, s .pre .2 .lists .limits)) (c .before .before .before .before .before .before .before .before .before .before .limit .given) in (
-      gave (a .table .now) (a .records .now) (a .marks) g (a .limits .now) (a .parents .now) (a .sets .near ∷ a .waiting .now) _ _ _ _ _ _ (r .low) (r .high) (r .order)
+      gave (a .table .now) (a .records .now) (a .marks) g (a .limits .now) (a .parents .now) (a .sets .here ∷ a .sets .near ∷ a .waiting .now) _ _ _ _ _ _ (r .low) (r .high) (r .order)
           e (f .ensures .0),
       f .ensures .1,
     )

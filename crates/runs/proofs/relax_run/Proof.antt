@@ -14,7 +14,7 @@ use Rattle.runs.proofs.relax_run.Tie as tie
 
 abbrev Inv-loop : tie.InvT-loop
 Inv-loop run first limit marks table limits₀ parents₀ waiting₀ n left₀ k₀ limits parents waiting left k =
-    (n ≡ recordCount run) × (k ≤ n) × SubjectLists limits parents × SteppedTo table (toZ w16 limit) marks run first limits₀ parents₀ (left₀ .near ∷ waiting₀) k limits parents (left .near ∷ waiting) × Waiting limits waiting (left .far)
+    (n ≡ recordCount run) × (k ≤ n) × SubjectLists limits parents × SteppedTo table (toZ w16 limit) marks run first limits₀ parents₀ (left₀ .here ∷ left₀ .near ∷ waiting₀) k limits parents (left .here ∷ left .near ∷ waiting) × Waiting limits waiting (left .far)
 
 abbrev μ-loop : tie.MeasureT-loop
 μ-loop run first limit marks table limits₀ parents₀ waiting₀ n left₀ k₀ limits parents waiting left k = n - k

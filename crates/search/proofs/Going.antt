@@ -1,0 +1,112 @@
+-- A search on its way: each turn keeps it going, until none waits. Assumes nothing.
+use mathlib.Core.Path.{_≡_, refl, sym, ap, subst, _∙_}
+use mathlib.Core.Logic.{_≢_, _⊎_, inl, inr}
+use mathlib.Core.List.{List, [], _∷_}
+use Prim.Native.Nat.{ℕ, suc, _-_, _≤_, _<_, max}
+use native.Mathlib.Omega.{arith}
+use lib.Bits.{bitOr}
+use lib.ListN.{length, getD}
+use lib.IntN.{ℤ, pos}
+use Rattle.rules.specs.Limit.{none, code, _≼_}
+use Rattle.rules.proofs.Signed.{code-pos}
+use Rattle.block.specs.Layout.{mostSubjects}
+use Rattle.queue.specs.Queue.{groups, bit, BitPut, Lowest, topOf, Empty, ownerHere}
+use Rattle.queue.specs.declared.Sets.{Sets}
+use Rattle.queue.proofs.Buckets.{bit-zero, bit-or, covered-take}
+use Rattle.runs.specs.Lent.{recordCount, Lent, SubjectLists}
+use Rattle.runs.specs.Steps.{Gave, Waiting, Ready}
+use Rattle.search.specs.Search.{Started, Choice, LevelTaken, GroupTaken}
+use Rattle.search.specs.Found.{Searched}
+use Rattle.search.proofs.State.{isSettled, State}
+use Rattle.search.proofs.Whole.{measure, level-less, group-less, state-start, waiting-start, choice, level-small, state-level, state-group, state-settle, settle-less, state-end, empty-end}
+
+-- the limits, parents and queue, those who wait and those settled, as they are between two turns; some level is at hand
+pub record Going (t : List ℤ) (s : List ℕ) (marks : ℕ) (l : List ℤ) (p q : List ℕ) (sets : Sets) (n : ℕ) : Type 0 where
+  pub at : ℕ
+  pub small : at ≤ 255
+  pub state : State t s marks (isSettled n) at l p (sets .here ∷ sets .near ∷ q) []
+  pub waiting : Waiting l q (sets .far)
+
+module _ (t : List ℤ) (s : List ℕ) (lent : Lent t s (recordCount s)) (marks : ℕ) where
+  pub going-start : (l : List ℤ) (p q : List ℕ) (sets : Sets) → sets ≡ ownerHere → SubjectLists l p → Started l p → Empty q → Going t s marks l p q sets 0
+  going-start l p q sets e room st empty = subst (λ (x : Sets). Going t s marks l p q x 0) (sym e) record { at = 255; small = omega arith; state = state-start t s lent marks l p q room st empty; waiting = waiting-start t s lent marks l p q room st empty }
+
+  module _ (l : List ℤ) (p q : List ℕ) (sets : Sets) (n : ℕ) (now : Going t s marks l p q sets n) where
+    -- ── none waits here ──
+    module _ (none-here : sets .here ≡ 0) where
+      no-bits : {m : ℕ} → m ≡ 0 → (y : ℕ) → bit m y ≡ 0
+      no-bits e y = ap (λ (x : ℕ). bit x y) e ∙ bit-zero y
+
+      pub near-choice : sets .near ≢ 0 → Choice l (sets .near)
+      near-choice = choice t s lent marks l p q (sets .here) (sets .near) (sets .far) n (now .at) (now .small) (now .state) (now .waiting .queue .covered) (no-bits none-here)
+
+      -- someone waits all the same
+      pub some-far : bitOr (bitOr (sets .here) (sets .near)) (sets .far) ≢ 0 → sets .near ≡ 0 → sets .far ≢ 0
+      some-far some e f = some (λ i. bitOr (bitOr (none-here i) (e i)) (f i))
+
+      abbrev pub Next : Sets → List ℕ → Type 0
+      Next left q′ = Going t s marks l p q′ left n × (measure n (left .near) (left .far) < measure n (sets .near) (sets .far))
+
+      pub going-next : (left : Sets) (q′ : List ℕ) → LevelTaken l sets left q q′ ⊎ GroupTaken n sets left q q′ → Next left q′
+      going-next left q′ (inl tk) =
+          subst (Next left) (sym (tk .queue)) (
+            record {
+              at = _;
+              small = level-small t s lent marks l p q (sets .here) (sets .near) (sets .far) n (now .at) (now .small) (now .state) (now .waiting .queue .covered) (no-bits none-here) (left .here) (left .near) (tk .heaviest) (tk .near);
+              state = state-level t s lent marks l p q (sets .here) (sets .near) (sets .far) n (now .at) (now .small) (now .state) (now .waiting .queue .covered) (no-bits none-here) (left .here) (left .near) (tk .heaviest) (tk .near);
+              waiting = subst (Waiting l q) (sym (tk .far)) (now .waiting);
+            },
+            subst (λ (f : ℕ). measure n (left .near) f < measure n (sets .near) (sets .far)) (sym (tk .far))
+                (level-less n (sets .near) (left .near) (sets .far) (tk .heaviest .first) (tk .heaviest .small) in-near (tk .near (tk .heaviest .first) ∙ omega (arith, in-near, tk .heaviest .member)) (λ y e. tk .near y ∙ omega (arith, e))),
+          )
+        where
+          in-near : bit (sets .near) (tk .heaviest .first) ≡ 1
+          in-near = tk .heaviest .each (tk .heaviest .first) (tk .heaviest .member) .0
+      going-next left q′ (inr tk) = (
+        record {
+          at = topOf (tk .group);
+          small = omega arith;
+          state = state-group t s lent marks l p q (sets .here) (sets .near) (sets .far) n (now .at) (now .small) (now .state) (now .waiting .queue .covered) (no-bits none-here) (no-bits (tk .none)) (tk .group) (tk .first) (left .here) (left .near) (tk .here) q′ (tk .near);
+          waiting = record {
+            queue = record { size = tk .near .size ∙ now .waiting .queue .size; covered = covered-take q q′ (tk .group) n (left .near) (sets .far) (left .far) (now .waiting .queue .covered) (tk .near) (tk .far) };
+            limits = now .waiting .limits;
+          };
+        },
+        group-less n (tk .group) (sets .near) (left .near) (sets .far) (left .far) (tk .first) (tk .far),
+      )
+
+    -- ── one who waits here is settled ──
+    module _ (u : ℕ) (first : Lowest (sets .here) u) where
+      at-hand : getD l u none ≡ pos (now .at)
+      at-hand = code-pos (getD l u none) (now .at) (now .state .here u (first .member) .1)
+
+      pub going-ready : (left : Sets) → left .far ≡ sets .far → Ready (getD l u none) l p q (left .far)
+      going-ready left e = record {
+        live = subst (λ (z : ℤ). pos 0 ≼ z) (sym at-hand) (omega arith);
+        most = subst (λ (z : ℤ). z ≼ pos 255) (sym at-hand) (omega (arith, now .small));
+        lists = record { limits = now .state .limits; parents = now .state .parents };
+        waiting = subst (Waiting l q) (sym e) (now .waiting);
+      }
+
+      module _ (left : Sets) (n₁ : ℕ) (out : BitPut (sets .here) u 0 (left .here)) (off : BitPut (sets .near) u 0 (left .near)) (put : BitPut n u 1 n₁) where
+        pub going-settle : (l′ : List ℤ) (p′ q′ : List ℕ) (after : Sets) → Gave t s marks u l p (left .here ∷ left .near ∷ q) l′ p′ (after .here ∷ after .near ∷ q′) → Waiting l′ q′ (after .far) → Going t s marks l′ p′ q′ after n₁
+        going-settle l′ p′ q′ after g w = record {
+          at = now .at;
+          small = now .small;
+          state = state-settle t s lent marks l p q (sets .here) (sets .near) (sets .far) n (now .at) (now .small) (now .state) (now .waiting .queue .covered) u (first .member) (left .here) (left .near) n₁ out off put l′ p′ (after .here ∷ after .near ∷ q′) g;
+          waiting = w;
+        }
+
+        pub going-less : (after : Sets) → measure n₁ (after .near) (after .far) < measure n (sets .near) (sets .far)
+        going-less after = settle-less t s lent marks l p q (sets .here) (sets .near) (sets .far) n (now .at) (now .small) (now .state) (now .waiting .queue .covered) u (first .member) (left .here) (left .near) n₁ out off put (first .small) (after .near) (after .far)
+
+    -- ── none waits ──
+    module _ (none : bitOr (bitOr (sets .here) (sets .near)) (sets .far) ≡ 0) where
+      all : (y : ℕ) → max (max (bit (sets .here) y) (bit (sets .near) y)) (bit (sets .far) y) ≡ 0
+      all y = ap (λ (x : ℕ). max x (bit (sets .far) y)) (sym (bit-or (sets .here) (sets .near) y)) ∙ sym (bit-or (bitOr (sets .here) (sets .near)) (sets .far) y) ∙ ap (λ (x : ℕ). bit x y) none ∙ bit-zero y
+
+      pub going-found : Searched t s marks l p
+      going-found = state-end t s lent marks l p q (sets .here) (sets .near) (sets .far) n (now .at) (now .state) (now .waiting .queue .covered) (λ y. omega (arith, all y)) (λ y. omega (arith, all y)) (λ y. omega (arith, all y))
+
+      pub going-empty : Empty q
+      going-empty = empty-end t s lent marks l p q (sets .here) (sets .near) (sets .far) n (now .at) (now .state) (now .waiting .queue .covered) (λ y. omega (arith, all y)) (λ y. omega (arith, all y)) (λ y. omega (arith, all y)) (now .waiting .queue .size)
