@@ -18,6 +18,13 @@ use Rattle.queue.specs.Queue.{bit, BitPut, Lowest}
 use Rattle.queue.proofs.Buckets.{bit-zero}
 use Rattle.search.specs.Search.{Heaviest}
 
+-- limits of one code are the same
+code-same : (y z : ℤ) → (y ≡ none) ⊎ (pos 0 ≼ y) → (z ≡ none) ⊎ (pos 0 ≼ z) → code y ≡ code z → y ≡ z
+code-same y z (inl f) (inl g) e = f ∙ sym g
+code-same y z (inl f) (inr g) e = absurd (omega (arith, ap code f, g, e))
+code-same y z (inr f) (inl g) e = absurd (omega (arith, ap code g, f, e))
+code-same y z (inr f) (inr g) e = code-pos y (natAbs z) (e ∙ code-live z g) ∙ sym (code-pos z (natAbs z) (code-live z g))
+
 -- two limits that the code reads and compares
 module _ (l : List ℤ) (i j : ℕ) (h : i < length l) (k : j < length l) where
   -- they are the same limit where the code finds them equal
@@ -28,18 +35,16 @@ module _ (l : List ℤ) (i j : ℕ) (h : i < length l) (k : j < length l) where
     test : ltZ (kept (getD l i (pos 0))) (kept (getD l j (pos 0))) ≡ ltZ (getD l i none) (getD l j none)
     test n = ltZ (read-limit l i h f n) (read-limit l j k g n)
 
-    pub less-read : pos 0 ≼ getD l i none → ltZ (kept (getD l i (pos 0))) (kept (getD l j (pos 0))) ≡ true → code (getD l i none) < code (getD l j none)
-    less-read live e = more (getD l i none) (getD l j none) (inr live) (yes (sym test ∙ e))
+    pub less-read : (getD l i none ≡ none) ⊎ (pos 0 ≼ getD l i none) → ltZ (kept (getD l i (pos 0))) (kept (getD l j (pos 0))) ≡ true → code (getD l i none) < code (getD l j none)
+    less-read h e = more (getD l i none) (getD l j none) h (yes (sym test ∙ e))
 
     -- neither smaller nor equal
-    pub more-read : pos 0 ≼ getD l i none → pos 0 ≼ getD l j none → ltZ (kept (getD l i (pos 0))) (kept (getD l j (pos 0))) ≡ false → ofZ w16 (getD l i (pos 0)) ≢ ofZ w16 (getD l j (pos 0)) → code (getD l j none) < code (getD l i none)
-    more-read live live′ e d = omega (arith, not-more (getD l i none) (getD l j none) (no (sym test ∙ e)), differ)
+    pub more-read : (getD l i none ≡ none) ⊎ (pos 0 ≼ getD l i none) → (getD l j none ≡ none) ⊎ (pos 0 ≼ getD l j none) → ltZ (kept (getD l i (pos 0))) (kept (getD l j (pos 0))) ≡ false → ofZ w16 (getD l i (pos 0)) ≢ ofZ w16 (getD l j (pos 0))
+        → code (getD l j none) < code (getD l i none)
+    more-read a b e d = omega (arith, not-more (getD l i none) (getD l j none) (no (sym test ∙ e)), differ)
       where
-        same : code (getD l i none) ≡ code (getD l j none) → getD l i none ≡ getD l j none
-        same e = code-pos (getD l i none) (natAbs (getD l j none)) (e ∙ code-live (getD l j none) live′) ∙ sym (code-pos (getD l j none) (natAbs (getD l j none)) (code-live (getD l j none) live′))
-
         differ : code (getD l i none) ≢ code (getD l j none)
-        differ e = d (ap (ofZ w16) (getD-within l i (pos 0) none h ∙ same e ∙ getD-within l j none (pos 0) k))
+        differ e = d (ap (ofZ w16) (getD-within l i (pos 0) none h ∙ code-same (getD l i none) (getD l j none) a b e ∙ getD-within l j none (pos 0) k))
 
 -- `best` has those of the set whose limit is the largest, that of `first`, but perhaps some of `rest`
 pub record Chosen (l : List ℤ) (set first best rest : ℕ) : Type 0 where

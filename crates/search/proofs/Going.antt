@@ -15,10 +15,10 @@ use Rattle.queue.specs.declared.Sets.{Sets}
 use Rattle.queue.proofs.Buckets.{bit-zero, bit-or, covered-take}
 use Rattle.runs.specs.Lent.{recordCount, Lent, SubjectLists}
 use Rattle.runs.specs.Steps.{Gave, Waiting, Ready}
-use Rattle.search.specs.Search.{Started, Choice, LevelTaken, GroupTaken}
+use Rattle.search.specs.Search.{Started, IsLimits, LevelTaken, LevelSought, GroupTaken, Advanced}
 use Rattle.search.specs.Found.{Searched}
 use Rattle.search.proofs.State.{isSettled, State}
-use Rattle.search.proofs.Whole.{measure, level-less, group-less, state-start, waiting-start, choice, level-small, state-level, state-group, state-settle, settle-less, state-end, empty-end}
+use Rattle.search.proofs.Whole.{measure, level-less, group-less, state-start, waiting-start, level-small, state-level, state-group, state-settle, settle-less, state-end, empty-end}
 
 -- the limits, parents and queue, those who wait and those settled, as they are between two turns; some level is at hand
 pub record Going (t : List ℤ) (s : List ℕ) (marks : ℕ) (l : List ℤ) (p q : List ℕ) (sets : Sets) (n : ℕ) : Type 0 where
@@ -32,13 +32,13 @@ module _ (t : List ℤ) (s : List ℕ) (lent : Lent t s (recordCount s)) (marks 
   going-start l p q sets e room st empty = subst (λ (x : Sets). Going t s marks l p q x 0) (sym e) record { at = 255; small = omega arith; state = state-start t s lent marks l p q room st empty; waiting = waiting-start t s lent marks l p q room st empty }
 
   module _ (l : List ℤ) (p q : List ℕ) (sets : Sets) (n : ℕ) (now : Going t s marks l p q sets n) where
+    pub going-limits : IsLimits l
+    going-limits = record { size = now .state .limits; each = now .waiting .limits }
+
     -- ── none waits here ──
     module _ (none-here : sets .here ≡ 0) where
       no-bits : {m : ℕ} → m ≡ 0 → (y : ℕ) → bit m y ≡ 0
       no-bits e y = ap (λ (x : ℕ). bit x y) e ∙ bit-zero y
-
-      pub near-choice : sets .near ≢ 0 → Choice l (sets .near)
-      near-choice = choice t s lent marks l p q (sets .here) (sets .near) (sets .far) n (now .at) (now .small) (now .state) (now .waiting .queue .covered) (no-bits none-here)
 
       -- someone waits all the same
       pub some-far : bitOr (bitOr (sets .here) (sets .near)) (sets .far) ≢ 0 → sets .near ≡ 0 → sets .far ≢ 0
@@ -47,26 +47,30 @@ module _ (t : List ℤ) (s : List ℕ) (lent : Lent t s (recordCount s)) (marks 
       abbrev pub Next : Sets → List ℕ → Type 0
       Next left q′ = Going t s marks l p q′ left n × (measure n (left .near) (left .far) < measure n (sets .near) (sets .far))
 
-      pub going-next : (left : Sets) (q′ : List ℕ) → LevelTaken l sets left q q′ ⊎ GroupTaken n sets left q q′ → Next left q′
-      going-next left q′ (inl tk) =
-          subst (Next left) (sym (tk .queue)) (
-            record {
-              at = _;
-              small = level-small t s lent marks l p q (sets .here) (sets .near) (sets .far) n (now .at) (now .small) (now .state) (now .waiting .queue .covered) (no-bits none-here) (left .here) (left .near) (tk .heaviest) (tk .near);
-              state = state-level t s lent marks l p q (sets .here) (sets .near) (sets .far) n (now .at) (now .small) (now .state) (now .waiting .queue .covered) (no-bits none-here) (left .here) (left .near) (tk .heaviest) (tk .near);
-              waiting = subst (Waiting l q) (sym (tk .far)) (now .waiting);
-            },
-            subst (λ (f : ℕ). measure n (left .near) f < measure n (sets .near) (sets .far)) (sym (tk .far))
-                (level-less n (sets .near) (left .near) (sets .far) (tk .heaviest .first) (tk .heaviest .small) in-near (tk .near (tk .heaviest .first) ∙ omega (arith, in-near, tk .heaviest .member)) (λ y e. tk .near y ∙ omega (arith, e))),
-          )
+      going-level : (left : Sets) → LevelTaken l sets left → Next left q
+      going-level left tk = (
+        record {
+          at = _;
+          small = level-small t s lent marks l p q (sets .here) (sets .near) (sets .far) n (now .at) (now .small) (now .state) (now .waiting .queue .covered) (no-bits none-here) (left .here) (left .near) (tk .heaviest) (tk .near);
+          state = state-level t s lent marks l p q (sets .here) (sets .near) (sets .far) n (now .at) (now .small) (now .state) (now .waiting .queue .covered) (no-bits none-here) (left .here) (left .near) (tk .heaviest) (tk .near);
+          waiting = subst (Waiting l q) (sym (tk .far)) (now .waiting);
+        },
+        subst (λ (f : ℕ). measure n (left .near) f < measure n (sets .near) (sets .far)) (sym (tk .far))
+            (level-less n (sets .near) (left .near) (sets .far) first (tk .heaviest .small) in-near (tk .near first ∙ omega (arith, in-near, tk .heaviest .member)) (λ y e. tk .near y ∙ omega (arith, e))),
+      )
         where
+          first : ℕ
+          first = tk .heaviest .first
+
           in-near : bit (sets .near) (tk .heaviest .first) ≡ 1
           in-near = tk .heaviest .each (tk .heaviest .first) (tk .heaviest .member) .0
-      going-next left q′ (inr tk) = (
+
+      going-group : sets .near ≡ 0 → (left : Sets) (q′ : List ℕ) → GroupTaken n sets left q q′ → Next left q′
+      going-group none left q′ tk = (
         record {
           at = topOf (tk .group);
           small = omega arith;
-          state = state-group t s lent marks l p q (sets .here) (sets .near) (sets .far) n (now .at) (now .small) (now .state) (now .waiting .queue .covered) (no-bits none-here) (no-bits (tk .none)) (tk .group) (tk .first) (left .here) (left .near) (tk .here) q′ (tk .near);
+          state = state-group t s lent marks l p q (sets .here) (sets .near) (sets .far) n (now .at) (now .small) (now .state) (now .waiting .queue .covered) (no-bits none-here) (no-bits none) (tk .group) (tk .first) (left .here) (left .near) (tk .here) q′ (tk .near);
           waiting = record {
             queue = record { size = tk .near .size ∙ now .waiting .queue .size; covered = covered-take q q′ (tk .group) n (left .near) (sets .far) (left .far) (now .waiting .queue .covered) (tk .near) (tk .far) };
             limits = now .waiting .limits;
@@ -110,3 +114,19 @@ module _ (t : List ℤ) (s : List ℕ) (lent : Lent t s (recordCount s)) (marks 
 
       pub going-empty : Empty q
       going-empty = empty-end t s lent marks l p q (sets .here) (sets .near) (sets .far) n (now .at) (now .state) (now .waiting .queue .covered) (λ y. omega (arith, all y)) (λ y. omega (arith, all y)) (λ y. omega (arith, all y)) (now .waiting .queue .size)
+
+-- the next level is at hand
+module _ (t : List ℤ) (s : List ℕ) (lent : Lent t s (recordCount s)) (marks : ℕ) (l : List ℤ) (p q : List ℕ) (sets : Sets) (n : ℕ) (now : Going t s marks l p q sets n) (none-here : sets .here ≡ 0) (left : Sets) (q′ : List ℕ) where
+  pub going-next : Advanced l n sets left q q′ → Next t s lent marks l p q sets n now none-here left q′
+  going-next a = go (a .group) (a .level)
+    where
+      go : ((sets .near ≢ 0) × (a .between ≡ sets) × (q′ ≡ q)) ⊎ ((sets .near ≡ 0) × GroupTaken n sets (a .between) q q′) → LevelSought l (a .between) left → Next t s lent marks l p q sets n now none-here left q′
+      go (inl (some, e, f)) (inl (none, g)) = absurd (some (ap (λ (x : Sets). x .near) (sym e) ∙ none))
+      go (inl (some, e, f)) (inr tk) =
+          subst (Next t s lent marks l p q sets n now none-here left) (sym f) (going-level t s lent marks l p q sets n now none-here left (subst (λ (x : Sets). LevelTaken l x left) e tk))
+      go (inr (none, tk)) (inl (_, e)) =
+          subst (λ (x : Sets). Next t s lent marks l p q sets n now none-here x q′) (sym e) (going-group t s lent marks l p q sets n now none-here none (a .between) q′ tk)
+      go (inr (none, tk)) (inr lt) =
+          let g = going-group t s lent marks l p q sets n now none-here none (a .between) q′ tk in
+          let h = going-level t s lent marks l p q′ (a .between) n (g .0) (tk .here) left lt in
+          (h .0, omega (arith, g .1, h .1))

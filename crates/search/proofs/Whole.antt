@@ -21,7 +21,7 @@ use Rattle.rules.proofs.Search.{Found, search-start, search-settle, search-reac
 use Rattle.rules.proofs.Links.{found-links}
 use Rattle.block.proofs.Bytes.{length-tabulate, tabulate-mem, mem-tabulate}
 use Rattle.block.specs.Layout.{mostSubjects}
-use Rattle.search.specs.Search.{underMarks, parentIn, mostLinks, Started, Choice, Heaviest}
+use Rattle.search.specs.Search.{underMarks, parentIn, mostLinks, Started, Heaviest}
 use Rattle.runs.specs.Lent.{recordCount, recordAt, Lent, SubjectLists, delegationsIn}
 use Rattle.runs.specs.Steps.{SteppedTo, part, Gave, Waiting}
 use Rattle.queue.specs.Queue.{groups, setBits, bit, BitPut, Without, Lowest, waits, groupOf, topOf, Covered, Empty, Taken}
@@ -97,9 +97,6 @@ module _ (t : List ℤ) (s : List ℕ) (lent : Lent t s (recordCount s)) (marks 
     -- ── none waits here, and the next level is taken ──
     module _ (none-here : (y : ℕ) → bit here y ≡ 0) where
       -- of those who wait near
-      pub choice : near ≢ 0 → Choice l near
-      choice some = record { size = now .limits; some = some; live = λ y w. let h = now .near y w .1 in omega (arith, h .has) }
-
       module _ (here₁ near₁ : ℕ) (heavy : Heaviest l near here₁) (rest : Without near here₁ near₁) where
         held : InGroup at (limitOf l (heavy .first))
         held = now .near (heavy .first) (heavy .each (heavy .first) (heavy .member) .0) .1

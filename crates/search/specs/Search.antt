@@ -25,11 +25,10 @@ pub record Started (l : List ℤ) (p : List ℕ) : Type 0 where
   pub others : (y : ℕ) → 0 ≢ y → getD l y none ≡ none
   pub places : (y : ℕ) → getD p y 0 ≡ 0
 
--- a set of subjects that have limits
-pub record Choice (l : List ℤ) (set : ℕ) : Type 0 where
+-- limits of all subjects, each none or from 0 on
+pub record IsLimits (l : List ℤ) : Type 0 where
   pub size : length l ≡ mostSubjects
-  pub some : set ≢ 0
-  pub live : (y : ℕ) → bit set y ≡ 1 → pos 0 ≼ getD l y none
+  pub each : (y : ℕ) → (getD l y none ≡ none) ⊎ (pos 0 ≼ getD l y none)
 
 -- r has those of the set whose limit is the largest of theirs; `first` is one of them
 pub record Heaviest (l : List ℤ) (set r : ℕ) : Type 0 where
@@ -40,21 +39,28 @@ pub record Heaviest (l : List ℤ) (set r : ℕ) : Type 0 where
   pub rest : (y : ℕ) → bit set y ≡ 1 → (bit r y ≡ 1) ⊎ (code (getD l y none) < code (getD l first none))
 
 -- the heaviest of those who wait near wait here then
-pub record LevelTaken (l : List ℤ) (sets left : Sets) (q q′ : List ℕ) : Type 0 where
-  pub some : sets .near ≢ 0
+pub record LevelTaken (l : List ℤ) (sets left : Sets) : Type 0 where
   pub heaviest : Heaviest l (sets .near) (left .here)
   pub near : Without (sets .near) (left .here) (left .near)
   pub far : left .far ≡ sets .far
-  pub queue : q′ ≡ q
 
--- none waits near, and those of the first group in which one may wait, but those settled, wait near then
+-- if any does
+abbrev pub LevelSought : List ℤ → Sets → Sets → Type 0
+LevelSought l sets left = ((sets .near ≡ 0) × (left ≡ sets)) ⊎ LevelTaken l sets left
+
+-- those of the first group in which one may wait, but those settled, wait near then, and none here
 pub record GroupTaken (settled : ℕ) (sets left : Sets) (q q′ : List ℕ) : Type 0 where
-  pub none : sets .near ≡ 0
   pub here : left .here ≡ 0
   pub group : ℕ
   pub first : Lowest (sets .far) group
   pub near : Taken q group settled (left .near) q′
   pub far : BitPut (sets .far) group 0 (left .far)
+
+-- the next level is at hand then, of the next group where none waits near
+pub record Advanced (l : List ℤ) (settled : ℕ) (sets left : Sets) (q q′ : List ℕ) : Type 0 where
+  pub between : Sets
+  pub group : ((sets .near ≢ 0) × (between ≡ sets) × (q′ ≡ q)) ⊎ ((sets .near ≡ 0) × GroupTaken settled sets between q q′)
+  pub level : LevelSought l between left
 
 -- the reach of each subject, for these marks
 abbrev pub reaches : List ℤ → List Delegation → ℕ → List ℤ

@@ -1,11 +1,11 @@
 // The search for reach: for one receiver's marks, the largest limit of every subject.
 ghost use mathlib.Core.Path.{_≡_};
-ghost use mathlib.Core.Logic.{_≢_, _⊎_};
+ghost use mathlib.Core.Logic.{_≢_};
 ghost use lib.ListN.{length};
 ghost use Rattle.queue.specs.Queue.{groups, Empty};
 ghost use Rattle.runs.specs.Lent.{SubjectLists};
 ghost use Rattle.runs.specs.Steps.{Indexed};
-ghost use Rattle.search.specs.Search.{Started, Choice, Heaviest, LevelTaken, GroupTaken};
+ghost use Rattle.search.specs.Search.{Started, IsLimits, Heaviest, LevelSought, GroupTaken, Advanced};
 ghost use Rattle.search.specs.Found.{Searched};
 use block::layout;
 
@@ -32,7 +32,7 @@ fn start(limits: &mut [i16], parents: &mut [u16])
 
 // Those of a set whose limit is the largest of theirs.
 fn heaviest(limits: &[i16], set: u64) -> u64
-    requires { ⌜ Choice (now limits) set ⌝ }
+    requires { ⌜ IsLimits (now limits) × (set ≢ 0) ⌝ }
     ensures { λ r. ⌜ Heaviest (now (limits .entry)) set r ⌝ }
 {
     let mut first = queue::lowest(set);
@@ -53,25 +53,45 @@ fn heaviest(limits: &[i16], set: u64) -> u64
     best
 }
 
-// None waits here: the next level is at hand then, or, where none waits near either, the next group in which one may wait.
-fn next_level(limits: &[i16], waiting: &mut [u64], settled: u64, sets: queue::Sets) -> queue::Sets
-    requires { ⌜ (length (now waiting) ≡ groups) × (sets .near ≢ 0 → Choice (now limits) (sets .near)) × (sets .near ≡ 0 → sets .far ≢ 0) ⌝ }
-    ensures { λ r. ⌜ LevelTaken (now (limits .entry)) sets r (now (waiting .entry)) (now (waiting .exit)) ⊎ GroupTaken settled sets r (now (waiting .entry)) (now (waiting .exit)) ⌝ }
+// The heaviest of those who wait near wait here then, if any does.
+fn next_level(limits: &[i16], sets: queue::Sets) -> queue::Sets
+    requires { ⌜ IsLimits (now limits) ⌝ }
+    ensures { λ r. ⌜ LevelSought (now (limits .entry)) sets r ⌝ }
 {
-    if sets.near != 0 {
-        let level = heaviest(limits, sets.near);
-        return queue::Sets {
-            here: level,
-            near: queue::minus(sets.near, level),
-            far: sets.far,
-        };
+    if sets.near == 0 {
+        return sets;
     }
+    let level = heaviest(limits, sets.near);
+    queue::Sets {
+        here: level,
+        near: queue::minus(sets.near, level),
+        far: sets.far,
+    }
+}
+
+// The first group in which one may wait: those of it that are not settled wait near then.
+fn next_group(waiting: &mut [u64], settled: u64, sets: queue::Sets) -> queue::Sets
+    requires { ⌜ (length (now waiting) ≡ groups) × (sets .far ≢ 0) ⌝ }
+    ensures { λ r. ⌜ GroupTaken settled sets r (now (waiting .entry)) (now (waiting .exit)) ⌝ }
+{
     let group = queue::lowest(sets.far);
     queue::Sets {
         here: 0,
         near: queue::take(waiting, group, settled),
         far: queue::without(sets.far, group),
     }
+}
+
+// None waits here: the next level is at hand then, of the next group where none waits near either.
+fn advance(limits: &[i16], waiting: &mut [u64], settled: u64, sets: queue::Sets) -> queue::Sets
+    requires { ⌜ IsLimits (now limits) × (length (now waiting) ≡ groups) × (sets .near ≡ 0 → sets .far ≢ 0) ⌝ }
+    ensures { λ r. ⌜ Advanced (now (limits .entry)) settled sets r (now (waiting .entry)) (now (waiting .exit)) ⌝ }
+{
+    if sets.near != 0 {
+        return next_level(limits, sets);
+    }
+    let taken = next_group(waiting, settled, sets);
+    next_level(limits, taken)
 }
 
 // The reach of every subject, and for each subject that has one the place of the record by which it is reached.
@@ -94,7 +114,7 @@ fn search(
     let mut settled: u64 = 0;
     while (sets.here | sets.near | sets.far) != 0 {
         if sets.here == 0 {
-            sets = next_level(limits, waiting, settled, sets);
+            sets = advance(limits, waiting, settled, sets);
         } else {
             let u = queue::lowest(sets.here);
             settled = queue::with(settled, u);

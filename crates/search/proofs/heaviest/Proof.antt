@@ -1,10 +1,7 @@
 -- `search::heaviest` finds those of a set whose limit is the largest of theirs. Assumes nothing.
-use mathlib.Core.Path.{_≡_}
 use Prim.Native.Nat.{_<_}
 use native.Mathlib.Omega.{arith}
-use lib.IntN.{pos}
-use lib.ListN.{length, getD}
-use Rattle.rules.specs.Limit.{none, _≼_}
+use lib.ListN.{length}
 use Rattle.queue.proofs.Buckets.{members, members-fall, part-put}
 use Rattle.search.proofs.Choosing.{same-read, less-read, more-read, Chosen, chosen-first, chosen-last, chosen-heavier, chosen-equal, chosen-lighter}
 use Rattle.search.proofs.heaviest.Statement.{statement}
@@ -17,7 +14,7 @@ abbrev μ-loop : tie.MeasureT-loop
 μ-loop limits set first₀ best₀ rest₀ first best rest = members rest
 
 lowest-requires : tie.Need-lowest-requires Inv-loop μ-loop
-lowest-requires c κs = c .pre .some
+lowest-requires c κs = c .pre .1
 
 with-requires : tie.Need-with-requires Inv-loop μ-loop
 with-requires c κs = c .lowest .ensures .small
@@ -40,13 +37,13 @@ mul-most : tie.Need-mul-most Inv-loop μ-loop
 mul-most c = omega (arith, c .before .before .before .loop .inv .small)
 
 shared-slice-copy-out-most : tie.Need-shared-slice-copy-out-most Inv-loop μ-loop
-shared-slice-copy-out-most c = omega (arith, c .before .before .before .loop .inv .small, c .before .before .before .before .before .before .before .pre .size)
+shared-slice-copy-out-most c = omega (arith, c .before .before .before .loop .inv .small, c .before .before .before .before .before .before .before .pre .0 .size)
 
 mul-limit : tie.Need-mul-limit Inv-loop μ-loop
 mul-limit c = omega (arith, c .before .before .lowest2 .ensures .small)
 
 shared-slice-copy-out-limit : tie.Need-shared-slice-copy-out-limit Inv-loop μ-loop
-shared-slice-copy-out-limit c = omega (arith, c .before .before .lowest2 .ensures .small, c .before .before .before .before .before .before .before .before .pre .size)
+shared-slice-copy-out-limit c = omega (arith, c .before .before .lowest2 .ensures .small, c .before .before .before .before .before .before .before .before .pre .0 .size)
 
 -- ── one more is looked at ──
 module _ (c : tie.After-limit Inv-loop μ-loop) where
@@ -63,16 +60,10 @@ module _ (c : tie.After-limit Inv-loop μ-loop) where
       members-fall (turn .loop .rest) (w .result) (o .result) (o .ensures .small) (o .ensures .member) (w .ensures .here) (part-put (turn .loop .rest) (w .result) (o .result) (w .ensures))
 
   first-within : turn .loop .first < length (begun .args .limits .now)
-  first-within = omega (arith, turn .loop .inv .small, begun .pre .size)
+  first-within = omega (arith, turn .loop .inv .small, begun .pre .0 .size)
 
   other-within : c .before .before .before .lowest2 .result < length (begun .args .limits .now)
-  other-within = omega (arith, c .before .before .before .lowest2 .ensures .small, begun .pre .size)
-
-  first-live : pos 0 ≼ getD (begun .args .limits .now) (turn .loop .first) none
-  first-live = begun .pre .live (turn .loop .first) (turn .loop .inv .each (turn .loop .first) (turn .loop .inv .member) .0)
-
-  other-live : pos 0 ≼ getD (begun .args .limits .now) (c .before .before .before .lowest2 .result) none
-  other-live = let o = c .before .before .before .lowest2 in begun .pre .live (o .result) (turn .loop .inv .among (o .result) (o .ensures .member))
+  other-within = omega (arith, c .before .before .before .lowest2 .ensures .small, begun .pre .0 .size)
 
 with-requires-2 : tie.Need-with-requires-2 Inv-loop μ-loop
 with-requires-2 c κs = c .before .before .before .before .lowest2 .ensures .small
@@ -86,7 +77,7 @@ loop-again c =
     let l = begun a .args .limits .now in
     let v = turn a .loop in
     chosen-heavier l (begun a .args .set) (v .first) (v .best) (v .rest) (v .inv) _ _ (a .before .before .before .lowest2 .ensures) (a .before .before .without2 .ensures) _
-    (less-read l (v .first) _ (first-within a) (other-within a) (a .before .most .given) (a .limit .given) (first-live a) (c .before .if1 .taken)) (c .with2 .ensures)
+    (less-read l (v .first) _ (first-within a) (other-within a) (a .before .most .given) (a .limit .given) (begun a .pre .0 .each (v .first)) (c .before .if1 .taken)) (c .with2 .ensures)
 
 with-requires-3 : tie.Need-with-requires-3 Inv-loop μ-loop
 with-requires-3 c κs = c .before .before .before .before .before .lowest2 .ensures .small
@@ -111,7 +102,7 @@ loop-again-3 c =
     let l = begun a .args .limits .now in
     let v = turn a .loop in
     chosen-lighter l (begun a .args .set) (v .first) (v .best) (v .rest) (v .inv) _ _ (a .before .before .before .lowest2 .ensures) (a .before .before .without2 .ensures)
-    (more-read l (v .first) _ (first-within a) (other-within a) (a .before .most .given) (a .limit .given) (first-live a) (other-live a) (c .before .if1 .left) (c .if2 .left))
+    (more-read l (v .first) _ (first-within a) (other-within a) (a .before .most .given) (a .limit .given) (begun a .pre .0 .each (v .first)) (begun a .pre .0 .each _) (c .before .if1 .left) (c .if2 .left))
 
 returns : tie.Need-returns Inv-loop μ-loop
 returns c =

@@ -1,0 +1,23 @@
+-- `search::next_group` takes the first group in which one may wait. Assumes nothing.
+use mathlib.Core.Path.{refl}
+use borrow.Author.Needs.{needs}
+use Rattle.search.proofs.next_group.Statement.{statement}
+use Rattle.search.proofs.next_group.Tie as tie
+
+lowest-requires : tie.Need-lowest-requires
+lowest-requires c κs = search needs
+
+take-requires : tie.Need-take-requires
+take-requires c κs = search needs
+
+without-requires : tie.Need-without-requires
+without-requires c κs = search needs
+
+same-length : tie.Need-same-length
+same-length c = search needs
+
+returns : tie.Need-returns
+returns c = record { here = refl; group = c .before .before .before .before .before .lowest .result; first = c .before .before .before .before .before .lowest .ensures; near = c .before .before .before .take .ensures; far = c .without .ensures }
+
+pub next-group-spec : {M : Type 1} → statement M
+next-group-spec = tie.close (tie.spec lowest-requires take-requires without-requires same-length returns)
