@@ -1,16 +1,15 @@
 -- A search on its way: each turn keeps it going, until none waits. Assumes nothing.
-use mathlib.Core.Path.{_≡_, refl, sym, ap, subst, _∙_}
+use mathlib.Core.Path.{_≡_, sym, ap, subst, _∙_}
 use mathlib.Core.Logic.{_≢_, _⊎_, inl, inr}
 use mathlib.Core.List.{List, [], _∷_}
-use Prim.Native.Nat.{ℕ, suc, _-_, _≤_, _<_, max}
+use Prim.Native.Nat.{ℕ, _≤_, _<_, max}
 use native.Mathlib.Omega.{arith}
 use lib.Bits.{bitOr}
-use lib.ListN.{length, getD}
+use lib.ListN.{getD}
 use lib.IntN.{ℤ, pos}
-use Rattle.rules.specs.Limit.{none, code, _≼_}
+use Rattle.rules.specs.Limit.{none, _≼_}
 use Rattle.rules.proofs.Signed.{code-pos}
-use Rattle.block.specs.Layout.{mostSubjects}
-use Rattle.queue.specs.Queue.{groups, bit, BitPut, Lowest, topOf, Empty, ownerHere}
+use Rattle.queue.specs.Queue.{bit, BitPut, Lowest, topOf, Empty, ownerHere}
 use Rattle.queue.specs.declared.Sets.{Sets}
 use Rattle.queue.proofs.Buckets.{bit-zero, bit-or, covered-take}
 use Rattle.runs.specs.Lent.{recordCount, Lent, SubjectLists}
