@@ -14,7 +14,7 @@ use Rattle.queue.specs.declared.Sets.{Sets}
 use Rattle.queue.proofs.Buckets.{bit-zero, bit-or, covered-take}
 use Rattle.runs.specs.Lent.{recordCount, Lent, SubjectLists}
 use Rattle.runs.specs.Steps.{Gave, Waiting, Ready}
-use Rattle.search.specs.Search.{Started, IsLimits, LevelTaken, LevelSought, GroupTaken, Advanced}
+use Rattle.search.specs.Search.{Started, IsLimits, LevelTaken, LevelSought, GroupTaken, GroupSought}
 use Rattle.search.specs.Found.{Searched}
 use Rattle.search.proofs.State.{isSettled, State}
 use Rattle.search.proofs.Whole.{measure, level-less, group-less, state-start, waiting-start, level-small, state-level, state-group, state-settle, settle-less, state-end, empty-end}
@@ -114,18 +114,14 @@ module _ (t : List ℤ) (s : List ℕ) (lent : Lent t s (recordCount s)) (marks 
       pub going-empty : Empty q
       going-empty = empty-end t s lent marks l p q (sets .here) (sets .near) (sets .far) n (now .at) (now .state) (now .waiting .queue .covered) (λ y. omega (arith, all y)) (λ y. omega (arith, all y)) (λ y. omega (arith, all y)) (now .waiting .queue .size)
 
--- the next level is at hand
-module _ (t : List ℤ) (s : List ℕ) (lent : Lent t s (recordCount s)) (marks : ℕ) (l : List ℤ) (p q : List ℕ) (sets : Sets) (n : ℕ) (now : Going t s marks l p q sets n) (none-here : sets .here ≡ 0) (left : Sets) (q′ : List ℕ) where
-  pub going-next : Advanced l n sets left q q′ → Next t s lent marks l p q sets n now none-here left q′
-  going-next a = go (a .group) (a .level)
-    where
-      go : ((sets .near ≢ 0) × (a .between ≡ sets) × (q′ ≡ q)) ⊎ ((sets .near ≡ 0) × GroupTaken n sets (a .between) q q′) → LevelSought l (a .between) left → Next t s lent marks l p q sets n now none-here left q′
-      go (inl (some, e, f)) (inl (none, g)) = absurd (some (ap (λ (x : Sets). x .near) (sym e) ∙ none))
-      go (inl (some, e, f)) (inr tk) =
-          subst (Next t s lent marks l p q sets n now none-here left) (sym f) (going-level t s lent marks l p q sets n now none-here left (subst (λ (x : Sets). LevelTaken l x left) e tk))
-      go (inr (none, tk)) (inl (_, e)) =
-          subst (λ (x : Sets). Next t s lent marks l p q sets n now none-here x q′) (sym e) (going-group t s lent marks l p q sets n now none-here none (a .between) q′ tk)
-      go (inr (none, tk)) (inr lt) =
-          let g = going-group t s lent marks l p q sets n now none-here none (a .between) q′ tk in
-          let h = going-level t s lent marks l p q′ (a .between) n (g .0) (tk .here) left lt in
-          (h .0, omega (arith, g .1, h .1))
+-- the next level is at hand, of the next group where none waits near
+module _ (t : List ℤ) (s : List ℕ) (lent : Lent t s (recordCount s)) (marks : ℕ) (l : List ℤ) (p q : List ℕ) (sets : Sets) (n : ℕ) (now : Going t s marks l p q sets n) (none-here : sets .here ≡ 0) (group left : Sets) (q′ : List ℕ) where
+  pub going-next : GroupSought n sets group q q′ → LevelSought l group left → Next t s lent marks l p q sets n now none-here left q′
+  going-next (inl (some, e, f)) (inl (none, g)) = absurd (some (ap (λ (x : Sets). x .near) (sym e) ∙ none))
+  going-next (inl (some, e, f)) (inr tk) =
+      subst (Next t s lent marks l p q sets n now none-here left) (sym f) (going-level t s lent marks l p q sets n now none-here left (subst (λ (x : Sets). LevelTaken l x left) e tk))
+  going-next (inr (none, tk)) (inl (_, e)) = subst (λ (x : Sets). Next t s lent marks l p q sets n now none-here x q′) (sym e) (going-group t s lent marks l p q sets n now none-here none group q′ tk)
+  going-next (inr (none, tk)) (inr lt) =
+      let g = going-group t s lent marks l p q sets n now none-here none group q′ tk in
+      let h = going-level t s lent marks l p q′ group n (g .0) (tk .here) left lt in
+      (h .0, omega (arith, g .1, h .1))

@@ -56,11 +56,9 @@ pub record GroupTaken (settled : ℕ) (sets left : Sets) (q q′ : List ℕ) : T
   pub near : Taken q group settled (left .near) q′
   pub far : BitPut (sets .far) group 0 (left .far)
 
--- the next level is at hand then, of the next group where none waits near
-pub record Advanced (l : List ℤ) (settled : ℕ) (sets left : Sets) (q q′ : List ℕ) : Type 0 where
-  pub between : Sets
-  pub group : ((sets .near ≢ 0) × (between ≡ sets) × (q′ ≡ q)) ⊎ ((sets .near ≡ 0) × GroupTaken settled sets between q q′)
-  pub level : LevelSought l between left
+-- if none waits near already
+abbrev pub GroupSought : ℕ → Sets → Sets → List ℕ → List ℕ → Type 0
+GroupSought settled sets left q q′ = ((sets .near ≢ 0) × (left ≡ sets) × (q′ ≡ q)) ⊎ ((sets .near ≡ 0) × GroupTaken settled sets left q q′)
 
 -- the reach of each subject, for these marks
 abbrev pub reaches : List ℤ → List Delegation → ℕ → List ℤ

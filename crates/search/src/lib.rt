@@ -5,7 +5,7 @@ ghost use lib.ListN.{length};
 ghost use Rattle.queue.specs.Queue.{groups, Empty};
 ghost use Rattle.runs.specs.Lent.{SubjectLists};
 ghost use Rattle.runs.specs.Steps.{Indexed};
-ghost use Rattle.search.specs.Search.{Started, IsLimits, Heaviest, LevelSought, GroupTaken, Advanced};
+ghost use Rattle.search.specs.Search.{Started, IsLimits, Heaviest, LevelSought, GroupSought};
 ghost use Rattle.search.specs.Found.{Searched};
 use block::layout;
 
@@ -69,29 +69,20 @@ fn next_level(limits: &[i16], sets: queue::Sets) -> queue::Sets
     }
 }
 
-// The first group in which one may wait: those of it that are not settled wait near then.
+// Where none waits near, those of the first group in which one may wait, but those settled, wait near then.
 fn next_group(waiting: &mut [u64], settled: u64, sets: queue::Sets) -> queue::Sets
-    requires { ⌜ (length (now waiting) ≡ groups) × (sets .far ≢ 0) ⌝ }
-    ensures { λ r. ⌜ GroupTaken settled sets r (now (waiting .entry)) (now (waiting .exit)) ⌝ }
+    requires { ⌜ (length (now waiting) ≡ groups) × (sets .near ≡ 0 → sets .far ≢ 0) ⌝ }
+    ensures { λ r. ⌜ GroupSought settled sets r (now (waiting .entry)) (now (waiting .exit)) ⌝ }
 {
+    if sets.near != 0 {
+        return sets;
+    }
     let group = queue::lowest(sets.far);
     queue::Sets {
         here: 0,
         near: queue::take(waiting, group, settled),
         far: queue::without(sets.far, group),
     }
-}
-
-// None waits here: the next level is at hand then, of the next group where none waits near either.
-fn advance(limits: &[i16], waiting: &mut [u64], settled: u64, sets: queue::Sets) -> queue::Sets
-    requires { ⌜ IsLimits (now limits) × (length (now waiting) ≡ groups) × (sets .near ≡ 0 → sets .far ≢ 0) ⌝ }
-    ensures { λ r. ⌜ Advanced (now (limits .entry)) settled sets r (now (waiting .entry)) (now (waiting .exit)) ⌝ }
-{
-    if sets.near != 0 {
-        return next_level(limits, sets);
-    }
-    let taken = next_group(waiting, settled, sets);
-    next_level(limits, taken)
 }
 
 // The reach of every subject, and for each subject that has one the place of the record by which it is reached.
@@ -114,7 +105,8 @@ fn search(
     let mut settled: u64 = 0;
     while (sets.here | sets.near | sets.far) != 0 {
         if sets.here == 0 {
-            sets = advance(limits, waiting, settled, sets);
+            let group = next_group(waiting, settled, sets);
+            sets = next_level(limits, group);
         } else {
             let u = queue::lowest(sets.here);
             settled = queue::with(settled, u);

@@ -2,7 +2,7 @@
 use mathlib.Core.Path.{sym, _∙_}
 use Rattle.runs.specs.Lent.{SubjectLists}
 use Rattle.search.proofs.Whole.{measure}
-use Rattle.search.proofs.Going.{Going, going-start, going-limits, some-far, going-next, going-ready, going-settle, going-less, going-found, going-empty}
+use Rattle.search.proofs.Going.{Going, going-start, going-limits, some-far, Next, going-next, going-ready, going-settle, going-less, going-found, going-empty}
 use Rattle.search.proofs.search.Statement.{statement}
 use Rattle.search.proofs.search.Tie as tie
 
@@ -29,29 +29,33 @@ loop-holds c =
     going-start (s .args .table .now) (s .args .records .now) (s .pre .0 .lent) (s .args .marks) _ _ _ _ (c .first .ensures) room (f .ensures) (s .pre .2)
 
 -- ── none waits here ──
-advance-requires : tie.Need-advance-requires Inv-loop μ-loop
-advance-requires c κs =
-    let l = c .before .before .before .before .before .before .before in
+next-group-requires : tie.Need-next-group-requires Inv-loop μ-loop
+next-group-requires c κs =
+    let l = c .before .before .before .before .before .before in
     let s = begun l in
     let v = l .loop in (
-      going-limits (s .args .table .now) (s .args .records .now) (s .pre .0 .lent) (s .args .marks) (v .limits) (v .parents) (v .waiting) (v .sets) (v .settled) (v .inv),
       v .inv .waiting .queue .size,
-      some-far (s .args .table .now) (s .args .records .now) (s .pre .0 .lent) (s .args .marks) (v .limits) (v .parents) (v .waiting) (v .sets) (v .settled) (v .inv) (c .before .before .if2 .taken) (c .before .before .before .before .if1 .taken),
+      some-far (s .args .table .now) (s .args .records .now) (s .pre .0 .lent) (s .args .marks) (v .limits) (v .parents) (v .waiting) (v .sets) (v .settled) (v .inv) (c .before .if2 .taken) (c .before .before .before .if1 .taken),
     )
 
-loop-less : tie.Need-loop-less Inv-loop μ-loop
-loop-less c =
+next-level-requires : tie.Need-next-level-requires Inv-loop μ-loop
+next-level-requires c κs =
     let l = c .before .before .before .before .before .before .before .before .before .before in
     let s = begun l in
     let v = l .loop in
-    going-next (s .args .table .now) (s .args .records .now) (s .pre .0 .lent) (s .args .marks) (v .limits) (v .parents) (v .waiting) (v .sets) (v .settled) (v .inv) (c .before .before .before .before .before .if2 .taken) _ _ (c .before .before .advance .ensures) .1
+    going-limits (s .args .table .now) (s .args .records .now) (s .pre .0 .lent) (s .args .marks) (v .limits) (v .parents) (v .waiting) (v .sets) (v .settled) (v .inv)
+
+next : (c : tie.After-next-level Inv-loop μ-loop) → let v = c .before .before .before .before .before .before .before .before .before .before .before .loop in let s = begun (c .before .before .before .before .before .before .before .before .before .before .before) in Next (s .args .table .now) (s .args .records .now) (s .pre .0 .lent) (s .args .marks) (v .limits) (v .parents) (v .waiting) (v .sets) (v .settled) (v .inv) (c .before .before .before .before .before .before .if2 .taken) (c .next-level .result) (c .before .before .before .before .next-group .last .0)
+next c =
+    let v = c .before .before .before .before .before .before .before .before .before .before .before .loop in
+    let s = begun (c .before .before .before .before .before .before .before .before .before .before .before) in
+    going-next (s .args .table .now) (s .args .records .now) (s .pre .0 .lent) (s .args .marks) (v .limits) (v .parents) (v .waiting) (v .sets) (v .settled) (v .inv) (c .before .before .before .before .before .before .if2 .taken) _ _ _ (c .before .before .before .before .next-group .ensures) (c .next-level .ensures)
+
+loop-less : tie.Need-loop-less Inv-loop μ-loop
+loop-less c = next c .1
 
 loop-again : tie.Need-loop-again Inv-loop μ-loop
-loop-again c =
-    let l = c .before .before .before .before .before .before .before .before .before .before in
-    let s = begun l in
-    let v = l .loop in
-    going-next (s .args .table .now) (s .args .records .now) (s .pre .0 .lent) (s .args .marks) (v .limits) (v .parents) (v .waiting) (v .sets) (v .settled) (v .inv) (c .before .before .before .before .before .if2 .taken) _ _ (c .before .before .advance .ensures) .0
+loop-again c = next c .0
 
 -- ── one who waits here is settled ──
 lowest-requires : tie.Need-lowest-requires Inv-loop μ-loop
@@ -117,7 +121,8 @@ search-spec =
     start-requires
     first-requires
     loop-holds
-    advance-requires
+    next-group-requires
+    next-level-requires
     loop-less
     loop-again
     lowest-requires
