@@ -3,6 +3,7 @@ use mathlib.Core.Path.{_≡_, sym, ap, subst, _∙_}
 use mathlib.Core.Logic.{_≢_, _⊎_, inl, inr}
 use mathlib.Core.List.{List, [], _∷_}
 use Prim.Native.Nat.{ℕ, _≤_, _<_, max}
+use native.Mathlib.Nat.{le-refl}
 use native.Mathlib.Omega.{arith}
 use lib.Bits.{bitOr}
 use lib.ListN.{getD}
@@ -14,7 +15,7 @@ use Rattle.queue.specs.declared.Sets.{Sets}
 use Rattle.queue.proofs.Buckets.{bit-zero, bit-or, covered-take}
 use Rattle.runs.specs.Lent.{recordCount, Lent, SubjectLists}
 use Rattle.runs.specs.Steps.{Gave, Waiting, Ready}
-use Rattle.search.specs.Search.{Started, IsLimits, LevelTaken, LevelSought, GroupTaken, GroupSought}
+use Rattle.search.specs.Search.{Started, IsLimits, LevelTaken, LevelSought, GroupTaken, GroupSought, AtHand}
 use Rattle.search.specs.Found.{Searched}
 use Rattle.search.proofs.State.{isSettled, State}
 use Rattle.search.proofs.Whole.{measure, level-less, group-less, state-start, waiting-start, level-small, state-level, state-group, state-settle, settle-less, state-end, empty-end}
@@ -34,14 +35,14 @@ module _ (t : List ℤ) (s : List ℕ) (lent : Lent t s (recordCount s)) (marks 
     pub going-limits : IsLimits l
     going-limits = record { size = now .state .limits; each = now .waiting .limits }
 
+    -- someone waits
+    pub some-far : bitOr (bitOr (sets .here) (sets .near)) (sets .far) ≢ 0 → sets .here ≡ 0 → sets .near ≡ 0 → sets .far ≢ 0
+    some-far some h e f = some (λ i. bitOr (bitOr (h i) (e i)) (f i))
+
     -- ── none waits here ──
     module _ (none-here : sets .here ≡ 0) where
       no-bits : {m : ℕ} → m ≡ 0 → (y : ℕ) → bit m y ≡ 0
       no-bits e y = ap (λ (x : ℕ). bit x y) e ∙ bit-zero y
-
-      -- someone waits all the same
-      pub some-far : bitOr (bitOr (sets .here) (sets .near)) (sets .far) ≢ 0 → sets .near ≡ 0 → sets .far ≢ 0
-      some-far some e f = some (λ i. bitOr (bitOr (none-here i) (e i)) (f i))
 
       abbrev pub Next : Sets → List ℕ → Type 0
       Next left q′ = Going t s marks l p q′ left n × (measure n (left .near) (left .far) < measure n (sets .near) (sets .far))
@@ -114,14 +115,24 @@ module _ (t : List ℤ) (s : List ℕ) (lent : Lent t s (recordCount s)) (marks 
       pub going-empty : Empty q
       going-empty = empty-end t s lent marks l p q (sets .here) (sets .near) (sets .far) n (now .at) (now .state) (now .waiting .queue .covered) (λ y. omega (arith, all y)) (λ y. omega (arith, all y)) (λ y. omega (arith, all y)) (now .waiting .queue .size)
 
--- the next level is at hand, of the next group where none waits near
-module _ (t : List ℤ) (s : List ℕ) (lent : Lent t s (recordCount s)) (marks : ℕ) (l : List ℤ) (p q : List ℕ) (sets : Sets) (n : ℕ) (now : Going t s marks l p q sets n) (none-here : sets .here ≡ 0) (group left : Sets) (q′ : List ℕ) where
-  pub going-next : GroupSought n sets group q q′ → LevelSought l group left → Next t s lent marks l p q sets n now none-here left q′
-  going-next (inl (some, e, f)) (inl (none, g)) = absurd (some (ap (λ (x : Sets). x .near) (sym e) ∙ none))
-  going-next (inl (some, e, f)) (inr tk) =
-      subst (Next t s lent marks l p q sets n now none-here left) (sym f) (going-level t s lent marks l p q sets n now none-here left (subst (λ (x : Sets). LevelTaken l x left) e tk))
-  going-next (inr (none, tk)) (inl (_, e)) = subst (λ (x : Sets). Next t s lent marks l p q sets n now none-here x q′) (sym e) (going-group t s lent marks l p q sets n now none-here none group q′ tk)
-  going-next (inr (none, tk)) (inr lt) =
-      let g = going-group t s lent marks l p q sets n now none-here none group q′ tk in
-      let h = going-level t s lent marks l p q′ group n (g .0) (tk .here) left lt in
-      (h .0, omega (arith, g .1, h .1))
+-- the level at hand: the same, or the next
+module _ (t : List ℤ) (s : List ℕ) (lent : Lent t s (recordCount s)) (marks : ℕ) (l : List ℤ) (p q : List ℕ) (sets : Sets) (n : ℕ) (now : Going t s marks l p q sets n) (left : Sets) (q′ : List ℕ) where
+  advanced : (none-here : sets .here ≡ 0) (group : Sets) → GroupSought n sets group q q′ → LevelSought l group left → Next t s lent marks l p q sets n now none-here left q′
+  advanced h group (inl (some, e, f)) (inl (none, g)) = absurd (some (ap (λ (x : Sets). x .near) (sym e) ∙ none))
+  advanced h group (inl (some, e, f)) (inr tk) = subst (Next t s lent marks l p q sets n now h left) (sym f) (going-level t s lent marks l p q sets n now h left (subst (λ (x : Sets). LevelTaken l x left) e tk))
+  advanced h group (inr (none, tk)) (inl (_, e)) = subst (λ (x : Sets). Next t s lent marks l p q sets n now h x q′) (sym e) (going-group t s lent marks l p q sets n now h none group q′ tk)
+  advanced h group (inr (none, tk)) (inr lt) =
+      let g = going-group t s lent marks l p q sets n now h none group q′ tk in
+      let i = going-level t s lent marks l p q′ group n (g .0) (tk .here) left lt in
+      (i .0, omega (arith, g .1, i .1))
+
+  pub going-on : AtHand l n sets left q q′ → Going t s marks l p q′ left n × (measure n (left .near) (left .far) ≤ measure n (sets .near) (sets .far))
+  going-on (inl (some, e, f)) =
+      subst (λ (r : List ℕ). Going t s marks l p r left n × (measure n (left .near) (left .far) ≤ measure n (sets .near) (sets .far))) (sym f)
+      (subst (λ (x : Sets). Going t s marks l p q x n × (measure n (x .near) (x .far) ≤ measure n (sets .near) (sets .far))) (sym e) (now, le-refl (measure n (sets .near) (sets .far))))
+  going-on (inr a) = let g = advanced (a .none) (a .between) (a .group) (a .level) in (g .0, omega (arith, g .1))
+
+  -- the next, where none waits at the level found
+  pub going-down : left .here ≡ 0 → AtHand l n sets left q q′ → measure n (left .near) (left .far) < measure n (sets .near) (sets .far)
+  going-down none (inl (some, e, f)) = absurd (some (ap (λ (x : Sets). x .here) (sym e) ∙ none))
+  going-down none (inr a) = advanced (a .none) (a .between) (a .group) (a .level) .1

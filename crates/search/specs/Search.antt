@@ -60,6 +60,16 @@ pub record GroupTaken (settled : ℕ) (sets left : Sets) (q q′ : List ℕ) : T
 abbrev pub GroupSought : ℕ → Sets → Sets → List ℕ → List ℕ → Type 0
 GroupSought settled sets left q q′ = ((sets .near ≢ 0) × (left ≡ sets) × (q′ ≡ q)) ⊎ ((sets .near ≡ 0) × GroupTaken settled sets left q q′)
 
+-- the level at hand stays where one waits at it; else the next one is at hand then, of the next group where none waits near
+pub record Advanced (l : List ℤ) (settled : ℕ) (sets left : Sets) (q q′ : List ℕ) : Type 0 where
+  pub none : sets .here ≡ 0
+  pub between : Sets
+  pub group : GroupSought settled sets between q q′
+  pub level : LevelSought l between left
+
+abbrev pub AtHand : List ℤ → ℕ → Sets → Sets → List ℕ → List ℕ → Type 0
+AtHand l settled sets left q q′ = ((sets .here ≢ 0) × (left ≡ sets) × (q′ ≡ q)) ⊎ Advanced l settled sets left q q′
+
 -- the reach of each subject, for these marks
 abbrev pub reaches : List ℤ → List Delegation → ℕ → List ℤ
 reaches t ds m = tabulate (λ u. reach t (underMarks ds m) u 0) 0 mostSubjects

@@ -5,7 +5,7 @@ ghost use lib.ListN.{length};
 ghost use Rattle.queue.specs.Queue.{groups, Empty};
 ghost use Rattle.runs.specs.Lent.{SubjectLists};
 ghost use Rattle.runs.specs.Steps.{Indexed};
-ghost use Rattle.search.specs.Search.{Started, IsLimits, Heaviest, LevelSought, GroupSought};
+ghost use Rattle.search.specs.Search.{Started, IsLimits, Heaviest, LevelSought, GroupSought, AtHand};
 ghost use Rattle.search.specs.Found.{Searched};
 use block::layout;
 
@@ -85,6 +85,18 @@ fn next_group(waiting: &mut [u64], settled: u64, sets: queue::Sets) -> queue::Se
     }
 }
 
+// The level at hand, or, where none waits at it, the next one.
+fn at_hand(limits: &[i16], waiting: &mut [u64], settled: u64, sets: queue::Sets) -> queue::Sets
+    requires { ⌜ IsLimits (now limits) × (length (now waiting) ≡ groups) × (sets .here ≡ 0 → sets .near ≡ 0 → sets .far ≢ 0) ⌝ }
+    ensures { λ r. ⌜ AtHand (now (limits .entry)) settled sets r (now (waiting .entry)) (now (waiting .exit)) ⌝ }
+{
+    if sets.here != 0 {
+        return sets;
+    }
+    let group = next_group(waiting, settled, sets);
+    next_level(limits, group)
+}
+
 // The reach of every subject, and for each subject that has one the place of the record by which it is reached.
 // Subjects are settled from the largest limit down; one that was raised after it began to wait is settled at its new limit.
 // The queue is lent empty and left empty.
@@ -104,10 +116,8 @@ fn search(
     let mut sets = queue::first();
     let mut settled: u64 = 0;
     while (sets.here | sets.near | sets.far) != 0 {
-        if sets.here == 0 {
-            let group = next_group(waiting, settled, sets);
-            sets = next_level(limits, group);
-        } else {
+        sets = at_hand(limits, waiting, settled, sets);
+        if sets.here != 0 {
             let u = queue::lowest(sets.here);
             settled = queue::with(settled, u);
             sets = runs::relax_giver(

@@ -1,8 +1,10 @@
--- `search::search` meets its contract: each turn settles one who waits at the level at hand, or takes the next level. Assumes nothing.
+-- `search::search` meets its contract: each turn settles one who waits at the level at hand, which is the next where none waited at the one before. Assumes nothing.
 use mathlib.Core.Path.{sym, _∙_}
+use Prim.Native.Nat.{_≤_}
+use native.Mathlib.Omega.{arith}
 use Rattle.runs.specs.Lent.{SubjectLists}
 use Rattle.search.proofs.Whole.{measure}
-use Rattle.search.proofs.Going.{Going, going-start, going-limits, some-far, Next, going-next, going-ready, going-settle, going-less, going-found, going-empty}
+use Rattle.search.proofs.Going.{Going, going-start, going-limits, some-far, going-on, going-down, going-ready, going-settle, going-less, going-found, going-empty}
 use Rattle.search.proofs.search.Statement.{statement}
 use Rattle.search.proofs.search.Tie as tie
 
@@ -28,38 +30,25 @@ loop-holds c =
     let room : SubjectLists _ _ = record { limits = f .kept .0 ∙ s .pre .1 .limits; parents = f .kept .1 .0 ∙ s .pre .1 .parents } in
     going-start (s .args .table .now) (s .args .records .now) (s .pre .0 .lent) (s .args .marks) _ _ _ _ (c .first .ensures) room (f .ensures) (s .pre .2)
 
--- ── none waits here ──
-next-group-requires : tie.Need-next-group-requires Inv-loop μ-loop
-next-group-requires c κs =
-    let l = c .before .before .before .before .before .before in
-    let s = begun l in
-    let v = l .loop in (
-      v .inv .waiting .queue .size,
-      some-far (s .args .table .now) (s .args .records .now) (s .pre .0 .lent) (s .args .marks) (v .limits) (v .parents) (v .waiting) (v .sets) (v .settled) (v .inv) (c .before .if2 .taken) (c .before .before .before .if1 .taken),
-    )
-
-next-level-requires : tie.Need-next-level-requires Inv-loop μ-loop
-next-level-requires c κs =
-    let l = c .before .before .before .before .before .before .before .before .before .before in
+at-hand-requires : tie.Need-at-hand-requires Inv-loop μ-loop
+at-hand-requires c κs =
+    let l = c .before .before .before .before .before in
     let s = begun l in
     let v = l .loop in
-    going-limits (s .args .table .now) (s .args .records .now) (s .pre .0 .lent) (s .args .marks) (v .limits) (v .parents) (v .waiting) (v .sets) (v .settled) (v .inv)
+    (going-limits (s .args .table .now) (s .args .records .now) (s .pre .0 .lent) (s .args .marks) (v .limits) (v .parents) (v .waiting) (v .sets) (v .settled) (v .inv), v .inv .waiting .queue .size, some-far (s .args .table .now) (s .args .records .now) (s .pre .0 .lent) (s .args .marks) (v .limits) (v .parents) (v .waiting) (v .sets) (v .settled) (v .inv) (c .before .before .if1 .taken))
 
-next : (c : tie.After-next-level Inv-loop μ-loop) → let v = c .before .before .before .before .before .before .before .before .before .before .before .loop in let s = begun (c .before .before .before .before .before .before .before .before .before .before .before) in Next (s .args .table .now) (s .args .records .now) (s .pre .0 .lent) (s .args .marks) (v .limits) (v .parents) (v .waiting) (v .sets) (v .settled) (v .inv) (c .before .before .before .before .before .before .if2 .taken) (c .next-level .result) (c .before .before .before .before .next-group .last .0)
-next c =
-    let v = c .before .before .before .before .before .before .before .before .before .before .before .loop in
-    let s = begun (c .before .before .before .before .before .before .before .before .before .before .before) in
-    going-next (s .args .table .now) (s .args .records .now) (s .pre .0 .lent) (s .args .marks) (v .limits) (v .parents) (v .waiting) (v .sets) (v .settled) (v .inv) (c .before .before .before .before .before .before .if2 .taken) _ _ _ (c .before .before .before .before .next-group .ensures) (c .next-level .ensures)
+-- ── with a level at hand ──
+abbrev turn : tie.After-at-hand Inv-loop μ-loop → tie.At-loop Inv-loop μ-loop
+turn c = c .before .before .before .before .before .before
 
-loop-less : tie.Need-loop-less Inv-loop μ-loop
-loop-less c = next c .1
+on : (c : tie.After-at-hand Inv-loop μ-loop) → let v = turn c .loop in let s = begun (turn c) in let left = c .at-hand .result in Going (s .args .table .now) (s .args .records .now) (s .args .marks) (v .limits) (v .parents) (c .at-hand .last .1 .0) left (v .settled) × (measure (v .settled) (left .near) (left .far) ≤ measure (v .settled) (v .sets .near) (v .sets .far))
+on c =
+    let v = turn c .loop in
+    let s = begun (turn c) in
+    going-on (s .args .table .now) (s .args .records .now) (s .pre .0 .lent) (s .args .marks) (v .limits) (v .parents) (v .waiting) (v .sets) (v .settled) (v .inv) (c .at-hand .result) (c .at-hand .last .1 .0) (c .at-hand .ensures)
 
-loop-again : tie.Need-loop-again Inv-loop μ-loop
-loop-again c = next c .0
-
--- ── one who waits here is settled ──
 lowest-requires : tie.Need-lowest-requires Inv-loop μ-loop
-lowest-requires c κs = c .if2 .left
+lowest-requires c κs = c .if2 .taken
 
 with-requires : tie.Need-with-requires Inv-loop μ-loop
 with-requires c κs = c .lowest .ensures .small
@@ -69,30 +58,44 @@ apart-requires c κs = c .before .before .before .before .lowest .ensures .small
 
 relax-giver-requires : tie.Need-relax-giver-requires Inv-loop μ-loop
 relax-giver-requires c κs =
-    let l = c .before .before .before .before .before .before .before .before .before .before .before in
-    let s = begun l in
-    let v = l .loop in
+    let a = c .before .before .before .before .before .before .before .before .before .before in
+    let s = begun (turn a) in
+    let v = turn a .loop in
     let u = c .before .before .before .before .before .lowest in
-    (s .pre .0, u .ensures .small, going-ready (s .args .table .now) (s .args .records .now) (s .pre .0 .lent) (s .args .marks) (v .limits) (v .parents) (v .waiting) (v .sets) (v .settled) (v .inv) (u .result) (u .ensures) (c .apart .result) (c .apart .ensures .2))
+    (s .pre .0, u .ensures .small, going-ready (s .args .table .now) (s .args .records .now) (s .pre .0 .lent) (s .args .marks) (v .limits) (v .parents) (a .at-hand .last .1 .0) (a .at-hand .result) (v .settled) (on a .0) (u .result) (u .ensures) (c .apart .result) (c .apart .ensures .2))
+
+loop-less : tie.Need-loop-less Inv-loop μ-loop
+loop-less c =
+    let a = c .before .before .before .before .before .before .before .before .before .before .before .before .before .before .before .before in
+    let s = begun (turn a) in
+    let v = turn a .loop in
+    let u = c .before .before .before .before .before .before .before .before .before .before .before .lowest in
+    let o = c .before .before .before .before .before .before .apart in
+    omega (
+      arith,
+      going-less (s .args .table .now) (s .args .records .now) (s .pre .0 .lent) (s .args .marks) (v .limits) (v .parents) (a .at-hand .last .1 .0) (a .at-hand .result) (v .settled) (on a .0) (u .result) (u .ensures) (o .result) _ (o .ensures .0) (o .ensures .1) (c .before .before .before .before .before .before .before .before .before .before .with .ensures) (c .before .before .before .before .before .relax-giver .result),
+      on a .1,
+    )
+
+loop-again : tie.Need-loop-again Inv-loop μ-loop
+loop-again c =
+    let a = c .before .before .before .before .before .before .before .before .before .before .before .before .before .before .before .before in
+    let s = begun (turn a) in
+    let v = turn a .loop in
+    let u = c .before .before .before .before .before .before .before .before .before .before .before .lowest in
+    let o = c .before .before .before .before .before .before .apart in
+    let g = c .before .before .before .before .before .relax-giver in
+    going-settle (s .args .table .now) (s .args .records .now) (s .pre .0 .lent) (s .args .marks) (v .limits) (v .parents) (a .at-hand .last .1 .0) (a .at-hand .result) (v .settled) (on a .0) (u .result) (u .ensures) (o .result) _ (o .ensures .0) (o .ensures .1) (c .before .before .before .before .before .before .before .before .before .before .with .ensures) _ _ _ (g .result) (g .ensures .0) (g .ensures .1)
 
 loop-less-2 : tie.Need-loop-less-2 Inv-loop μ-loop
 loop-less-2 c =
-    let l = c .before .before .before .before .before .before .before .before .before .before .before .before .before .before .before .before .before in
-    let s = begun l in
-    let v = l .loop in
-    let u = c .before .before .before .before .before .before .before .before .before .before .before .lowest in
-    let a = c .before .before .before .before .before .before .apart in
-    going-less (s .args .table .now) (s .args .records .now) (s .pre .0 .lent) (s .args .marks) (v .limits) (v .parents) (v .waiting) (v .sets) (v .settled) (v .inv) (u .result) (u .ensures) (a .result) _ (a .ensures .0) (a .ensures .1) (c .before .before .before .before .before .before .before .before .before .before .with .ensures) (c .before .before .before .before .before .relax-giver .result)
+    let a = c .before .before .before .before in
+    let s = begun (turn a) in
+    let v = turn a .loop in
+    going-down (s .args .table .now) (s .args .records .now) (s .pre .0 .lent) (s .args .marks) (v .limits) (v .parents) (v .waiting) (v .sets) (v .settled) (v .inv) (a .at-hand .result) (a .at-hand .last .1 .0) (c .if2 .left) (a .at-hand .ensures)
 
 loop-again-2 : tie.Need-loop-again-2 Inv-loop μ-loop
-loop-again-2 c =
-    let l = c .before .before .before .before .before .before .before .before .before .before .before .before .before .before .before .before .before in
-    let s = begun l in
-    let v = l .loop in
-    let u = c .before .before .before .before .before .before .before .before .before .before .before .lowest in
-    let a = c .before .before .before .before .before .before .apart in
-    let g = c .before .before .before .before .before .relax-giver in
-    going-settle (s .args .table .now) (s .args .records .now) (s .pre .0 .lent) (s .args .marks) (v .limits) (v .parents) (v .waiting) (v .sets) (v .settled) (v .inv) (u .result) (u .ensures) (a .result) _ (a .ensures .0) (a .ensures .1) (c .before .before .before .before .before .before .before .before .before .before .with .ensures) _ _ _ (g .result) (g .ensures .0) (g .ensures .1)
+loop-again-2 c = on (c .before .before .before .before) .0
 
 same-length : tie.Need-same-length Inv-loop μ-loop
 same-length c = c .before .before .before .loop .inv .state .limits ∙ sym (begun (c .before .before .before) .pre .1 .limits)
@@ -121,14 +124,13 @@ search-spec =
     start-requires
     first-requires
     loop-holds
-    next-group-requires
-    next-level-requires
-    loop-less
-    loop-again
+    at-hand-requires
     lowest-requires
     with-requires
     apart-requires
     relax-giver-requires
+    loop-less
+    loop-again
     loop-less-2
     loop-again-2
     same-length
