@@ -2,6 +2,6 @@ pub mod Choosing
 pub mod Fill
 pub mod State
 pub mod Whole
-pub mod Going
+pub mod Midway
 pub mod Searching
 pub mod Sharing

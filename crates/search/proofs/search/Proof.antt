@@ -4,12 +4,12 @@ use Prim.Native.Nat.{_≤_}
 use native.Mathlib.Omega.{arith}
 use Rattle.runs.specs.Lent.{SubjectLists}
 use Rattle.search.proofs.Whole.{measure}
-use Rattle.search.proofs.Going.{Going, going-start, going-limits, some-far, going-on, going-down, going-ready, going-settle, going-less, going-found, going-empty}
+use Rattle.search.proofs.Midway.{Midway, midway-start, midway-limits, some-far, midway-on, midway-down, midway-ready, midway-settle, midway-less, midway-found, midway-empty}
 use Rattle.search.proofs.search.Statement.{statement}
 use Rattle.search.proofs.search.Tie as tie
 
 abbrev Inv-loop : tie.InvT-loop
-Inv-loop records starts table marks limits₀ parents₀ waiting₀ sets₀ settled₀ limits parents waiting sets settled = Going table records marks limits parents waiting sets settled
+Inv-loop records starts table marks limits₀ parents₀ waiting₀ sets₀ settled₀ limits parents waiting sets settled = Midway table records marks limits parents waiting sets settled
 
 abbrev μ-loop : tie.MeasureT-loop
 μ-loop records starts table marks limits₀ parents₀ waiting₀ sets₀ settled₀ limits parents waiting sets settled = measure settled (sets .near) (sets .far)
@@ -28,24 +28,24 @@ loop-holds c =
     let s = c .before .before .before .before .before .before .before .before .before .before .before in
     let f = c .before .before .before .before .start in
     let room : SubjectLists _ _ = record { limits = f .kept .0 ∙ s .pre .1 .limits; parents = f .kept .1 .0 ∙ s .pre .1 .parents } in
-    going-start (s .args .table .now) (s .args .records .now) (s .pre .0 .lent) (s .args .marks) _ _ _ _ (c .first .ensures) room (f .ensures) (s .pre .2)
+    midway-start (s .args .table .now) (s .args .records .now) (s .pre .0 .lent) (s .args .marks) _ _ _ _ (c .first .ensures) room (f .ensures) (s .pre .2)
 
 at-hand-requires : tie.Need-at-hand-requires Inv-loop μ-loop
 at-hand-requires c κs =
     let l = c .before .before .before .before .before in
     let s = begun l in
     let v = l .loop in
-    (going-limits (s .args .table .now) (s .args .records .now) (s .pre .0 .lent) (s .args .marks) (v .limits) (v .parents) (v .waiting) (v .sets) (v .settled) (v .inv), v .inv .waiting .queue .size, some-far (s .args .table .now) (s .args .records .now) (s .pre .0 .lent) (s .args .marks) (v .limits) (v .parents) (v .waiting) (v .sets) (v .settled) (v .inv) (c .before .before .if1 .taken))
+    (midway-limits (s .args .table .now) (s .args .records .now) (s .pre .0 .lent) (s .args .marks) (v .limits) (v .parents) (v .waiting) (v .sets) (v .settled) (v .inv), v .inv .waiting .queue .size, some-far (s .args .table .now) (s .args .records .now) (s .pre .0 .lent) (s .args .marks) (v .limits) (v .parents) (v .waiting) (v .sets) (v .settled) (v .inv) (c .before .before .if1 .taken))
 
 -- ── with a level at hand ──
 abbrev turn : tie.After-at-hand Inv-loop μ-loop → tie.At-loop Inv-loop μ-loop
 turn c = c .before .before .before .before .before .before
 
-on : (c : tie.After-at-hand Inv-loop μ-loop) → let v = turn c .loop in let s = begun (turn c) in let left = c .at-hand .result in Going (s .args .table .now) (s .args .records .now) (s .args .marks) (v .limits) (v .parents) (c .at-hand .last .1 .0) left (v .settled) × (measure (v .settled) (left .near) (left .far) ≤ measure (v .settled) (v .sets .near) (v .sets .far))
+on : (c : tie.After-at-hand Inv-loop μ-loop) → let v = turn c .loop in let s = begun (turn c) in let left = c .at-hand .result in Midway (s .args .table .now) (s .args .records .now) (s .args .marks) (v .limits) (v .parents) (c .at-hand .last .1 .0) left (v .settled) × (measure (v .settled) (left .near) (left .far) ≤ measure (v .settled) (v .sets .near) (v .sets .far))
 on c =
     let v = turn c .loop in
     let s = begun (turn c) in
-    going-on (s .args .table .now) (s .args .records .now) (s .pre .0 .lent) (s .args .marks) (v .limits) (v .parents) (v .waiting) (v .sets) (v .settled) (v .inv) (c .at-hand .result) (c .at-hand .last .1 .0) (c .at-hand .ensures)
+    midway-on (s .args .table .now) (s .args .records .now) (s .pre .0 .lent) (s .args .marks) (v .limits) (v .parents) (v .waiting) (v .sets) (v .settled) (v .inv) (c .at-hand .result) (c .at-hand .last .1 .0) (c .at-hand .ensures)
 
 lowest-requires : tie.Need-lowest-requires Inv-loop μ-loop
 lowest-requires c κs = c .if2 .taken
@@ -62,7 +62,7 @@ relax-giver-requires c κs =
     let s = begun (turn a) in
     let v = turn a .loop in
     let u = c .before .before .before .before .before .lowest in
-    (s .pre .0, u .ensures .small, going-ready (s .args .table .now) (s .args .records .now) (s .pre .0 .lent) (s .args .marks) (v .limits) (v .parents) (a .at-hand .last .1 .0) (a .at-hand .result) (v .settled) (on a .0) (u .result) (u .ensures) (c .apart .result) (c .apart .ensures .2))
+    (s .pre .0, u .ensures .small, midway-ready (s .args .table .now) (s .args .records .now) (s .pre .0 .lent) (s .args .marks) (v .limits) (v .parents) (a .at-hand .last .1 .0) (a .at-hand .result) (v .settled) (on a .0) (u .result) (u .ensures) (c .apart .result) (c .apart .ensures .2))
 
 loop-less : tie.Need-loop-less Inv-loop μ-loop
 loop-less c =
@@ -73,7 +73,7 @@ loop-less c =
     let o = c .before .before .before .before .before .before .apart in
     omega (
       arith,
-      going-less (s .args .table .now) (s .args .records .now) (s .pre .0 .lent) (s .args .marks) (v .limits) (v .parents) (a .at-hand .last .1 .0) (a .at-hand .result) (v .settled) (on a .0) (u .result) (u .ensures) (o .result) _ (o .ensures .0) (o .ensures .1) (c .before .before .before .before .before .before .before .before .before .before .with .ensures) (c .before .before .before .before .before .relax-giver .result),
+      midway-less (s .args .table .now) (s .args .records .now) (s .pre .0 .lent) (s .args .marks) (v .limits) (v .parents) (a .at-hand .last .1 .0) (a .at-hand .result) (v .settled) (on a .0) (u .result) (u .ensures) (o .result) _ (o .ensures .0) (o .ensures .1) (c .before .before .before .before .before .before .before .before .before .before .with .ensures) (c .before .before .before .before .before .relax-giver .result),
       on a .1,
     )
 
@@ -85,14 +85,14 @@ loop-again c =
     let u = c .before .before .before .before .before .before .before .before .before .before .before .lowest in
     let o = c .before .before .before .before .before .before .apart in
     let g = c .before .before .before .before .before .relax-giver in
-    going-settle (s .args .table .now) (s .args .records .now) (s .pre .0 .lent) (s .args .marks) (v .limits) (v .parents) (a .at-hand .last .1 .0) (a .at-hand .result) (v .settled) (on a .0) (u .result) (u .ensures) (o .result) _ (o .ensures .0) (o .ensures .1) (c .before .before .before .before .before .before .before .before .before .before .with .ensures) _ _ _ (g .result) (g .ensures .0) (g .ensures .1)
+    midway-settle (s .args .table .now) (s .args .records .now) (s .pre .0 .lent) (s .args .marks) (v .limits) (v .parents) (a .at-hand .last .1 .0) (a .at-hand .result) (v .settled) (on a .0) (u .result) (u .ensures) (o .result) _ (o .ensures .0) (o .ensures .1) (c .before .before .before .before .before .before .before .before .before .before .with .ensures) _ _ _ (g .result) (g .ensures .0) (g .ensures .1)
 
 loop-less-2 : tie.Need-loop-less-2 Inv-loop μ-loop
 loop-less-2 c =
     let a = c .before .before .before .before in
     let s = begun (turn a) in
     let v = turn a .loop in
-    going-down (s .args .table .now) (s .args .records .now) (s .pre .0 .lent) (s .args .marks) (v .limits) (v .parents) (v .waiting) (v .sets) (v .settled) (v .inv) (a .at-hand .result) (a .at-hand .last .1 .0) (c .if2 .left) (a .at-hand .ensures)
+    midway-down (s .args .table .now) (s .args .records .now) (s .pre .0 .lent) (s .args .marks) (v .limits) (v .parents) (v .waiting) (v .sets) (v .settled) (v .inv) (a .at-hand .result) (a .at-hand .last .1 .0) (c .if2 .left) (a .at-hand .ensures)
 
 loop-again-2 : tie.Need-loop-again-2 Inv-loop μ-loop
 loop-again-2 c = on (c .before .before .before .before) .0
@@ -111,8 +111,8 @@ returns c =
     let l = c .before .before .before in
     let s = begun l in
     let v = l .loop in (
-      going-found (s .args .table .now) (s .args .records .now) (s .pre .0 .lent) (s .args .marks) (v .limits) (v .parents) (v .waiting) (v .sets) (v .settled) (v .inv) (c .if1 .left),
-      going-empty (s .args .table .now) (s .args .records .now) (s .pre .0 .lent) (s .args .marks) (v .limits) (v .parents) (v .waiting) (v .sets) (v .settled) (v .inv) (c .if1 .left),
+      midway-found (s .args .table .now) (s .args .records .now) (s .pre .0 .lent) (s .args .marks) (v .limits) (v .parents) (v .waiting) (v .sets) (v .settled) (v .inv) (c .if1 .left),
+      midway-empty (s .args .table .now) (s .args .records .now) (s .pre .0 .lent) (s .args .marks) (v .limits) (v .parents) (v .waiting) (v .sets) (v .settled) (v .inv) (c .if1 .left),
     )
 
 pub search-spec : {M : Type 1} → statement M

@@ -1,4 +1,4 @@
--- A search on its way: each turn keeps it going, until none waits. Assumes nothing.
+-- A search midway: what holds between two turns, and that each turn keeps it, until none waits. Assumes nothing.
 use mathlib.Core.Path.{_≡_, sym, ap, subst, _∙_}
 use mathlib.Core.Logic.{_≢_, _⊎_, inl, inr}
 use mathlib.Core.List.{List, [], _∷_}
@@ -21,19 +21,19 @@ use Rattle.search.proofs.State.{isSettled, State}
 use Rattle.search.proofs.Whole.{measure, level-less, group-less, state-start, waiting-start, level-small, state-level, state-group, state-settle, settle-less, state-end, empty-end}
 
 -- the limits, parents and queue, those who wait and those settled, as they are between two turns; some level is at hand
-pub record Going (t : List ℤ) (s : List ℕ) (marks : ℕ) (l : List ℤ) (p q : List ℕ) (sets : Sets) (n : ℕ) : Type 0 where
+pub record Midway (t : List ℤ) (s : List ℕ) (marks : ℕ) (l : List ℤ) (p q : List ℕ) (sets : Sets) (n : ℕ) : Type 0 where
   pub at : ℕ
   pub small : at ≤ 255
   pub state : State t s marks (isSettled n) at l p (sets .here ∷ sets .near ∷ q) []
   pub waiting : Waiting l q (sets .far)
 
 module _ (t : List ℤ) (s : List ℕ) (lent : Lent t s (recordCount s)) (marks : ℕ) where
-  pub going-start : (l : List ℤ) (p q : List ℕ) (sets : Sets) → sets ≡ ownerHere → SubjectLists l p → Started l p → Empty q → Going t s marks l p q sets 0
-  going-start l p q sets e room st empty = subst (λ (x : Sets). Going t s marks l p q x 0) (sym e) record { at = 255; small = omega arith; state = state-start t s lent marks l p q room st empty; waiting = waiting-start t s lent marks l p q room st empty }
+  pub midway-start : (l : List ℤ) (p q : List ℕ) (sets : Sets) → sets ≡ ownerHere → SubjectLists l p → Started l p → Empty q → Midway t s marks l p q sets 0
+  midway-start l p q sets e room st empty = subst (λ (x : Sets). Midway t s marks l p q x 0) (sym e) record { at = 255; small = omega arith; state = state-start t s lent marks l p q room st empty; waiting = waiting-start t s lent marks l p q room st empty }
 
-  module _ (l : List ℤ) (p q : List ℕ) (sets : Sets) (n : ℕ) (now : Going t s marks l p q sets n) where
-    pub going-limits : IsLimits l
-    going-limits = record { size = now .state .limits; each = now .waiting .limits }
+  module _ (l : List ℤ) (p q : List ℕ) (sets : Sets) (n : ℕ) (now : Midway t s marks l p q sets n) where
+    pub midway-limits : IsLimits l
+    midway-limits = record { size = now .state .limits; each = now .waiting .limits }
 
     -- someone waits
     pub some-far : bitOr (bitOr (sets .here) (sets .near)) (sets .far) ≢ 0 → sets .here ≡ 0 → sets .near ≡ 0 → sets .far ≢ 0
@@ -45,10 +45,10 @@ module _ (t : List ℤ) (s : List ℕ) (lent : Lent t s (recordCount s)) (marks 
       no-bits e y = ap (λ (x : ℕ). bit x y) e ∙ bit-zero y
 
       abbrev pub Next : Sets → List ℕ → Type 0
-      Next left q′ = Going t s marks l p q′ left n × (measure n (left .near) (left .far) < measure n (sets .near) (sets .far))
+      Next left q′ = Midway t s marks l p q′ left n × (measure n (left .near) (left .far) < measure n (sets .near) (sets .far))
 
-      going-level : (left : Sets) → LevelTaken l sets left → Next left q
-      going-level left tk = (
+      midway-level : (left : Sets) → LevelTaken l sets left → Next left q
+      midway-level left tk = (
         record {
           at = _;
           small = level-small t s lent marks l p q (sets .here) (sets .near) (sets .far) n (now .at) (now .small) (now .state) (now .waiting .queue .covered) (no-bits none-here) (left .here) (left .near) (tk .heaviest) (tk .near);
@@ -65,8 +65,8 @@ module _ (t : List ℤ) (s : List ℕ) (lent : Lent t s (recordCount s)) (marks 
           in-near : bit (sets .near) (tk .heaviest .first) ≡ 1
           in-near = tk .heaviest .each (tk .heaviest .first) (tk .heaviest .member) .0
 
-      going-group : sets .near ≡ 0 → (left : Sets) (q′ : List ℕ) → GroupTaken n sets left q q′ → Next left q′
-      going-group none left q′ tk = (
+      midway-group : sets .near ≡ 0 → (left : Sets) (q′ : List ℕ) → GroupTaken n sets left q q′ → Next left q′
+      midway-group none left q′ tk = (
         record {
           at = topOf (tk .group);
           small = omega arith;
@@ -84,8 +84,8 @@ module _ (t : List ℤ) (s : List ℕ) (lent : Lent t s (recordCount s)) (marks 
       at-hand : getD l u none ≡ pos (now .at)
       at-hand = code-pos (getD l u none) (now .at) (now .state .here u (first .member) .1)
 
-      pub going-ready : (left : Sets) → left .far ≡ sets .far → Ready (getD l u none) l p q (left .far)
-      going-ready left e = record {
+      pub midway-ready : (left : Sets) → left .far ≡ sets .far → Ready (getD l u none) l p q (left .far)
+      midway-ready left e = record {
         live = subst (λ (z : ℤ). pos 0 ≼ z) (sym at-hand) (omega arith);
         most = subst (λ (z : ℤ). z ≼ pos 255) (sym at-hand) (omega (arith, now .small));
         lists = record { limits = now .state .limits; parents = now .state .parents };
@@ -93,46 +93,46 @@ module _ (t : List ℤ) (s : List ℕ) (lent : Lent t s (recordCount s)) (marks 
       }
 
       module _ (left : Sets) (n₁ : ℕ) (out : BitPut (sets .here) u 0 (left .here)) (off : BitPut (sets .near) u 0 (left .near)) (put : BitPut n u 1 n₁) where
-        pub going-settle : (l′ : List ℤ) (p′ q′ : List ℕ) (after : Sets) → Gave t s marks u l p (left .here ∷ left .near ∷ q) l′ p′ (after .here ∷ after .near ∷ q′) → Waiting l′ q′ (after .far) → Going t s marks l′ p′ q′ after n₁
-        going-settle l′ p′ q′ after g w = record {
+        pub midway-settle : (l′ : List ℤ) (p′ q′ : List ℕ) (after : Sets) → Gave t s marks u l p (left .here ∷ left .near ∷ q) l′ p′ (after .here ∷ after .near ∷ q′) → Waiting l′ q′ (after .far) → Midway t s marks l′ p′ q′ after n₁
+        midway-settle l′ p′ q′ after g w = record {
           at = now .at;
           small = now .small;
           state = state-settle t s lent marks l p q (sets .here) (sets .near) (sets .far) n (now .at) (now .small) (now .state) (now .waiting .queue .covered) u (first .member) (left .here) (left .near) n₁ out off put l′ p′ (after .here ∷ after .near ∷ q′) g;
           waiting = w;
         }
 
-        pub going-less : (after : Sets) → measure n₁ (after .near) (after .far) < measure n (sets .near) (sets .far)
-        going-less after = settle-less t s lent marks l p q (sets .here) (sets .near) (sets .far) n (now .at) (now .small) (now .state) (now .waiting .queue .covered) u (first .member) (left .here) (left .near) n₁ out off put (first .small) (after .near) (after .far)
+        pub midway-less : (after : Sets) → measure n₁ (after .near) (after .far) < measure n (sets .near) (sets .far)
+        midway-less after = settle-less t s lent marks l p q (sets .here) (sets .near) (sets .far) n (now .at) (now .small) (now .state) (now .waiting .queue .covered) u (first .member) (left .here) (left .near) n₁ out off put (first .small) (after .near) (after .far)
 
     -- ── none waits ──
     module _ (none : bitOr (bitOr (sets .here) (sets .near)) (sets .far) ≡ 0) where
       all : (y : ℕ) → max (max (bit (sets .here) y) (bit (sets .near) y)) (bit (sets .far) y) ≡ 0
       all y = ap (λ (x : ℕ). max x (bit (sets .far) y)) (sym (bit-or (sets .here) (sets .near) y)) ∙ sym (bit-or (bitOr (sets .here) (sets .near)) (sets .far) y) ∙ ap (λ (x : ℕ). bit x y) none ∙ bit-zero y
 
-      pub going-found : Searched t s marks l p
-      going-found = state-end t s lent marks l p q (sets .here) (sets .near) (sets .far) n (now .at) (now .state) (now .waiting .queue .covered) (λ y. omega (arith, all y)) (λ y. omega (arith, all y)) (λ y. omega (arith, all y))
+      pub midway-found : Searched t s marks l p
+      midway-found = state-end t s lent marks l p q (sets .here) (sets .near) (sets .far) n (now .at) (now .state) (now .waiting .queue .covered) (λ y. omega (arith, all y)) (λ y. omega (arith, all y)) (λ y. omega (arith, all y))
 
-      pub going-empty : Empty q
-      going-empty = empty-end t s lent marks l p q (sets .here) (sets .near) (sets .far) n (now .at) (now .state) (now .waiting .queue .covered) (λ y. omega (arith, all y)) (λ y. omega (arith, all y)) (λ y. omega (arith, all y)) (now .waiting .queue .size)
+      pub midway-empty : Empty q
+      midway-empty = empty-end t s lent marks l p q (sets .here) (sets .near) (sets .far) n (now .at) (now .state) (now .waiting .queue .covered) (λ y. omega (arith, all y)) (λ y. omega (arith, all y)) (λ y. omega (arith, all y)) (now .waiting .queue .size)
 
 -- the level at hand: the same, or the next
-module _ (t : List ℤ) (s : List ℕ) (lent : Lent t s (recordCount s)) (marks : ℕ) (l : List ℤ) (p q : List ℕ) (sets : Sets) (n : ℕ) (now : Going t s marks l p q sets n) (left : Sets) (q′ : List ℕ) where
+module _ (t : List ℤ) (s : List ℕ) (lent : Lent t s (recordCount s)) (marks : ℕ) (l : List ℤ) (p q : List ℕ) (sets : Sets) (n : ℕ) (now : Midway t s marks l p q sets n) (left : Sets) (q′ : List ℕ) where
   advanced : (none-here : sets .here ≡ 0) (group : Sets) → GroupSought n sets group q q′ → LevelSought l group left → Next t s lent marks l p q sets n now none-here left q′
   advanced h group (inl (some, e, f)) (inl (none, g)) = absurd (some (ap (λ (x : Sets). x .near) (sym e) ∙ none))
-  advanced h group (inl (some, e, f)) (inr tk) = subst (Next t s lent marks l p q sets n now h left) (sym f) (going-level t s lent marks l p q sets n now h left (subst (λ (x : Sets). LevelTaken l x left) e tk))
-  advanced h group (inr (none, tk)) (inl (_, e)) = subst (λ (x : Sets). Next t s lent marks l p q sets n now h x q′) (sym e) (going-group t s lent marks l p q sets n now h none group q′ tk)
+  advanced h group (inl (some, e, f)) (inr tk) = subst (Next t s lent marks l p q sets n now h left) (sym f) (midway-level t s lent marks l p q sets n now h left (subst (λ (x : Sets). LevelTaken l x left) e tk))
+  advanced h group (inr (none, tk)) (inl (_, e)) = subst (λ (x : Sets). Next t s lent marks l p q sets n now h x q′) (sym e) (midway-group t s lent marks l p q sets n now h none group q′ tk)
   advanced h group (inr (none, tk)) (inr lt) =
-      let g = going-group t s lent marks l p q sets n now h none group q′ tk in
-      let i = going-level t s lent marks l p q′ group n (g .0) (tk .here) left lt in
+      let g = midway-group t s lent marks l p q sets n now h none group q′ tk in
+      let i = midway-level t s lent marks l p q′ group n (g .0) (tk .here) left lt in
       (i .0, omega (arith, g .1, i .1))
 
-  pub going-on : AtHand l n sets left q q′ → Going t s marks l p q′ left n × (measure n (left .near) (left .far) ≤ measure n (sets .near) (sets .far))
-  going-on (inl (some, e, f)) =
-      subst (λ (r : List ℕ). Going t s marks l p r left n × (measure n (left .near) (left .far) ≤ measure n (sets .near) (sets .far))) (sym f)
-      (subst (λ (x : Sets). Going t s marks l p q x n × (measure n (x .near) (x .far) ≤ measure n (sets .near) (sets .far))) (sym e) (now, le-refl (measure n (sets .near) (sets .far))))
-  going-on (inr a) = let g = advanced (a .none) (a .between) (a .group) (a .level) in (g .0, omega (arith, g .1))
+  pub midway-on : AtHand l n sets left q q′ → Midway t s marks l p q′ left n × (measure n (left .near) (left .far) ≤ measure n (sets .near) (sets .far))
+  midway-on (inl (some, e, f)) =
+      subst (λ (r : List ℕ). Midway t s marks l p r left n × (measure n (left .near) (left .far) ≤ measure n (sets .near) (sets .far))) (sym f)
+      (subst (λ (x : Sets). Midway t s marks l p q x n × (measure n (x .near) (x .far) ≤ measure n (sets .near) (sets .far))) (sym e) (now, le-refl (measure n (sets .near) (sets .far))))
+  midway-on (inr a) = let g = advanced (a .none) (a .between) (a .group) (a .level) in (g .0, omega (arith, g .1))
 
   -- the next, where none waits at the level found
-  pub going-down : left .here ≡ 0 → AtHand l n sets left q q′ → measure n (left .near) (left .far) < measure n (sets .near) (sets .far)
-  going-down none (inl (some, e, f)) = absurd (some (ap (λ (x : Sets). x .here) (sym e) ∙ none))
-  going-down none (inr a) = advanced (a .none) (a .between) (a .group) (a .level) .1
+  pub midway-down : left .here ≡ 0 → AtHand l n sets left q q′ → measure n (left .near) (left .far) < measure n (sets .near) (sets .far)
+  midway-down none (inl (some, e, f)) = absurd (some (ap (λ (x : Sets). x .here) (sym e) ∙ none))
+  midway-down none (inr a) = advanced (a .none) (a .between) (a .group) (a .level) .1
