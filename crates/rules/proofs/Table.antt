@@ -9,21 +9,8 @@ use lib.Dec.{T, leb, eqb, leb→le, eqb→eq}
 use lib.ListN.{length, getD}
 use lib.IntN.{ℤ}
 use Rattle.rules.specs.Limit.{none, code, fromNone}
-use Rattle.rules.specs.Table.{entry, TableRule, step, steps}
+use Rattle.rules.specs.Table.{entry, TableRule, fits, ruled, tableTest, step, steps}
 use Rattle.rules.proofs.Lists.{T-left, T-right}
-
--- x may stand at place i after p
-abbrev pub fits : ℕ → ℤ → ℤ → Bool
-fits i p x = fromNone x && leb (code p) (code x) && leb (code x) (cond (eqb i 255) 256 i)
-
--- each entry may stand where it stands, counted from i, after p
-abbrev ruled : ℕ → ℤ → List ℤ → Bool
-ruled i p [] = true
-ruled i p (x ∷ xs) = fits i p x && ruled (suc i) x xs
-
--- THE TEST of a table
-abbrev tableTest : List ℤ → Bool
-tableTest t = eqb (length t) 256 && ruled 0 none t
 
 from : (xs : List ℤ) (i : ℕ) (p : ℤ) → T (ruled i p xs) → (k : ℕ) → k < length xs → T (fits (i + k) (getD (p ∷ xs) k none) (getD xs k none))
 from [] i p h k l = absurd (not-suc-le-zero l)
