@@ -15,7 +15,7 @@ use Rattle.rules.specs.Register.{Delegation, Register, granted}
 use Rattle.rules.specs.Condition.{meets}
 use Rattle.rules.specs.Chain.{limitFrom, IsChain}
 use Rattle.rules.specs.Reach.{IsReach, goesOn, chains, reach}
-use Rattle.rules.specs.Support.{allowed}
+use Rattle.rules.specs.Support.{allowed, Supported}
 use Rattle.rules.specs.Round.{round, settle, SettlesIn}
 use Rattle.rules.specs.Cut.{removal, lowering, named}
 use Rattle.rules.specs.Remainder.{AtMost, Within, Remainder, Best}
@@ -24,13 +24,15 @@ use Rattle.rules.specs.Refusal.{passed, held, refusalOf}
 use Rattle.rules.specs.CallStep.{Outcome, answered, refused, cut, accepted, callStep}
 use Rattle.rules.specs.Trace.{PlaceRight}
 use Rattle.rules.specs.History.{registerAt, CutRight, CutsRight}
-use Rattle.rules.specs.Examples.{P1, P2, P3-with, P4, P5, P6, entry, needing}
+use Rattle.rules.specs.Examples.{P1, P2, P3-with, P4, P5, P6, entry, needing, two, twos, twos-given}
 use Rattle.rules.proofs.Lists.{T-both, eq→eqb, any-mem}
 use Rattle.rules.proofs.Table.{steps-rule}
 use Rattle.rules.proofs.AtMost.{AtMost-refl, AtMost-reweigh, at-giver, at-receiver}
 use Rattle.rules.proofs.Chains.{chain-owner}
 use Rattle.rules.proofs.Reach.{reach-only}
 use Rattle.rules.proofs.Support.{carried-chain, carried-allowed, allowed-carried}
+use Rattle.rules.proofs.History.{demand3-steps}
+use Rattle.rules.proofs.Answers.{twos-rule}
 
 zero-one : _≡_ {A = ℕ} 0 1 → ⊥
 zero-one e = omega arith
@@ -204,6 +206,26 @@ P3-reach = refl
 -- a subject visited once, on a lighter chain: P3 gives 1
 pub not-first-chain : IsReach steps P3-register 3 4 (pos 1) → ⊥
 not-first-chain r = let e = pos-inj (sym P3-reach ∙ reach-only steps P3-register 3 4 (pos 1) r) in omega arith
+
+-- ── support by one table claimed of another: what our table granted is not supported by twos ──
+abbrev twos-register : Register
+twos-register = record { subjects = 5; marks = 0 ∷ 0 ∷ 0 ∷ 0 ∷ 0 ∷ []; delegations = entry 0 1 9 ∷ entry 0 4 1 ∷ entry 1 2 8 ∷ entry 2 3 6 ∷ [] }
+
+twos-granted : registerAt steps twos-given 8 ≡ twos-register
+unfolding larger next step steps meets limitFrom goesOn chains reach allowed passed held refusalOf accepted callStep
+twos-granted = refl
+
+twos-allowed : allowed twos twos-register (entry 1 2 8) ≡ pos 7
+unfolding larger next two twos meets limitFrom goesOn chains reach allowed
+twos-allowed = refl
+
+pub not-supported-next : Supported steps twos-register × (Supported twos twos-register → ⊥)
+not-supported-next = (
+  subst (λ (R : Register). Supported steps R) twos-granted (demand3-steps .supported twos-given 8),
+  λ s.
+      let h = carried-allowed twos twos-rule twos-register (entry 1 2 8) (s (entry 1 2 8) (List·Memᴰ·tail (List·Memᴰ·tail (List·Memᴰ·head refl)))) in
+      omega (arith, ap code twos-allowed),
+)
 
 -- ── the registers above are those that document 01's examples lead to ──
 pub registers-hold : _≡_ {A = List Register} (named (registerAt steps (P1 .calls) 5) (removal 0 1) ∷ named (registerAt steps (P5 .given) 11) (lowering 0 2 2) ∷ named (registerAt steps (P2 .given) 9) (removal 0 1) ∷ registerAt steps (P6 .given) 1 ∷ registerAt steps (P4 .given) 10 ∷ registerAt steps (P3-with .given) 8 ∷ []) (P1-cut ∷ P5-cut ∷ P2-cut ∷ P6-register ∷ P4-register ∷ P3-register ∷ [])

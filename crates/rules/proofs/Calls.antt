@@ -12,7 +12,7 @@ use lib.ListN.{length, length-append, length-map, List·getD-append}
 use lib.IntN.{ℤ, pos}
 use Rattle.rules.specs.List.{_∈_}
 use Rattle.rules.specs.Limit.{code, _≼_}
-use Rattle.rules.specs.Table.{TableRule}
+use Rattle.rules.specs.Table.{TableRule, Below}
 use Rattle.rules.specs.Register.{Delegation, Register, reweigh, withDelegations}
 use Rattle.rules.specs.Support.{allowed, Carried, Supported}
 use Rattle.rules.specs.Pair.{isPair}
@@ -25,7 +25,8 @@ use Rattle.rules.specs.Refusal.{passed, held, refusalOf}
 use Rattle.rules.specs.CallStep.{Outcome, insert, cut, accepted, refused, callStep}
 use Rattle.rules.proofs.Lists.{filter-mem, filter-length, map-mem, eq→eqb, not-or-left, not-or-right, not-not, test-ne}
 use Rattle.rules.proofs.Chains.{mem-snoc}
-use Rattle.rules.proofs.Support.{carried-on, allowed-carried, carried-mono}
+use Rattle.rules.proofs.Tables.{Below-refl}
+use Rattle.rules.proofs.Support.{carried-on, allowed-carried, carried-mono, carried-under, supported-under}
 use Rattle.rules.proofs.AtMost.{AtMost-refl}
 use Rattle.rules.proofs.Rounds.{settle-right, settle-best}
 use Rattle.rules.proofs.WellFormed.{formed-reweigh, settles-formed}
@@ -151,34 +152,34 @@ accepted-formed t R (downgrade y g r w) p f = cut-formed t (named R (lowering g 
 accepted-formed t R (askReach g r) p f = f
 accepted-formed t R (askUse r) p f = f
 
--- ── supported ──
-module _ (t : List ℤ) (rule : TableRule t) where
-  enrol-supported : (R : Register) (m : ℕ) → WellFormed R → Supported t R → Supported t (enrolled R m)
-  enrol-supported R m f s d i =
-      carried-on t R (enrolled R m) d (sym (List·getD-append (R .marks) (m ∷ []) 0 (d .receiver) (omega (arith, f .marked, f .each d i .receiver)))) (λ ds c h. c .standing) (s d i)
+-- ── supported under m, which lets a right fall no faster than the table t of the call ──
+enrol-supported : (m : List ℤ) (R : Register) (x : ℕ) → WellFormed R → Supported m R → Supported m (enrolled R x)
+enrol-supported m R x f s d i =
+    carried-on m R (enrolled R x) d (sym (List·getD-append (R .marks) (x ∷ []) 0 (d .receiver) (omega (arith, f .marked, f .each d i .receiver)))) (λ ds c h. c .standing) (s d i)
 
-  insert-supported : (R : Register) (d : Delegation) → pos (d .weight) ≼ allowed t R d → Supported t R → Supported t (withDelegations R (insert d (R .delegations)))
-  insert-supported R d h s e m = carried-mono t rule R (withDelegations R (insert d (R .delegations))) e within (old (insert-mem d (R .delegations) m))
+module _ (t m : List ℤ) (rule : TableRule t) (rule′ : TableRule m) (below : Below t m) where
+  insert-under : (R : Register) (d : Delegation) → pos (d .weight) ≼ allowed t R d → Supported m R → Supported m (withDelegations R (insert d (R .delegations)))
+  insert-under R d h s e i = carried-mono m rule′ R (withDelegations R (insert d (R .delegations))) e within (old (insert-mem d (R .delegations) i))
     where
       within : Within R (withDelegations R (insert d (R .delegations)))
       within = record { subjects = refl; marks = refl; held = λ x i. (x, mem-insert d (R .delegations) (inr i), AtMost-refl x) }
 
-      old : (e ≡ d) ⊎ (e ∈ R .delegations) → Carried t R e
-      old (inl q) = subst (λ (x : Delegation). Carried t R x) (sym q) (allowed-carried t rule R d h)
+      old : (e ≡ d) ⊎ (e ∈ R .delegations) → Carried m R e
+      old (inl q) = subst (λ (x : Delegation). Carried m R x) (sym q) (carried-under t m rule′ below R d (allowed-carried t rule R d h))
       old (inr i) = s e i
 
-  cut-supported : (C : Register) → Supported t (cut t C .left)
+  cut-under : (C : Register) → Supported m (cut t C .left)
   unfolding cut
-  cut-supported C = settle-best t rule C .remainder .supported
+  cut-under C = supported-under t m rule′ below (settle t C .left) (settle-best t rule C .remainder .supported)
 
-  accepted-supported : (R : Register) (c : Call) → Passes (passed c ++ held t R c) → WellFormed R → Supported t R → Supported t (accepted t R c .left)
+  accepted-under : (R : Register) (c : Call) → Passes (passed c ++ held t R c) → WellFormed R → Supported m R → Supported m (accepted t R c .left)
   unfolding accepted passed held
-  accepted-supported R (enrol m) p f s = enrol-supported R m f s
-  accepted-supported R (grant d) p f s = insert-supported R d (nltb→le (code (allowed t R d)) (suc (d .weight)) (not-or-left (ltb (code (allowed t R d)) (suc (d .weight))) false (p 16))) s
-  accepted-supported R (revoke y g r) p f s = cut-supported (named R (removal g r))
-  accepted-supported R (downgrade y g r w) p f s = cut-supported (named R (lowering g r w))
-  accepted-supported R (askReach g r) p f s = s
-  accepted-supported R (askUse r) p f s = s
+  accepted-under R (enrol x) p f s = enrol-supported m R x f s
+  accepted-under R (grant d) p f s = insert-under R d (nltb→le (code (allowed t R d)) (suc (d .weight)) (not-or-left (ltb (code (allowed t R d)) (suc (d .weight))) false (p 16))) s
+  accepted-under R (revoke y g r) p f s = cut-under (named R (removal g r))
+  accepted-under R (downgrade y g r w) p f s = cut-under (named R (lowering g r w))
+  accepted-under R (askReach g r) p f s = s
+  accepted-under R (askUse r) p f s = s
 
 -- ── a call, refused or not ──
 cut-refusal : (t : List ℤ) (C : Register) → cut t C .refusal ≡ 0
@@ -208,8 +209,13 @@ callStep-cases t R c P done turned = go (eqb (refusalOf t R c) 0) refl
 pub callStep-formed : (t : List ℤ) (R : Register) (c : Call) → WellFormed R → WellFormed (callStep t R c .left)
 callStep-formed t R c f = callStep-cases t R c (λ (o : Outcome). WellFormed (o .left)) (λ z p. accepted-formed t R c p f) (λ n. f)
 
+-- a call by the table t leaves what is supported under m so
+pub callStep-under : (t m : List ℤ) → TableRule t → TableRule m → Below t m → (R : Register) (c : Call) → WellFormed R → Supported m R → Supported m (callStep t R c .left)
+callStep-under t m rule rule′ below R c f s =
+    callStep-cases t R c (λ (o : Outcome). Supported m (o .left)) (λ z p. accepted-under t m rule rule′ below R c p f s) (λ n. s)
+
 pub callStep-supported : (t : List ℤ) → TableRule t → (R : Register) (c : Call) → WellFormed R → Supported t R → Supported t (callStep t R c .left)
-callStep-supported t rule R c f s = callStep-cases t R c (λ (o : Outcome). Supported t (o .left)) (λ z p. accepted-supported t rule R c p f s) (λ n. s)
+callStep-supported t rule = callStep-under t t rule rule (Below-refl t)
 
 pub callStep-refused : (t : List ℤ) (R : Register) (c : Call) (n : ℕ) → refusalOf t R c ≡ n → n ≢ 0 → callStep t R c ≡ refused n R
 callStep-refused t R c n e k = callStep-cases t R c (λ (o : Outcome). o ≡ refused n R) (λ z p. absurd (k (sym e ∙ z))) (λ m. ap (λ (x : ℕ). refused x R) e)

@@ -4,6 +4,7 @@ pub mod Table
 pub mod Signed
 pub mod Chains
 pub mod Reach
+pub mod Tables
 pub mod AtMost
 pub mod Support
 pub mod Rounds

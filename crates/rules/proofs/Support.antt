@@ -1,4 +1,5 @@
--- Support: reach and what a delegation is allowed rise with the register, and a weight is allowed exactly where a chain carries it. No other proof but a computed example rests on the
+-- Support: reach and what a delegation is allowed rise with the register, a weight is allowed exactly where a chain carries it, and what is supported under one table is so under
+-- every table that lets a right fall no faster. No other proof but a computed example rests on the
 -- text of `allowed` and `Carried`. Assumes nothing.
 use mathlib.Core.Path.{_≡_, refl, sym, ap, subst, _∙_}
 use mathlib.Core.Logic.{_⊎_, inl, inr}
@@ -11,16 +12,17 @@ use lib.ListN.{getD}
 use lib.IntN.{ℤ, pos}
 use Rattle.rules.specs.List.{_∈_, Distinct}
 use Rattle.rules.specs.Limit.{none, code, _≼_}
-use Rattle.rules.specs.Table.{next, TableRule}
+use Rattle.rules.specs.Table.{next, TableRule, Below}
 use Rattle.rules.specs.Register.{Delegation, Register, marksOf, reweigh}
 use Rattle.rules.specs.Condition.{meets}
 use Rattle.rules.specs.Chain.{Linked, receivers, limitFrom, limit, IsChain}
 use Rattle.rules.specs.Reach.{reach}
-use Rattle.rules.specs.Support.{allowed, Carried}
+use Rattle.rules.specs.Support.{allowed, Carried, Supported}
 use Rattle.rules.specs.Remainder.{AtMost, Within}
 use Rattle.rules.proofs.AtMost.{at-giver, at-receiver, at-meets}
 use Rattle.rules.proofs.Limits.{next-mono, next-top}
 use Rattle.rules.proofs.Reach.{reach-bound, reach-attained}
+use Rattle.rules.proofs.Tables.{chain-under}
 
 module _ (t : List ℤ) where
   -- what counts for a delegation is the reach of its pair
@@ -150,3 +152,12 @@ module _ (t : List ℤ) (rule : TableRule t) where
   pub carried-mono : (F G : Register) (d : Delegation) → Within F G → Carried t F d → Carried t G d
   unfolding Carried
   carried-mono F G d w c = let (es, k, up) = chain-mono F G (d .giver) (d .receiver) w (c .0) (c .1) in (es, k, le-trans (c .2) up)
+
+-- ── two tables: m lets a right fall no faster than t ──
+module _ (t m : List ℤ) (rule : TableRule m) (below : Below t m) where
+  pub carried-under : (R : Register) (d : Delegation) → Carried t R d → Carried m R d
+  unfolding Carried
+  carried-under R d (ds, c, h) = let (k, up) = chain-under t m rule below R (d .giver) (d .receiver) ds c in (ds, k, le-trans h up)
+
+  pub supported-under : (R : Register) → Supported t R → Supported m R
+  supported-under R s d i = carried-under R d (s d i)

@@ -1,14 +1,18 @@
--- P1 to P8 of document 01 ('Register examples'), as lists of calls with what document 01 says comes out. Assumes nothing.
+-- P1 to P8 of document 01 ('Register examples'), as lists of calls with what document 01 says comes out; and a list in which the step table changes from call to call. Assumes nothing.
+use mathlib.Core.Bool.{cond}
 use mathlib.Core.List.{List, [], _∷_, _++_, map}
-use Prim.Native.Nat.{ℕ}
+use Prim.Native.Nat.{ℕ, zero, suc}
+use lib.Dec.{eqb}
 use lib.ListN.{length, take, drop, replicate}
 use lib.IntN.{ℤ, pos}
+use Rattle.rules.specs.List.{tabulate}
 use Rattle.rules.specs.Limit.{none}
 use Rattle.rules.specs.Table.{steps}
 use Rattle.rules.specs.Register.{Delegation, granted}
-use Rattle.rules.specs.Call.{Call, enrol, grant, revoke, downgrade, askReach, askUse}
-use Rattle.rules.specs.CallStep.{Outcome}
-use Rattle.rules.specs.History.{trace}
+use Rattle.rules.specs.Call.{Call, enrol, grant, revoke, downgrade, askReach, askUse, fresh}
+use Rattle.rules.specs.CallStep.{Outcome, callStep}
+use Rattle.rules.specs.Trace.{traceFrom}
+use Rattle.rules.specs.History.{leftBy, trace}
 
 -- an outcome as the program prints it: refusal and three answers
 pub record Line : Type 0 where
@@ -44,11 +48,13 @@ pub record Shown : Type 0 where
   pub printed : List Line
   pub standing : List Delegation
 
+-- of the outcomes of a list: the refusals of the first n, the lines of the others, and what stands at the end
+abbrev pub shown : ℕ → List Outcome → Shown
+shown n os = record { refusals = map (λ o. o .refusal) (take n os); printed = map lineOf (drop n os); standing = lastLeft os }
+
 -- what the definitions make of an example, and what the document says of it
 abbrev pub computed : Example → Shown
-computed e =
-    let os = trace steps (e .given ++ e .calls) in
-    record { refusals = map (λ o. o .refusal) (take (length (e .given)) os); printed = map lineOf (drop (length (e .given)) os); standing = lastLeft os }
+computed e = shown (length (e .given)) (trace steps (e .given ++ e .calls))
 
 abbrev pub said : Example → Shown
 said e = record { refusals = replicate (length (e .given)) 0; printed = e .printed; standing = e .standing }
@@ -154,3 +160,33 @@ orders =
     ∷ (askUse 5, 9)
     ∷ (enrol 65536, 4)
     ∷ []
+
+-- ── another step table: each call goes by the one lent to it ──
+
+-- falls by two: entries 0 and 1 are -1, entry n is n - 2 for 2 to 254, entry 255 is 255
+unfoldable pub two : ℕ → ℤ
+two zero = none
+two (suc zero) = none
+two (suc (suc n)) = cond (eqb n 253) (pos 255) (pos n)
+
+unfoldable pub twos : List ℤ
+twos = tabulate two 0 256
+
+-- the outcomes of a list of calls, each with its table
+abbrev pub lentTrace : List (List ℤ × Call) → List Outcome
+lentTrace cs = traceFrom (λ R c. callStep (c .0) R (c .1)) leftBy fresh cs
+
+-- granted by our table
+abbrev pub twos-given : List Call
+twos-given = enrol 0 ∷ enrol 0 ∷ enrol 0 ∷ enrol 0 ∷ plain 0 1 9 ∷ plain 1 2 8 ∷ plain 2 3 6 ∷ plain 0 4 1 ∷ []
+
+-- 0-4, which holds nothing up, is revoked by the table t; then the reach of 2 and 3 by each table
+abbrev pub twos-computed : List ℤ → Shown
+twos-computed t = shown 8 (lentTrace (map (λ c. (steps, c)) twos-given ++ ((t, revoke 0 0 4) ∷ (twos, askReach 2 3) ∷ (steps, askReach 2 3) ∷ [])))
+
+abbrev pub twos-shown : (lowered rounds byTwos byOurs : ℕ) → List Delegation → Shown
+twos-shown l n a b ds = record { refusals = replicate 8 0; printed = line 0 (pos 0) (pos l) (pos n) ∷ one (pos a) ∷ one (pos b) ∷ []; standing = ds }
+
+-- what comes out, t being ours and twos: the cut by twos lowers what twos does not support
+abbrev pub twos-said : List Shown
+twos-said = twos-shown 0 1 5 7 (entry 0 1 9 ∷ entry 1 2 8 ∷ entry 2 3 6 ∷ []) ∷ twos-shown 2 2 5 6 (entry 0 1 9 ∷ entry 1 2 7 ∷ entry 2 3 5 ∷ []) ∷ []

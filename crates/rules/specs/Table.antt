@@ -44,6 +44,10 @@ ruled i p (x ∷ xs) = fits i p x && ruled (suc i) x xs
 abbrev pub tableTest : List ℤ → Bool
 tableTest t = eqb (length t) 256 && ruled 0 none t
 
+-- m lets a right fall no faster than t
+abbrev pub Below : List ℤ → List ℤ → Type 0
+Below t m = (w : ℕ) → w < 256 → entry t w ≼ entry m w
+
 -- document 01's own table: entry 0 is -1, entry n is n - 1 for 1 to 254, entry 255 is 255
 unfoldable pub step : ℕ → ℤ
 step zero = none
