@@ -1,2 +1,4 @@
 pub mod Rule
 pub mod Right
+pub mod Lines
+pub mod Entries

@@ -1,7 +1,67 @@
 // The step table that a host lends as text.
+ghost use mathlib.Core.Path.{_≡_};
+ghost use Prim.Native.Nat.{_≤_};
+ghost use lib.ListN.{length};
+ghost use Rattle.text.specs.Read.{noValue};
+ghost use Rattle.steptable.specs.Read.{EntryRead, EntriesRead};
 
 // The refusal of a text, 0 where it passes, and the table that is used: ours for a refused text.
 pub struct Given {
     pub refusal: u32,
     pub steps: [i16; 256],
+}
+
+// The line of names.
+const NAMES_SIZE: usize = 12;
+
+fn no_entry() -> text::Value
+    ensures { λ r. ⌜ r ≡ noValue ⌝ }
+{
+    text::Value {
+        value: 0,
+        next: 0,
+        found: false,
+    }
+}
+
+// The next of a weight, from the line at `at`. Only -1 has a sign.
+fn read_entry(text: &[u8], at: usize, weight: u32) -> text::Value
+    requires { ⌜ weight ≤ 255 ⌝ }
+    ensures { λ r. ⌜ EntryRead (now (text .entry)) at weight r ⌝ }
+{
+    let w = text::read_number(text, at, text::SPACE);
+    if !w.found {
+        return no_entry();
+    }
+    if w.value != weight {
+        return no_entry();
+    }
+    let next = text::read_value(text, w.next, text::LINE_END, true);
+    if next.value < -1 {
+        return no_entry();
+    }
+    next
+}
+
+// The entries of the table whose text this is: the names, a line for each weight in order, and nothing after them.
+fn read_entries(text: &[u8], entries: &mut [i64]) -> bool
+    requires { ⌜ length (now entries) ≡ 256 ⌝ }
+    ensures { λ r. ⌜ EntriesRead (now (text .entry)) r (now (entries .exit)) ⌝ }
+{
+    if !text::begins_with(text, b"weight next\n") {
+        return false;
+    }
+    let mut at = NAMES_SIZE;
+    let mut w: usize = 0;
+    while w < 256 {
+        let entry = read_entry(text, at, w as u32);
+        if !entry.found {
+            return false;
+        }
+        let next = entry.value;
+        entries[w] = next;
+        at = entry.next;
+        w += 1;
+    }
+    at >= text.len()
 }
