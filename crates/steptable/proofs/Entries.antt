@@ -22,7 +22,7 @@ use Rattle.steptable.specs.TableText.{tableNames, entryLine, tableLines,
 use Rattle.steptable.specs.Read.{EntryRead, EntriesRead}
 
 -- ── entries ──
-entry-at : (xs : List ℤ) (i : ℕ) → i < length xs → AllEntries xs → Entry (getD xs i (pos 0))
+pub entry-at : (xs : List ℤ) (i : ℕ) → i < length xs → AllEntries xs → Entry (getD xs i (pos 0))
 entry-at [] i h a = absurd (not-suc-le-zero h)
 entry-at (x ∷ xs) zero h a = a .0
 entry-at (x ∷ xs) (suc i) h a = entry-at xs i (le-of-suc-le-suc h) (a .1)

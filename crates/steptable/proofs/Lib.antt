@@ -2,3 +2,4 @@ pub mod Rule
 pub mod Right
 pub mod Lines
 pub mod Entries
+pub mod Making

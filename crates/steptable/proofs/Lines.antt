@@ -36,7 +36,7 @@ not-low (pos n) e = tt
 not-low (negsuc zero) e = tt
 not-low (negsuc (suc n)) e = clash (sym e ∙ lt-ltb 0 (suc n) (omega arith))
 
-held : (x : ℤ) → Allowed true x → toZ w64 (ofZ w64 x) ≡ x
+pub held : (x : ℤ) → Allowed true x → toZ w64 (ofZ w64 x) ≡ x
 held x a = kept x (allowed-fits true x a)
 
 -- ── the line ──

@@ -3,7 +3,9 @@ ghost use mathlib.Core.Path.{_≡_};
 ghost use Prim.Native.Nat.{_≤_};
 ghost use lib.ListN.{length};
 ghost use Rattle.text.specs.Read.{noValue};
-ghost use Rattle.steptable.specs.Read.{EntryRead, EntriesRead};
+ghost use Rattle.rules.specs.Table.{fits};
+ghost use Rattle.steptable.specs.TableText.{Entry, AllEntries};
+ghost use Rattle.steptable.specs.Read.{EntryRead, EntriesRead, TableMade};
 
 // The refusal of a text, 0 where it passes, and the table that is used: ours for a refused text.
 pub struct Given {
@@ -64,4 +66,37 @@ fn read_entries(text: &[u8], entries: &mut [i64]) -> bool
         w += 1;
     }
     at >= text.len()
+}
+
+// A next may stand at a weight: not below the next before it, and below the weight, but 255 may keep 255.
+fn keeps(weight: usize, before: i64, next: i64) -> bool
+    requires { ⌜ (weight ≤ 255) × Entry before × Entry next ⌝ }
+    ensures { λ r. ⌜ r ≡ fits weight before next ⌝ }
+{
+    if next < before {
+        return false;
+    }
+    if weight == 255 {
+        return next <= 255;
+    }
+    next < weight as i64
+}
+
+// The table of these entries, where they keep the rule.
+fn table_of(entries: &[i64], table: &mut [i16]) -> bool
+    requires { ⌜ (length (now entries) ≡ 256) × (length (now table) ≡ 256) × AllEntries (now entries) ⌝ }
+    ensures { λ r. ⌜ TableMade (now (entries .entry)) r (now (table .exit)) ⌝ }
+{
+    let mut before: i64 = -1;
+    let mut w: usize = 0;
+    while w < 256 {
+        let next = entries[w];
+        if !keeps(w, before, next) {
+            return false;
+        }
+        table[w] = next as i16;
+        before = next;
+        w += 1;
+    }
+    true
 }
