@@ -1,6 +1,5 @@
 -- The lines of a table's text read one by one. Assumes nothing.
-use mathlib.Core.Path.{_≡_, refl, sym, ap, subst, _∙_}
-use mathlib.Core.Logic.{_≢_}
+use mathlib.Core.Path.{_≡_, sym, ap, subst, _∙_}
 use mathlib.Core.Bool.{Bool, true, false}
 use mathlib.Core.List.{List, [], _∷_, _++_, append-assoc, append-nil}
 use Prim.Native.Nat.{ℕ, zero, suc, _+_, _≤_, _<_}
@@ -18,7 +17,7 @@ use Rattle.text.specs.Read.{Begins}
 use Rattle.text.specs.declared.Value.{Value}
 use Rattle.text.proofs.Reading.{clash}
 use Rattle.text.proofs.Signed.{kept, allowed-fits}
-use Rattle.steptable.specs.TableText.{tableNames, entryLine, tableLines, tableText, Entry, AllEntries, Holds}
+use Rattle.steptable.specs.TableText.{tableNames, entryLine, tableLines, Entry, AllEntries, Holds}
 use Rattle.steptable.specs.Read.{EntryRead, EntriesRead}
 
 -- ── entries ──

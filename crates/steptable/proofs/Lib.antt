@@ -3,3 +3,4 @@ pub mod Right
 pub mod Lines
 pub mod Entries
 pub mod Making
+pub mod Whole

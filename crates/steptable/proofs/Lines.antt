@@ -1,19 +1,19 @@
 -- One line of a table's text: its weight, then its next. Assumes nothing.
-use mathlib.Core.Path.{_≡_, refl, sym, ap, subst, _∙_}
+use mathlib.Core.Path.{_≡_, sym, ap, _∙_}
 use mathlib.Core.Logic.{_≢_}
-use mathlib.Core.Bool.{Bool, true, false}
+use mathlib.Core.Bool.{true, false}
 use mathlib.Core.List.{List, [], _∷_, _++_}
 use Prim.Native.Nat.{ℕ, zero, suc, _≤_}
 use native.Mathlib.Omega.{arith}
-use borrow.Author.Tests.{ltb-true, ltb-false, lt-ltb}
-use lib.Dec.{T, ltb}
+use borrow.Author.Tests.{ltb-true, lt-ltb}
+use lib.Dec.{T}
 use lib.IntN.{ℤ, pos, negsuc}
 use lib.Signed.{ltZ}
 use lib.ListN.{drop}
 use mir.Syntax.{w64}
 use mir.Val.{ofZ, toZ}
 use Rattle.rules.specs.Limit.{none, fromNone}
-use Rattle.text.specs.Text.{digits, number, line, Allowed}
+use Rattle.text.specs.Text.{digits, number, Allowed}
 use Rattle.text.specs.Read.{noValue, NumberRead, ValueRead}
 use Rattle.text.specs.declared.Number.{Number}
 use Rattle.text.specs.declared.Value.{Value}
@@ -71,8 +71,7 @@ module _ (text : List ℕ) (at w : ℕ) (h : w ≤ 255) (n : Number) (m : Number
         read : v .found ≡ true → Entry (v .value) × (drop at text ≡ entryLine w (v .value) ++ drop (v .next) text)
         read t =
             let a = q .read t in
-            let b = m .read f in
-            (
+            let b = m .read f in (
               (a .0, not-low (v .value) (sym (ap (λ (z : ℤ). ltZ z none) (held (v .value) (a .0))) ∙ l)),
               b .2 ∙ (λ i. digits (g i) ++ (32 ∷ a .2 i)) ∙ sym (entry-spelt w (v .value) (drop (v .next) text)),
             )

@@ -1,23 +1,23 @@
 -- What is given with a text is fixed by the texts of tables alone, and always keeps the rule. Assumes nothing.
 use mathlib.Core.Path.{_≡_, refl, sym, ap, subst, _∙_}
 use mathlib.Core.Logic.{_≢_}
-use mathlib.Core.Bool.{Bool, true, false, cond, _&&_}
+use mathlib.Core.Bool.{Bool, true, false, _&&_}
 use mathlib.Core.List.{List, [], _∷_, _++_, map}
-use Prim.Native.Nat.{ℕ, zero, suc, _+_, _≤_, _<_}
+use Prim.Native.Nat.{ℕ, zero, suc, _+_}
 use native.Mathlib.Omega.{arith}
-use borrow.Author.Tests.{le-leb, leb-true}
+use borrow.Author.Tests.{le-leb}
 use lib.Dec.{T, leb, eqb, leb→le, eqb→eq, eqb-refl}
 use lib.ListN.{length, getD, drop}
 use lib.IntN.{ℤ, pos, negsuc}
 use Rattle.rules.specs.Limit.{none, code, fromNone}
 use Rattle.rules.specs.Table.{TableRule, tableTest, steps}
-use Rattle.rules.proofs.Lists.{T-left, T-right, T-both, T-true, yes, clash, eq→eqb}
+use Rattle.rules.proofs.Lists.{T-left, T-right, T-both, T-true, yes, eq→eqb}
 use Rattle.rules.proofs.Table.{tableRule, steps-rule}
-use Rattle.text.specs.Text.{line, most, Allowed}
+use Rattle.text.specs.Text.{most}
 use Rattle.text.specs.Rows.{rows}
 use Rattle.text.proofs.Rows.{rows-line}
 use Rattle.steptable.specs.declared.Given.{Given}
-use Rattle.steptable.specs.TableText.{tableNames, entryLine, tableLines, tableText, Entry, AllEntries, Holds, passing, ours, refusedText, nextsOf, equal, allEntries, holds, verdict, given, GivenRight}
+use Rattle.steptable.specs.TableText.{tableNames, tableLines, tableText, Entry, AllEntries, Holds, refusedText, nextsOf, equal, allEntries, holds, verdict, given, GivenRight}
 use Rattle.steptable.proofs.Rule.{rule-test}
 
 -- ── the test of a text ──

@@ -4,8 +4,9 @@ ghost use Prim.Native.Nat.{_≤_};
 ghost use lib.ListN.{length};
 ghost use Rattle.text.specs.Read.{noValue};
 ghost use Rattle.rules.specs.Table.{fits};
-ghost use Rattle.steptable.specs.TableText.{Entry, AllEntries};
+ghost use Rattle.steptable.specs.TableText.{Entry, AllEntries, refusedText, given};
 ghost use Rattle.steptable.specs.Read.{EntryRead, EntriesRead, TableMade};
+use rules::refusal;
 
 // The refusal of a text, 0 where it passes, and the table that is used: ours for a refused text.
 pub struct Given {
@@ -99,4 +100,30 @@ fn table_of(entries: &[i64], table: &mut [i16]) -> bool
         w += 1;
     }
     true
+}
+
+// Our table, with a refusal or 0.
+fn with_ours(refusal: u32) -> Given
+    ensures { λ r. ⌜ r ≡ refusedText refusal ⌝ }
+{
+    let steps = rules::steps();
+    Given { refusal, steps }
+}
+
+// The table of a text, ours for an empty one. A text of another form is refused with 7, a table that breaks a rule with 17.
+pub fn read_table(text: &[u8]) -> Given
+    ensures { λ r. ⌜ r ≡ given (now (text .entry)) ⌝ }
+{
+    if text.len() == 0 {
+        return with_ours(0);
+    }
+    let mut entries = [0i64; 256];
+    if !read_entries(text, &mut entries) {
+        return with_ours(refusal::MALFORMED);
+    }
+    let mut steps = [0i16; 256];
+    if !table_of(&entries, &mut steps) {
+        return with_ours(refusal::BAD_TABLE);
+    }
+    Given { refusal: 0, steps }
 }

@@ -1,5 +1,5 @@
 -- A text cut at byte 10 into lines and each line at byte 32 into parts, a part taken for a number. It accepts nothing and refuses nothing: what is found is to be written again and compared. Assumes nothing.
-use mathlib.Core.Bool.{Bool, true, false, cond}
+use mathlib.Core.Bool.{cond}
 use mathlib.Core.List.{List, [], _∷_, map}
 use Prim.Native.Nat.{ℕ, _+_, _*_, _-_}
 use lib.Dec.{eqb}

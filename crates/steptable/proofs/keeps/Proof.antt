@@ -3,8 +3,6 @@ use Rattle.steptable.proofs.Making.{keeps-not, keeps-last, keeps-below}
 use borrow.Author.Needs.{needs}
 use Rattle.steptable.proofs.keeps.Statement.{statement}
 use Rattle.steptable.proofs.keeps.Tie as tie
-use Rattle.steptable.proofs.keeps.Reads as reads
-use Rattle.steptable.proofs.keeps.Lts as lts
 
 returns : tie.Need-returns
 returns c =

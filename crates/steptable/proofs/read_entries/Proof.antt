@@ -9,10 +9,6 @@ use Rattle.steptable.specs.TableText.{tableNames}
 use Rattle.steptable.proofs.Entries.{Reading, no-names, names, lines-end, no-line, value-held, line-more}
 use Rattle.steptable.proofs.read_entries.Statement.{statement}
 use Rattle.steptable.proofs.read_entries.Tie as tie
-use Rattle.steptable.proofs.read_entries.Reads as reads
-use Rattle.steptable.proofs.read_entries.Lts as lts
-use Rattle.steptable.proofs.read_entry.Reads as read-entry-reads
-use Rattle.text.proofs.begins_with.Reads as begins-with-reads
 
 abbrev Inv-loop : tie.InvT-loop
 Inv-loop text entries₀ at₀ w₀ entries at w = Reading text at w entries

@@ -4,11 +4,6 @@ use Rattle.steptable.proofs.Lines.{no-weight, other-weight, next-low, n
 use borrow.Author.Needs.{needs}
 use Rattle.steptable.proofs.read_entry.Statement.{statement}
 use Rattle.steptable.proofs.read_entry.Tie as tie
-use Rattle.steptable.proofs.read_entry.Reads as reads
-use Rattle.steptable.proofs.read_entry.Lts as lts
-use Rattle.steptable.proofs.no_entry.Reads as no-entry-reads
-use Rattle.text.proofs.read_number.Reads as read-number-reads
-use Rattle.text.proofs.read_value.Reads as read-value-reads
 
 read-number-requires : tie.Need-read-number-requires
 read-number-requires c κs = search needs

@@ -8,9 +8,6 @@ use borrow.Author.Needs.{needs}
 use Rattle.steptable.proofs.Making.{Making, making-start, making-end, making-entry, making-not, making-fits, making-more}
 use Rattle.steptable.proofs.table_of.Statement.{statement}
 use Rattle.steptable.proofs.table_of.Tie as tie
-use Rattle.steptable.proofs.table_of.Reads as reads
-use Rattle.steptable.proofs.table_of.Lts as lts
-use Rattle.steptable.proofs.keeps.Reads as keeps-reads
 
 abbrev Inv-loop : tie.InvT-loop
 Inv-loop entries table₀ before₀ w₀ table before w = Making entries (toZ w64 before) w table
