@@ -32,17 +32,17 @@ abbrev pub tableText : List ℤ → List ℕ
 tableText t = tableNames ++ tableLines 0 t
 
 -- a number that may stand as a next: only -1 has a sign
-abbrev pub Entry : ℤ → Type 0
-Entry x = Allowed true x × T (fromNone x)
+abbrev pub Writable : ℤ → Type 0
+Writable x = Allowed true x × T (fromNone x)
 
-abbrev pub AllEntries : List ℤ → Type 0
-AllEntries [] = Unit {0}
-AllEntries (x ∷ xs) = Entry x × AllEntries xs
+abbrev pub AllWritable : List ℤ → Type 0
+AllWritable [] = Unit {0}
+AllWritable (x ∷ xs) = Writable x × AllWritable xs
 
 -- the text is that of the table t
 pub record Holds (text : List ℕ) (t : List ℤ) : Type 0 where
   pub size : length t ≡ 256
-  pub entries : AllEntries t
+  pub entries : AllWritable t
   pub same : text ≡ tableText t
 
 -- ── what is given with a text ──
@@ -68,13 +68,13 @@ equal [] (b ∷ s) = false
 equal (a ∷ r) [] = false
 equal (a ∷ r) (b ∷ s) = eqb a b && equal r s
 
-abbrev pub allEntries : List ℤ → Bool
-allEntries [] = true
-allEntries (x ∷ xs) = (fromNone x && leb (code x) (suc most)) && allEntries xs
+abbrev pub allWritable : List ℤ → Bool
+allWritable [] = true
+allWritable (x ∷ xs) = (fromNone x && leb (code x) (suc most)) && allWritable xs
 
 -- the test of Holds
 unfoldable pub holds : List ℕ → List ℤ → Bool
-holds text t = eqb (length t) 256 && (allEntries t && equal text (tableText t))
+holds text t = eqb (length t) 256 && (allWritable t && equal text (tableText t))
 
 -- by whether the text is a table's, and whether that keeps the rule
 abbrev pub verdict : Bool → Bool → List ℤ → Given

@@ -4,7 +4,7 @@ ghost use Prim.Native.Nat.{_≤_};
 ghost use lib.ListN.{length};
 ghost use Rattle.text.specs.Read.{noValue};
 ghost use Rattle.rules.specs.Table.{fits};
-ghost use Rattle.steptable.specs.TableText.{Entry, AllEntries, refusedText, given};
+ghost use Rattle.steptable.specs.TableText.{Writable, AllWritable, refusedText, given};
 ghost use Rattle.steptable.specs.Read.{EntryRead, EntriesRead, TableMade};
 use rules::refusal;
 
@@ -71,7 +71,7 @@ fn read_entries(text: &[u8], entries: &mut [i64]) -> bool
 
 // A next may stand at a weight: not below the next before it, and below the weight, but 255 may keep 255.
 fn keeps(weight: usize, before: i64, next: i64) -> bool
-    requires { ⌜ (weight ≤ 255) × Entry before × Entry next ⌝ }
+    requires { ⌜ (weight ≤ 255) × Writable before × Writable next ⌝ }
     ensures { λ r. ⌜ r ≡ fits weight before next ⌝ }
 {
     if next < before {
@@ -85,7 +85,7 @@ fn keeps(weight: usize, before: i64, next: i64) -> bool
 
 // The table of these entries, where they keep the rule.
 fn table_of(entries: &[i64], table: &mut [i16]) -> bool
-    requires { ⌜ (length (now entries) ≡ 256) × (length (now table) ≡ 256) × AllEntries (now entries) ⌝ }
+    requires { ⌜ (length (now entries) ≡ 256) × (length (now table) ≡ 256) × AllWritable (now entries) ⌝ }
     ensures { λ r. ⌜ TableMade (now (entries .entry)) r (now (table .exit)) ⌝ }
 {
     let mut before: i64 = -1;
