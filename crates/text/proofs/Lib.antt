@@ -7,4 +7,5 @@ pub mod Writing
 pub mod Bytes
 pub mod Injective
 pub mod Sizes
+pub mod Rows
 pub mod Examples

@@ -3,3 +3,4 @@ pub mod Read
 pub mod Write
 pub mod Bytes
 pub mod Examples
+pub mod Rows

@@ -1,0 +1,6 @@
+pub mod Rule
+pub mod Right
+pub mod Lines
+pub mod Entries
+pub mod Making
+pub mod Whole
