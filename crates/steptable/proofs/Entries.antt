@@ -17,16 +17,16 @@ use Rattle.text.specs.Read.{Begins}
 use Rattle.text.specs.declared.Value.{Value}
 use Rattle.text.proofs.Reading.{clash}
 use Rattle.text.proofs.Signed.{kept, allowed-fits}
-use Rattle.steptable.specs.TableText.{tableNames, entryLine, tableLines, Writable, AllWritable, Holds}
+use Rattle.steptable.specs.TableText.{tableNames, entryLine, tableLines, IsNext, AreNexts, Holds}
 use Rattle.steptable.specs.Read.{EntryRead, EntriesRead}
 
 -- ── entries ──
-pub entry-at : (xs : List ℤ) (i : ℕ) → i < length xs → AllWritable xs → Writable (getD xs i (pos 0))
+pub entry-at : (xs : List ℤ) (i : ℕ) → i < length xs → AreNexts xs → IsNext (getD xs i (pos 0))
 entry-at [] i h a = absurd (not-suc-le-zero h)
 entry-at (x ∷ xs) zero h a = a .0
 entry-at (x ∷ xs) (suc i) h a = entry-at xs i (le-of-suc-le-suc h) (a .1)
 
-entries-more : (xs : List ℤ) (x : ℤ) → AllWritable xs → Writable x → AllWritable (xs ++ (x ∷ []))
+entries-more : (xs : List ℤ) (x : ℤ) → AreNexts xs → IsNext x → AreNexts (xs ++ (x ∷ []))
 entries-more [] x a e = (e, tt)
 entries-more (y ∷ ys) x a e = (a .0, entries-more ys x (a .1) e)
 
@@ -41,7 +41,7 @@ lines-more w (y ∷ ys) x =
 pub record Reading (text : List ℕ) (at w : ℕ) (entries : List ℤ) : Type 0 where
   pub long : length entries ≡ 256
   pub count : w ≤ 256
-  pub good : AllWritable (take w entries)
+  pub good : AreNexts (take w entries)
   pub front : text ≡ tableNames ++ (tableLines 0 (take w entries) ++ drop at text)
   pub rest : (t : List ℤ) → Holds text t → drop at text ≡ tableLines w (drop w t)
 
@@ -71,7 +71,7 @@ module _ (text : List ℕ) where
         record {
           yes = λ f. record {
             size = r .long;
-            entries = subst AllWritable q (r .good);
+            entries = subst AreNexts q (r .good);
             same = r .front ∙ (λ i. tableNames ++ (tableLines 0 (q i) ++ n i)) ∙ ap (λ (s : List ℕ). tableNames ++ s) (append-nil (tableLines 0 entries));
           };
           no = λ f. clash (sym f);
@@ -119,7 +119,7 @@ module _ (text : List ℕ) where
             subst (λ (n : ℕ). Reading text (v .next) n (set entries w (v .value))) (sym (add-one w)) record {
               long = k ∙ r .long;
               count = omega arith;
-              good = subst AllWritable (sym q) (entries-more (take w entries) (v .value) (r .good) (g .0));
+              good = subst AreNexts (sym q) (entries-more (take w entries) (v .value) (r .good) (g .0));
               front =
                   r .front
                   ∙ ap (λ (s : List ℕ). tableNames ++ (tableLines 0 (take w entries) ++ s)) (g .1)

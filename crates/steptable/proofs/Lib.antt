@@ -1,4 +1,3 @@
-pub mod Rule
 pub mod Right
 pub mod Lines
 pub mod Entries

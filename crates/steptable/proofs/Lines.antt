@@ -20,7 +20,7 @@ use Rattle.text.specs.declared.Value.{Value}
 use Rattle.text.proofs.Reading.{clash}
 use Rattle.text.proofs.Signed.{kept, allowed-fits}
 use Rattle.text.proofs.Lines.{line-cons}
-use Rattle.steptable.specs.TableText.{entryLine, Writable}
+use Rattle.steptable.specs.TableText.{entryLine, IsNext}
 use Rattle.steptable.specs.Read.{EntryRead}
 
 -- ── the sign ──
@@ -44,7 +44,7 @@ pub entry-spelt : (w : ℕ) (x : ℤ) (rest : List ℕ) → entryLine w x ++ res
 entry-spelt w x rest = line-cons (pos w) (x ∷ []) rest ∙ ap (λ (s : List ℕ). digits w ++ (32 ∷ s)) (line-cons x [] rest)
 
 module _ (text : List ℕ) (at w : ℕ) (h : w ≤ 255) (n : Number) (m : NumberRead text at 32 n) where
-  none-read : (r : Value) → r ≡ noValue → ((x : ℤ) (rest : List ℕ) → Writable x → drop at text ≡ entryLine w x ++ rest → ⊥) → EntryRead text at w r
+  none-read : (r : Value) → r ≡ noValue → ((x : ℤ) (rest : List ℕ) → IsNext x → drop at text ≡ entryLine w x ++ rest → ⊥) → EntryRead text at w r
   none-read r q f = record { read = λ t. clash (sym (ap (λ (x : Value). x .found) q) ∙ t); each = λ x rest e d. absurd (f x rest e d) }
 
   onward : (x : ℤ) (rest : List ℕ) → drop at text ≡ entryLine w x ++ rest → (n .found ≡ true) × (n .value ≡ w) × (drop (n .next) text ≡ number x ++ (10 ∷ rest))
@@ -60,7 +60,7 @@ module _ (text : List ℕ) (at w : ℕ) (h : w ≤ 255) (n : Number) (m : Number
     pub next-low : (r : Value) → ltZ (toZ w64 (ofZ w64 (v .value))) none ≡ true → r ≡ noValue → EntryRead text at w r
     next-low r l p = none-read r p never
       where
-        never : (x : ℤ) (rest : List ℕ) → Writable x → drop at text ≡ entryLine w x ++ rest → ⊥
+        never : (x : ℤ) (rest : List ℕ) → IsNext x → drop at text ≡ entryLine w x ++ rest → ⊥
         never x rest e d =
             let g = q .each x rest (e .0) (onward x rest d .2) in
             low x (sym (ap (λ (z : ℤ). ltZ z none) (ap (λ (z : ℤ). toZ w64 (ofZ w64 z)) (g .1) ∙ held x (e .0))) ∙ l) (e .1)
@@ -68,7 +68,7 @@ module _ (text : List ℕ) (at w : ℕ) (h : w ≤ 255) (n : Number) (m : Number
     pub next-there : n .found ≡ true → n .value ≡ w → ltZ (toZ w64 (ofZ w64 (v .value))) none ≡ false → EntryRead text at w v
     next-there f g l = record { read = read; each = λ x rest e d. q .each x rest (e .0) (onward x rest d .2) }
       where
-        read : v .found ≡ true → Writable (v .value) × (drop at text ≡ entryLine w (v .value) ++ drop (v .next) text)
+        read : v .found ≡ true → IsNext (v .value) × (drop at text ≡ entryLine w (v .value) ++ drop (v .next) text)
         read t =
             let a = q .read t in
             let b = m .read f in (

@@ -18,7 +18,7 @@ use mir.Facts.{toZ-ofZ, toZ-pos}
 use Rattle.rules.specs.Limit.{none, code, fromNone}
 use Rattle.rules.specs.Table.{fits, ruled, tableTest}
 use Rattle.rules.proofs.Lists.{clash, T-right, T-true, yes}
-use Rattle.steptable.specs.TableText.{Writable, AllWritable}
+use Rattle.steptable.specs.TableText.{IsNext, AreNexts}
 use Rattle.steptable.specs.Read.{TableMade}
 use Rattle.steptable.proofs.Lines.{held}
 use Rattle.steptable.proofs.Entries.{entry-at}
@@ -42,7 +42,7 @@ below-code (pos n) w = refl
 below-code (negsuc n) w = sym (le-leb 0 w (omega arith))
 
 -- ── one entry ──
-module _ (w : ℕ) (p x : ℤ) (a : Writable p) (b : Writable x) where
+module _ (w : ℕ) (p x : ℤ) (a : IsNext p) (b : IsNext x) where
   less : ltZ (toZ w64 (ofZ w64 x)) (toZ w64 (ofZ w64 p)) ≡ ltb (code x) (code p)
   less = (λ i. ltZ (held x (b .0) i) (held p (a .0) i)) ∙ less-code x p (b .1) (a .1)
 
@@ -74,7 +74,7 @@ top-most : (b : Bool) (w : ℕ) → w < 256 → cond b 256 w ≤ 256
 top-most true w h = omega arith
 top-most false w h = omega arith
 
-fits-small : (w : ℕ) (p x : ℤ) → w < 256 → Writable x → fits w p x ≡ true → SFits w16 x
+fits-small : (w : ℕ) (p x : ℤ) → w < 256 → IsNext x → fits w p x ≡ true → SFits w16 x
 fits-small w p x h a e =
     let l = leb→le (code x) (cond (eqb w 255) 256 w) (T-right (fromNone x && leb (code p) (code x)) (leb (code x) (cond (eqb w 255) 256 w)) (yes e)) in
     small x (a .1) (omega (arith, l, top-most (eqb w 255) w h))
@@ -83,11 +83,11 @@ fits-small w p x h a e =
 pub record Making (entries : List ℤ) (before : ℤ) (w : ℕ) (table : List ℤ) : Type 0 where
   pub long : length table ≡ 256
   pub count : w ≤ 256
-  pub good : Writable before
+  pub good : IsNext before
   pub same : take w table ≡ take w entries
   pub on : ruled 0 none entries ≡ ruled w before (drop w entries)
 
-module _ (entries : List ℤ) (size : length entries ≡ 256) (all : AllWritable entries) where
+module _ (entries : List ℤ) (size : length entries ≡ 256) (all : AreNexts entries) where
   test-is : tableTest entries ≡ ruled 0 none entries
   test-is = ap (λ (b : Bool). b && ruled 0 none entries) (eq-eqb (length entries) 256 size)
 
@@ -108,14 +108,14 @@ module _ (entries : List ℤ) (size : length entries ≡ 256) (all : AllWritable
       abbrev next : ℤ
       next = getD entries w (pos 0)
 
-      next-entry : Writable next
+      next-entry : IsNext next
       next-entry = entry-at entries w (omega arith) all
 
       pub next-held : toZ w64 (ofZ w64 next) ≡ next
       next-held = held next (next-entry .0)
 
-      pub making-entry : Writable (toZ w64 (ofZ w64 next))
-      making-entry = subst Writable (sym next-held) next-entry
+      pub making-entry : IsNext (toZ w64 (ofZ w64 next))
+      making-entry = subst IsNext (sym next-held) next-entry
 
       here : ruled 0 none entries ≡ fits w before next && ruled (suc w) next (drop (suc w) entries)
       here = m .on ∙ ap (ruled w before) (drop-cons entries w (pos 0) (omega arith))

@@ -17,8 +17,8 @@ use Rattle.text.specs.Text.{most}
 use Rattle.text.specs.Rows.{rows}
 use Rattle.text.proofs.Rows.{rows-line}
 use Rattle.steptable.specs.declared.Given.{Given}
-use Rattle.steptable.specs.TableText.{tableNames, tableLines, tableText, Writable, AllWritable, Holds, refusedText, nextsOf, equal, allWritable, holds, verdict, given, GivenRight}
-use Rattle.steptable.proofs.Rule.{rule-test}
+use Rattle.steptable.specs.TableText.{tableNames, tableLines, tableText, IsNext, AreNexts, Holds, refusedText, nextsOf, equal, areNexts, holds, verdict, given, GivenRight}
+use Rattle.rules.proofs.Table.{rule-test}
 
 -- ── the test of a text ──
 equal-same : (s : List ℕ) → T (equal s s)
@@ -34,41 +34,41 @@ same-equal (a ∷ r) (b ∷ s) h =
     let q = same-equal r s (T-right (eqb a b) (equal r s) h) in
     λ i. p i ∷ q i
 
-entry-test : (x : ℤ) → Writable x → T (fromNone x && leb (code x) (suc most))
+entry-test : (x : ℤ) → IsNext x → T (fromNone x && leb (code x) (suc most))
 entry-test (pos n) e = T-both (fromNone (pos n)) (leb (suc n) (suc most)) (e .1) (yes (le-leb (suc n) (suc most) (omega (arith, e .0))))
 entry-test (negsuc n) e = T-both (fromNone (negsuc n)) (leb 0 (suc most)) (e .1) (yes (le-leb 0 (suc most) (omega arith)))
 
-test-entry : (x : ℤ) → T (fromNone x && leb (code x) (suc most)) → Writable x
+test-entry : (x : ℤ) → T (fromNone x && leb (code x) (suc most)) → IsNext x
 unfolding fromNone
 test-entry (pos n) h = (omega (arith, leb→le (suc n) (suc most) h), tt)
 test-entry (negsuc zero) h = (omega arith, tt)
 test-entry (negsuc (suc n)) h = absurd h
 
-entries-test : (t : List ℤ) → AllWritable t → T (allWritable t)
+entries-test : (t : List ℤ) → AreNexts t → T (areNexts t)
 entries-test [] a = tt
-entries-test (x ∷ xs) a = T-both (fromNone x && leb (code x) (suc most)) (allWritable xs) (entry-test x (a .0)) (entries-test xs (a .1))
+entries-test (x ∷ xs) a = T-both (fromNone x && leb (code x) (suc most)) (areNexts xs) (entry-test x (a .0)) (entries-test xs (a .1))
 
-test-entries : (t : List ℤ) → T (allWritable t) → AllWritable t
+test-entries : (t : List ℤ) → T (areNexts t) → AreNexts t
 test-entries [] h = tt
 test-entries (x ∷ xs) h =
     let a = fromNone x && leb (code x) (suc most) in
-    (test-entry x (T-left a (allWritable xs) h), test-entries xs (T-right a (allWritable xs) h))
+    (test-entry x (T-left a (areNexts xs) h), test-entries xs (T-right a (areNexts xs) h))
 
 module _ (text : List ℕ) (t : List ℤ) where
   holds-test : Holds text t → T (holds text t)
   unfolding holds
   holds-test h =
-      T-both (eqb (length t) 256) (allWritable t && equal text (tableText t)) (eq→eqb (h .size))
-      (T-both (allWritable t) (equal text (tableText t)) (entries-test t (h .entries)) (subst (λ (s : List ℕ). T (equal text s)) (h .same) (equal-same text)))
+      T-both (eqb (length t) 256) (areNexts t && equal text (tableText t)) (eq→eqb (h .size))
+      (T-both (areNexts t) (equal text (tableText t)) (entries-test t (h .entries)) (subst (λ (s : List ℕ). T (equal text s)) (h .same) (equal-same text)))
 
   test-holds : T (holds text t) → Holds text t
   unfolding holds
   test-holds h =
-      let r = T-right (eqb (length t) 256) (allWritable t && equal text (tableText t)) h in
+      let r = T-right (eqb (length t) 256) (areNexts t && equal text (tableText t)) h in
       record {
-        size = eqb→eq (length t) 256 (T-left (eqb (length t) 256) (allWritable t && equal text (tableText t)) h);
-        entries = test-entries t (T-left (allWritable t) (equal text (tableText t)) r);
-        same = same-equal text (tableText t) (T-right (allWritable t) (equal text (tableText t)) r);
+        size = eqb→eq (length t) 256 (T-left (eqb (length t) 256) (areNexts t && equal text (tableText t)) h);
+        entries = test-entries t (T-left (areNexts t) (equal text (tableText t)) r);
+        same = same-equal text (tableText t) (T-right (areNexts t) (equal text (tableText t)) r);
       }
 
 -- ── the table of a text ──

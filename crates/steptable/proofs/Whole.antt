@@ -13,7 +13,7 @@ use Rattle.rules.proofs.Table.{tableRule}
 use Rattle.steptable.specs.TableText.{passing, refusedText, given}
 use Rattle.steptable.specs.Read.{EntriesRead, TableMade}
 use Rattle.steptable.specs.declared.Given.{Given}
-use Rattle.steptable.proofs.Rule.{rule-test}
+use Rattle.rules.proofs.Table.{rule-test}
 use Rattle.steptable.proofs.Right.{given-right}
 
 pub given-empty : (text : List ℕ) (r : Given) → length text ≡ 0 → r ≡ refusedText 0 → r ≡ given text

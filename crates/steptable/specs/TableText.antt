@@ -32,17 +32,17 @@ abbrev pub tableText : List ℤ → List ℕ
 tableText t = tableNames ++ tableLines 0 t
 
 -- a number that may stand as a next: only -1 has a sign
-abbrev pub Writable : ℤ → Type 0
-Writable x = Allowed true x × T (fromNone x)
+abbrev pub IsNext : ℤ → Type 0
+IsNext x = Allowed true x × T (fromNone x)
 
-abbrev pub AllWritable : List ℤ → Type 0
-AllWritable [] = Unit {0}
-AllWritable (x ∷ xs) = Writable x × AllWritable xs
+abbrev pub AreNexts : List ℤ → Type 0
+AreNexts [] = Unit {0}
+AreNexts (x ∷ xs) = IsNext x × AreNexts xs
 
 -- the text is that of the table t
 pub record Holds (text : List ℕ) (t : List ℤ) : Type 0 where
   pub size : length t ≡ 256
-  pub entries : AllWritable t
+  pub entries : AreNexts t
   pub same : text ≡ tableText t
 
 -- ── what is given with a text ──
@@ -68,13 +68,13 @@ equal [] (b ∷ s) = false
 equal (a ∷ r) [] = false
 equal (a ∷ r) (b ∷ s) = eqb a b && equal r s
 
-abbrev pub allWritable : List ℤ → Bool
-allWritable [] = true
-allWritable (x ∷ xs) = (fromNone x && leb (code x) (suc most)) && allWritable xs
+abbrev pub areNexts : List ℤ → Bool
+areNexts [] = true
+areNexts (x ∷ xs) = (fromNone x && leb (code x) (suc most)) && areNexts xs
 
 -- the test of Holds
 unfoldable pub holds : List ℕ → List ℤ → Bool
-holds text t = eqb (length t) 256 && (allWritable t && equal text (tableText t))
+holds text t = eqb (length t) 256 && (areNexts t && equal text (tableText t))
 
 -- by whether the text is a table's, and whether that keeps the rule
 abbrev pub verdict : Bool → Bool → List ℤ → Given

@@ -4,7 +4,7 @@ ghost use Prim.Native.Nat.{_≤_};
 ghost use lib.ListN.{length};
 ghost use Rattle.text.specs.Read.{noValue};
 ghost use Rattle.rules.specs.Table.{fits};
-ghost use Rattle.steptable.specs.TableText.{Writable, AllWritable, refusedText, given};
+ghost use Rattle.steptable.specs.TableText.{IsNext, AreNexts, refusedText, given};
 ghost use Rattle.steptable.specs.Read.{EntryRead, EntriesRead, TableMade};
 use rules::refusal;
 
@@ -16,6 +16,9 @@ pub struct Given {
 
 // The line of names.
 const NAMES_SIZE: usize = 12;
+
+// A table that breaks a rule on its entries. No call refuses with it yet.
+const BAD_TABLE: u32 = 17;
 
 fn no_entry() -> text::Value
     ensures { λ r. ⌜ r ≡ noValue ⌝ }
@@ -71,7 +74,7 @@ fn read_entries(text: &[u8], entries: &mut [i64]) -> bool
 
 // A next may stand at a weight: not below the next before it, and below the weight, but 255 may keep 255.
 fn keeps(weight: usize, before: i64, next: i64) -> bool
-    requires { ⌜ (weight ≤ 255) × Writable before × Writable next ⌝ }
+    requires { ⌜ (weight ≤ 255) × IsNext before × IsNext next ⌝ }
     ensures { λ r. ⌜ r ≡ fits weight before next ⌝ }
 {
     if next < before {
@@ -85,7 +88,7 @@ fn keeps(weight: usize, before: i64, next: i64) -> bool
 
 // The table of these entries, where they keep the rule.
 fn table_of(entries: &[i64], table: &mut [i16]) -> bool
-    requires { ⌜ (length (now entries) ≡ 256) × (length (now table) ≡ 256) × AllWritable (now entries) ⌝ }
+    requires { ⌜ (length (now entries) ≡ 256) × (length (now table) ≡ 256) × AreNexts (now entries) ⌝ }
     ensures { λ r. ⌜ TableMade (now (entries .entry)) r (now (table .exit)) ⌝ }
 {
     let mut before: i64 = -1;
@@ -123,7 +126,7 @@ pub fn read_table(text: &[u8]) -> Given
     }
     let mut steps = [0i16; 256];
     if !table_of(&entries, &mut steps) {
-        return with_ours(refusal::BAD_TABLE);
+        return with_ours(BAD_TABLE);
     }
     Given { refusal: 0, steps }
 }
