@@ -1,13 +1,14 @@
 -- The table of reaches, filled row by row. Assumes nothing.
 use mathlib.Core.Path.{_≡_, refl, sym, ap, subst, _∙_}
 use mathlib.Core.Logic.{_≢_, _⊎_, inl, inr}
-use mathlib.Core.Bool.{true}
+use mathlib.Core.Bool.{true, not}
 use mathlib.Core.List.{List, _++_}
 use Prim.Native.Nat.{ℕ, _+_, _*_, _-_, _/_, _%_, _^_, _≤_, _<_, max}
 use native.Mathlib.Nat.{zero-add, add-zero}
 use native.Mathlib.Omega.{arith}
 use borrow.Author.Count.{below-more}
 use lib.Bits.{bitAnd, bitOr}
+use lib.Dec.{T, ltb, ltb→lt, nltb→le}
 use lib.ListN.{length, getD, set, take, drop, List·getD-append}
 use lib.Seq.{length-take-le, getD-append-add, getD-take, getD-drop, getD-set-same, getD-set-other}
 use lib.IntN.{ℤ, pos}
@@ -15,6 +16,7 @@ use Rattle.rules.specs.List.{_∈_, tabulate}
 use Rattle.rules.specs.Register.{Delegation, Register, marksOf}
 use Rattle.rules.specs.Reach.{reach}
 use Rattle.rules.specs.WellFormed.{WellFormed}
+use Rattle.rules.proofs.Lists.{either, eqOr}
 use Rattle.rules.proofs.Support.{allowed-reach}
 use Rattle.block.specs.Layout.{mostSubjects}
 use Rattle.block.specs.Bytes.{IsBytes}
@@ -23,8 +25,8 @@ use Rattle.block.specs.WellFormed.{wellFormed}
 use Rattle.block.specs.Records.{delegationAt}
 use Rattle.block.proofs.Bytes.{length-tabulate, tabulate-mem, mem-tabulate}
 use Rattle.block.proofs.Held.{delegations-held}
-use Rattle.queue.specs.Queue.{bit}
-use Rattle.queue.proofs.Buckets.{bit-small, bit-or, bit-here, bit-shr}
+use Rattle.queue.specs.Queue.{bit, BitPut, Lowest}
+use Rattle.queue.proofs.Buckets.{bit-zero, bit-small, bit-or, bit-here, bit-shr}
 use Rattle.runs.specs.Lent.{delegationsIn}
 use Rattle.search.specs.Search.{underMarks}
 use Rattle.search.specs.Found.{Searched}
@@ -110,17 +112,49 @@ names-on f g named k h = below-more (λ j. MarksAmong (f j) (bitOr (bitOr named 
     wide y = bit-or (bitOr named (f k)) (g k) y ∙ ap (λ (x : ℕ). max x (bit (g k) y)) (bit-or named (f k) y)
 
 module _ (t : List ℤ) (R : Register) (set : ℕ) where
-  pub filled-none : (l : List ℤ) → length l ≡ reachCount → Filled t R set 0 l
-  filled-none l size = record { size = size; rows = λ r h. absurd (omega arith) }
+  -- each subject below n that is in the set has its row, or is one of the rest
+  pub record Filling (n rest : ℕ) (l : List ℤ) : Type 0 where
+    pub size : length l ≡ reachCount
+    pub rows : (r : ℕ) → r < n → bit set r ≡ 1 → (bit rest r ≡ 1) ⊎ HasRow t R r l
 
-  pub filled-skip : (v : ℕ) (l : List ℤ) → Filled t R set v l → bit set v ≢ 1 → Filled t R set (v + 1) l
-  filled-skip v l f n = record { size = f .size; rows = below-more (λ r. bit set r ≡ 1 → HasRow t R r l) v (f .rows) (λ k. absurd (n k)) }
+  pub filling-none : (n : ℕ) (l : List ℤ) → length l ≡ reachCount → Filling n set l
+  filling-none n l size = record { size = size; rows = λ r h w. inl w }
 
-  pub filled-on : (v : ℕ) (l m : List ℤ) → Filled t R set v l → length m ≡ length l → RowMade t R v l m → Filled t R set (v + 1) m
-  filled-on v l m f kept made = record {
-    size = kept ∙ f .size;
-    rows = below-more (λ r. bit set r ≡ 1 → HasRow t R r m) v (λ r h k u q. made .rest (reachAt u r) (inl (omega arith)) ∙ f .rows r h k u q) (λ k. made .row);
-  }
+  module _ (n rest : ℕ) (l : List ℤ) (f : Filling n rest l) where
+    -- the rows before the lowest of the rest
+    pub filling-before : (v : ℕ) → Lowest rest v → v < n → Filled t R set v l
+    filling-before v low h = record { size = f .size; rows = λ r k w. go r k (f .rows r (omega arith) w) }
+      where
+        go : (r : ℕ) → r < v → (bit rest r ≡ 1) ⊎ HasRow t R r l → HasRow t R r l
+        go r k (inl w) = absurd (omega (arith, w, low .least r k))
+        go r k (inr row) = row
+
+    module _ (v rest′ : ℕ) (out : BitPut rest v 0 rest′) where
+      pub filling-skip : n ≤ v → Filling n rest′ l
+      filling-skip h = record { size = f .size; rows = λ r k w. go r k (f .rows r k w) }
+        where
+          go : (r : ℕ) → r < n → (bit rest r ≡ 1) ⊎ HasRow t R r l → (bit rest′ r ≡ 1) ⊎ HasRow t R r l
+          go r k (inl w) = inl (out .others r (λ e. omega arith) ∙ w)
+          go r k (inr row) = inr row
+
+      pub filling-on : (m : List ℤ) → length m ≡ length l → RowMade t R v l m → Filling n rest′ m
+      filling-on m kept made = record { size = kept ∙ f .size; rows = λ r k w. go r (eqOr v r) (f .rows r k w) }
+        where
+          aside : (r u : ℕ) → v ≢ r → u < mostSubjects → T (ltb r v) ⊎ T (not (ltb r v)) → getD m (reachAt u r) (pos 0) ≡ getD l (reachAt u r) (pos 0)
+          aside r u d h (inl k) = let i : r < v = ltb→lt r v k in made .rest (reachAt u r) (inl (omega arith))
+          aside r u d h (inr k) = let i : v < r = omega (arith, nltb→le r v k, d) in made .rest (reachAt u r) (inr (omega arith))
+
+          go : (r : ℕ) → (v ≡ r) ⊎ (v ≢ r) → (bit rest r ≡ 1) ⊎ HasRow t R r l → (bit rest′ r ≡ 1) ⊎ HasRow t R r m
+          go r (inl e) w = inr (subst (λ (i : ℕ). HasRow t R i m) e (made .row))
+          go r (inr d) (inl w) = inl (out .others r d ∙ w)
+          go r (inr d) (inr row) = inr (λ u h. aside r u d h (either (ltb r v)) ∙ row u h)
+
+    pub filling-end : rest ≡ 0 → Filled t R set n l
+    filling-end e = record { size = f .size; rows = λ r k w. go r (f .rows r k w) }
+      where
+        go : (r : ℕ) → (bit rest r ≡ 1) ⊎ HasRow t R r l → HasRow t R r l
+        go r (inl w) = absurd (omega (arith, sym (ap (λ (x : ℕ). bit x r) e ∙ bit-zero r) ∙ w))
+        go r (inr row) = row
 
   -- the row of another receiver whose marks agree on all that are named, copied
   pub row-copied : (n w v : ℕ) (l m : List ℤ) → AllNamed n (R .delegations) → HasRow t R w l → bitAnd (marksOf R w) n ≡ bitAnd (marksOf R v) n → PlacesCopied (mostSubjects * w) (mostSubjects * v) mostSubjects l m → RowMade t R v l m

@@ -92,11 +92,12 @@ pub fn fill_reaches(
     let n = block::subjects(block) as usize;
     let set = index.receivers;
     let named = index.named;
-    let mut receiver: usize = 0;
-    while receiver < n {
-        if (set >> receiver) % 2 == 1 {
+    let mut rest = set;
+    while rest != 0 {
+        let receiver = queue::lowest(rest);
+        rest = queue::without(rest, receiver);
+        if receiver < n {
             fill_row(block, starts, table, named, set, receiver, reaches, waiting);
         }
-        receiver += 1;
     }
 }
