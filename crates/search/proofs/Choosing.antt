@@ -92,8 +92,8 @@ module _ (l : List ℤ) (set : ℕ) where
       go y (inr w) = inl w
 
   module _ (first best rest : ℕ) (chosen : Chosen l set first best rest) where
-    pub chosen-last : rest ≡ 0 → Heaviest l set best
-    chosen-last e = record { first = first; small = chosen .small; member = chosen .member; each = chosen .each; rest = λ y w. go y (chosen .past y w) }
+    pub chosen-last : rest ≡ 0 → Heaviest l set first best
+    chosen-last e = record { small = chosen .small; member = chosen .member; each = chosen .each; rest = λ y w. go y (chosen .past y w) }
       where
         go : (y : ℕ) → (bit rest y ≡ 1) ⊎ ((bit best y ≡ 1) ⊎ (code (getD l y none) < code (getD l first none))) → (bit best y ≡ 1) ⊎ (code (getD l y none) < code (getD l first none))
         go y (inl w) = absurd (omega (arith, sym (ap (λ (n : ℕ). bit n y) e ∙ bit-zero y) ∙ w))

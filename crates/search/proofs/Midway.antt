@@ -10,12 +10,14 @@ use lib.ListN.{getD}
 use lib.IntN.{ℤ, pos}
 use Rattle.rules.specs.Limit.{none, _≼_}
 use Rattle.rules.proofs.Signed.{code-pos}
-use Rattle.queue.specs.Queue.{bit, BitPut, Lowest, topOf, Empty, ownerHere}
+use Rattle.block.specs.Layout.{mostSubjects}
+use Rattle.queue.specs.Queue.{bit, BitPut, topOf, Empty, ownerHere}
 use Rattle.queue.specs.declared.Sets.{Sets}
+use Rattle.search.specs.declared.Turn.{Turn}
 use Rattle.queue.proofs.Buckets.{bit-zero, bit-or, covered-take}
 use Rattle.runs.specs.Lent.{recordCount, Lent, SubjectLists}
 use Rattle.runs.specs.Steps.{Gave, Waiting, Ready}
-use Rattle.search.specs.Search.{Started, IsLimits, LevelTaken, LevelSought, GroupTaken, GroupSought, AtHand}
+use Rattle.search.specs.Search.{Started, IsLimits, LevelTaken, LevelSought, GroupTaken, GroupSought, AtHand, setsOf}
 use Rattle.search.specs.Found.{Searched}
 use Rattle.search.proofs.State.{isSettled, State}
 use Rattle.search.proofs.Whole.{measure, level-less, group-less, state-start, waiting-start, level-small, state-level, state-group, state-settle, settle-less, state-end, empty-end}
@@ -47,23 +49,20 @@ module _ (t : List ℤ) (s : List ℕ) (lent : Lent t s (recordCount s)) (marks 
       abbrev pub Next : Sets → List ℕ → Type 0
       Next left q′ = Midway t s marks l p q′ left n × (measure n (left .near) (left .far) < measure n (sets .near) (sets .far))
 
-      midway-level : (left : Sets) → LevelTaken l sets left → Next left q
-      midway-level left tk = (
+      midway-level : (turn : Turn) → LevelTaken l sets turn → Next (setsOf turn) q
+      midway-level turn tk = (
         record {
           at = _;
-          small = level-small t s lent marks l p q (sets .here) (sets .near) (sets .far) n (now .at) (now .small) (now .state) (now .waiting .queue .covered) (no-bits none-here) (left .here) (left .near) (tk .heaviest) (tk .near);
-          state = state-level t s lent marks l p q (sets .here) (sets .near) (sets .far) n (now .at) (now .small) (now .state) (now .waiting .queue .covered) (no-bits none-here) (left .here) (left .near) (tk .heaviest) (tk .near);
+          small = level-small t s lent marks l p q (sets .here) (sets .near) (sets .far) n (now .at) (now .small) (now .state) (now .waiting .queue .covered) (no-bits none-here) (turn .subject) (turn .here) (turn .near) (tk .heaviest) (tk .near);
+          state = state-level t s lent marks l p q (sets .here) (sets .near) (sets .far) n (now .at) (now .small) (now .state) (now .waiting .queue .covered) (no-bits none-here) (turn .subject) (turn .here) (turn .near) (tk .heaviest) (tk .near);
           waiting = subst (Waiting l q) (sym (tk .far)) (now .waiting);
         },
-        subst (λ (f : ℕ). measure n (left .near) f < measure n (sets .near) (sets .far)) (sym (tk .far))
-            (level-less n (sets .near) (left .near) (sets .far) first (tk .heaviest .small) in-near (tk .near first ∙ omega (arith, in-near, tk .heaviest .member)) (λ y e. tk .near y ∙ omega (arith, e))),
+        subst (λ (f : ℕ). measure n (turn .near) f < measure n (sets .near) (sets .far)) (sym (tk .far))
+            (level-less n (sets .near) (turn .near) (sets .far) (turn .subject) (tk .heaviest .small) in-near (tk .near (turn .subject) ∙ omega (arith, in-near, tk .heaviest .member)) (λ y e. tk .near y ∙ omega (arith, e))),
       )
         where
-          first : ℕ
-          first = tk .heaviest .first
-
-          in-near : bit (sets .near) (tk .heaviest .first) ≡ 1
-          in-near = tk .heaviest .each (tk .heaviest .first) (tk .heaviest .member) .0
+          in-near : bit (sets .near) (turn .subject) ≡ 1
+          in-near = tk .heaviest .each (turn .subject) (tk .heaviest .member) .0
 
       midway-group : sets .near ≡ 0 → (left : Sets) (q′ : List ℕ) → GroupTaken n sets left q q′ → Next left q′
       midway-group none left q′ tk = (
@@ -80,9 +79,9 @@ module _ (t : List ℤ) (s : List ℕ) (lent : Lent t s (recordCount s)) (marks 
       )
 
     -- ── one who waits here is settled ──
-    module _ (u : ℕ) (first : Lowest (sets .here) u) where
+    module _ (u : ℕ) (small : u < mostSubjects) (member : bit (sets .here) u ≡ 1) where
       at-hand : getD l u none ≡ pos (now .at)
-      at-hand = code-pos (getD l u none) (now .at) (now .state .here u (first .member) .1)
+      at-hand = code-pos (getD l u none) (now .at) (now .state .here u member .1)
 
       pub midway-ready : (left : Sets) → left .far ≡ sets .far → Ready (getD l u none) l p q (left .far)
       midway-ready left e = record {
@@ -97,12 +96,12 @@ module _ (t : List ℤ) (s : List ℕ) (lent : Lent t s (recordCount s)) (marks 
         midway-settle l′ p′ q′ after g w = record {
           at = now .at;
           small = now .small;
-          state = state-settle t s lent marks l p q (sets .here) (sets .near) (sets .far) n (now .at) (now .small) (now .state) (now .waiting .queue .covered) u (first .member) (left .here) (left .near) n₁ out off put l′ p′ (after .here ∷ after .near ∷ q′) g;
+          state = state-settle t s lent marks l p q (sets .here) (sets .near) (sets .far) n (now .at) (now .small) (now .state) (now .waiting .queue .covered) u member (left .here) (left .near) n₁ out off put l′ p′ (after .here ∷ after .near ∷ q′) g;
           waiting = w;
         }
 
         pub midway-less : (after : Sets) → measure n₁ (after .near) (after .far) < measure n (sets .near) (sets .far)
-        midway-less after = settle-less t s lent marks l p q (sets .here) (sets .near) (sets .far) n (now .at) (now .small) (now .state) (now .waiting .queue .covered) u (first .member) (left .here) (left .near) n₁ out off put (first .small) (after .near) (after .far)
+        midway-less after = settle-less t s lent marks l p q (sets .here) (sets .near) (sets .far) n (now .at) (now .small) (now .state) (now .waiting .queue .covered) u member (left .here) (left .near) n₁ out off put small (after .near) (after .far)
 
     -- ── none waits ──
     module _ (none : bitOr (bitOr (sets .here) (sets .near)) (sets .far) ≡ 0) where
@@ -116,23 +115,36 @@ module _ (t : List ℤ) (s : List ℕ) (lent : Lent t s (recordCount s)) (marks 
       midway-empty = empty-end t s lent marks l p q (sets .here) (sets .near) (sets .far) n (now .at) (now .state) (now .waiting .queue .covered) (λ y. omega (arith, all y)) (λ y. omega (arith, all y)) (λ y. omega (arith, all y)) (now .waiting .queue .size)
 
 -- the level at hand: the same, or the next
-module _ (t : List ℤ) (s : List ℕ) (lent : Lent t s (recordCount s)) (marks : ℕ) (l : List ℤ) (p q : List ℕ) (sets : Sets) (n : ℕ) (now : Midway t s marks l p q sets n) (left : Sets) (q′ : List ℕ) where
-  advanced : (none-here : sets .here ≡ 0) (group : Sets) → GroupSought n sets group q q′ → LevelSought l group left → Next t s lent marks l p q sets n now none-here left q′
+module _ (t : List ℤ) (s : List ℕ) (lent : Lent t s (recordCount s)) (marks : ℕ) (l : List ℤ) (p q : List ℕ) (sets : Sets) (n : ℕ) (now : Midway t s marks l p q sets n) (turn : Turn) (q′ : List ℕ) where
+  advanced : (none-here : sets .here ≡ 0) (group : Sets) → GroupSought n sets group q q′ → LevelSought l group turn → Next t s lent marks l p q sets n now none-here (setsOf turn) q′
   advanced h group (inl (some, e, f)) (inl (none, g)) = absurd (some (ap (λ (x : Sets). x .near) (sym e) ∙ none))
-  advanced h group (inl (some, e, f)) (inr tk) = subst (Next t s lent marks l p q sets n now h left) (sym f) (midway-level t s lent marks l p q sets n now h left (subst (λ (x : Sets). LevelTaken l x left) e tk))
-  advanced h group (inr (none, tk)) (inl (_, e)) = subst (λ (x : Sets). Next t s lent marks l p q sets n now h x q′) (sym e) (midway-group t s lent marks l p q sets n now h none group q′ tk)
+  advanced h group (inl (some, e, f)) (inr tk) = subst (Next t s lent marks l p q sets n now h (setsOf turn)) (sym f) (midway-level t s lent marks l p q sets n now h turn (subst (λ (x : Sets). LevelTaken l x turn) e tk))
+  advanced h group (inr (none, tk)) (inl (_, e)) = subst (λ (x : Turn). Next t s lent marks l p q sets n now h (setsOf x) q′) (sym e) (midway-group t s lent marks l p q sets n now h none group q′ tk)
   advanced h group (inr (none, tk)) (inr lt) =
       let g = midway-group t s lent marks l p q sets n now h none group q′ tk in
-      let i = midway-level t s lent marks l p q′ group n (g .0) (tk .here) left lt in
+      let i = midway-level t s lent marks l p q′ group n (g .0) (tk .here) turn lt in
       (i .0, omega (arith, g .1, i .1))
 
-  pub midway-on : AtHand l n sets left q q′ → Midway t s marks l p q′ left n × (measure n (left .near) (left .far) ≤ measure n (sets .near) (sets .far))
+  pub midway-on : AtHand l n sets turn q q′ → Midway t s marks l p q′ (setsOf turn) n × (measure n (turn .near) (turn .far) ≤ measure n (sets .near) (sets .far))
   midway-on (inl (some, e, f)) =
-      subst (λ (r : List ℕ). Midway t s marks l p r left n × (measure n (left .near) (left .far) ≤ measure n (sets .near) (sets .far))) (sym f)
-      (subst (λ (x : Sets). Midway t s marks l p q x n × (measure n (x .near) (x .far) ≤ measure n (sets .near) (sets .far))) (sym e) (now, le-refl (measure n (sets .near) (sets .far))))
+      subst (λ (r : List ℕ). Midway t s marks l p r (setsOf turn) n × (measure n (turn .near) (turn .far) ≤ measure n (sets .near) (sets .far))) (sym f)
+      (subst (λ (x : Turn). Midway t s marks l p q (setsOf x) n × (measure n (x .near) (x .far) ≤ measure n (sets .near) (sets .far))) (sym e) (now, le-refl (measure n (sets .near) (sets .far))))
   midway-on (inr a) = let g = advanced (a .none) (a .between) (a .group) (a .level) in (g .0, omega (arith, g .1))
 
+  no-member : (m u : ℕ) → m ≡ 0 → bit m u ≡ 1 → ⊥
+  no-member m u e w = omega (arith, sym (ap (λ (x : ℕ). bit x u) e ∙ bit-zero u) ∙ w)
+
   -- the next, where none waits at the level found
-  pub midway-down : left .here ≡ 0 → AtHand l n sets left q q′ → measure n (left .near) (left .far) < measure n (sets .near) (sets .far)
-  midway-down none (inl (some, e, f)) = absurd (some (ap (λ (x : Sets). x .here) (sym e) ∙ none))
+  pub midway-down : turn .here ≡ 0 → AtHand l n sets turn q q′ → measure n (turn .near) (turn .far) < measure n (sets .near) (sets .far)
+  midway-down none (inl (some, e, f)) = absurd (no-member (sets .here) (turn .subject) (ap (λ (x : Turn). x .here) (sym e) ∙ none) (some .member))
   midway-down none (inr a) = advanced (a .none) (a .between) (a .group) (a .level) .1
+
+  -- else it is the turn of one who waits there
+  pub midway-turn : turn .here ≢ 0 → AtHand l n sets turn q q′ → (turn .subject < mostSubjects) × (bit (turn .here) (turn .subject) ≡ 1)
+  midway-turn some (inl (low, e, f)) = (low .small, ap (λ (x : Turn). bit (x .here) (turn .subject)) e ∙ low .member)
+  midway-turn some (inr a) = go (a .group) (a .level)
+    where
+      go : GroupSought n sets (a .between) q q′ → LevelSought l (a .between) turn → (turn .subject < mostSubjects) × (bit (turn .here) (turn .subject) ≡ 1)
+      go g (inr tk) = (tk .heaviest .small, tk .heaviest .member)
+      go (inl (near, e, f)) (inl (none, h)) = absurd (near (ap (λ (x : Sets). x .near) (sym e) ∙ none))
+      go (inr (none, tk)) (inl (_, h)) = absurd (some (ap (λ (x : Turn). x .here) h ∙ tk .here))

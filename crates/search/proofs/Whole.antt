@@ -97,21 +97,21 @@ module _ (t : List ℤ) (s : List ℕ) (lent : Lent t s (recordCount s)) (marks 
     -- ── none waits here, and the next level is taken ──
     module _ (none-here : (y : ℕ) → bit here y ≡ 0) where
       -- of those who wait near
-      module _ (here₁ near₁ : ℕ) (heavy : Heaviest l near here₁) (rest : Without near here₁ near₁) where
-        held : InGroup at (limitOf l (heavy .first))
-        held = now .near (heavy .first) (heavy .each (heavy .first) (heavy .member) .0) .1
+      module _ (first here₁ near₁ : ℕ) (heavy : Heaviest l near first here₁) (rest : Without near here₁ near₁) where
+        held : InGroup at (limitOf l (first))
+        held = now .near (first) (heavy .each (first) (heavy .member) .0) .1
 
         abbrev pub level : ℕ
-        level = natAbs (limitOf l (heavy .first))
+        level = natAbs (limitOf l (first))
 
-        has-level : code (limitOf l (heavy .first)) ≡ suc level
-        has-level = code-live (limitOf l (heavy .first)) (omega (arith, held .has))
+        has-level : code (limitOf l (first)) ≡ suc level
+        has-level = code-live (limitOf l (first)) (omega (arith, held .has))
 
         same-group : groupOf level ≡ groupOf at
         same-group = let e : level ≡ held .level = omega (arith, held .has, has-level) in ap groupOf e ∙ held .same
 
         pub level-small : level ≤ 255
-        level-small = omega (arith, has-level, now .most (heavy .first) (now .near (heavy .first) (heavy .each (heavy .first) (heavy .member) .0) .0), small)
+        level-small = omega (arith, has-level, now .most (first) (now .near (first) (heavy .each (first) (heavy .member) .0) .0), small)
 
         -- who waited near waits here or near
         still : (y : ℕ) → bit near y ≡ 1 → (bit here₁ y ≡ 1) ⊎ (bit near₁ y ≡ 1)
@@ -121,7 +121,7 @@ module _ (t : List ℤ) (s : List ℕ) (lent : Lent t s (recordCount s)) (marks 
             go (inl e) = inl e
             go (inr d) = inr (rest y ∙ omega (arith, d, w, bit-small here₁ y))
 
-        light : (y : ℕ) → bit near y ≡ 1 → (bit here₁ y ≡ 1) ⊎ (code (limitOf l y) < code (limitOf l (heavy .first))) → code (limitOf l y) ≤ suc level
+        light : (y : ℕ) → bit near y ≡ 1 → (bit here₁ y ≡ 1) ⊎ (code (limitOf l y) < code (limitOf l (first))) → code (limitOf l y) ≤ suc level
         light y w (inl e) = omega (arith, ap code (heavy .each y e .1), has-level)
         light y w (inr h) = omega (arith, h, has-level)
 

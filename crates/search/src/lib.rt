@@ -5,7 +5,7 @@ ghost use lib.ListN.{length};
 ghost use Rattle.queue.specs.Queue.{groups, Empty};
 ghost use Rattle.runs.specs.Lent.{SubjectLists};
 ghost use Rattle.runs.specs.Steps.{Indexed};
-ghost use Rattle.search.specs.Search.{Started, IsLimits, Heaviest, LevelSought, GroupSought, AtHand};
+ghost use Rattle.search.specs.Search.{Started, IsLimits, Heaviest, turnOf, LevelSought, GroupSought, AtHand};
 ghost use Rattle.search.specs.Found.{Searched};
 use block::layout;
 
@@ -30,10 +30,24 @@ fn start(limits: &mut [i16], parents: &mut [u16])
     limits[0] = 255;
 }
 
+// Those who wait, and the one of them whose turn it is.
+struct Turn {
+    subject: usize,
+    here: u64,
+    near: u64,
+    far: u64,
+}
+
+// A level: the subjects that wait at it, and one of them.
+struct Level {
+    first: usize,
+    set: u64,
+}
+
 // Those of a set whose limit is the largest of theirs.
-fn heaviest(limits: &[i16], set: u64) -> u64
+fn heaviest(limits: &[i16], set: u64) -> Level
     requires { ⌜ IsLimits (now limits) × (set ≢ 0) ⌝ }
-    ensures { λ r. ⌜ Heaviest (now (limits .entry)) set r ⌝ }
+    ensures { λ r. ⌜ Heaviest (now (limits .entry)) set (r .first) (r .set) ⌝ }
 {
     let mut first = queue::lowest(set);
     let mut best = queue::with(0, first);
@@ -50,21 +64,36 @@ fn heaviest(limits: &[i16], set: u64) -> u64
             best = queue::with(best, other);
         }
     }
-    best
+    Level {
+        first: first,
+        set: best,
+    }
 }
 
-// The heaviest of those who wait near wait here then, if any does.
-fn next_level(limits: &[i16], sets: queue::Sets) -> queue::Sets
+fn turn_of(sets: queue::Sets, subject: usize) -> Turn
+    ensures { λ r. ⌜ r ≡ turnOf sets subject ⌝ }
+{
+    Turn {
+        subject: subject,
+        here: sets.here,
+        near: sets.near,
+        far: sets.far,
+    }
+}
+
+// The heaviest of those who wait near wait here then, if any does, and it is the turn of one of them.
+fn next_level(limits: &[i16], sets: queue::Sets) -> Turn
     requires { ⌜ IsLimits (now limits) ⌝ }
     ensures { λ r. ⌜ LevelSought (now (limits .entry)) sets r ⌝ }
 {
     if sets.near == 0 {
-        return sets;
+        return turn_of(sets, 0);
     }
     let level = heaviest(limits, sets.near);
-    queue::Sets {
-        here: level,
-        near: queue::minus(sets.near, level),
+    Turn {
+        subject: level.first,
+        here: level.set,
+        near: queue::minus(sets.near, level.set),
         far: sets.far,
     }
 }
@@ -85,13 +114,13 @@ fn next_group(waiting: &mut [u64], settled: u64, sets: queue::Sets) -> queue::Se
     }
 }
 
-// The level at hand, or, where none waits at it, the next one.
-fn at_hand(limits: &[i16], waiting: &mut [u64], settled: u64, sets: queue::Sets) -> queue::Sets
+// The level at hand, or, where none waits at it, the next one, and whose turn it is.
+fn at_hand(limits: &[i16], waiting: &mut [u64], settled: u64, sets: queue::Sets) -> Turn
     requires { ⌜ IsLimits (now limits) × (length (now waiting) ≡ groups) × (sets .here ≡ 0 → sets .near ≡ 0 → sets .far ≢ 0) ⌝ }
     ensures { λ r. ⌜ AtHand (now (limits .entry)) settled sets r (now (waiting .entry)) (now (waiting .exit)) ⌝ }
 {
     if sets.here != 0 {
-        return sets;
+        return turn_of(sets, queue::lowest(sets.here));
     }
     let group = next_group(waiting, settled, sets);
     next_level(limits, group)
@@ -116,9 +145,14 @@ fn search(
     let mut sets = queue::first();
     let mut settled: u64 = 0;
     while (sets.here | sets.near | sets.far) != 0 {
-        sets = at_hand(limits, waiting, settled, sets);
-        if sets.here != 0 {
-            let u = queue::lowest(sets.here);
+        let turn = at_hand(limits, waiting, settled, sets);
+        sets = queue::Sets {
+            here: turn.here,
+            near: turn.near,
+            far: turn.far,
+        };
+        if turn.here != 0 {
+            let u = turn.subject;
             settled = queue::with(settled, u);
             sets = runs::relax_giver(
                 records,

@@ -1,10 +1,14 @@
 -- `search::search` meets its contract: each turn settles one who waits at the level at hand, which is the next where none waited at the one before. Assumes nothing.
-use mathlib.Core.Path.{sym, _∙_}
-use Prim.Native.Nat.{_≤_}
+use mathlib.Core.Path.{_≡_, sym, _∙_}
+use mathlib.Core.Logic.{_≢_}
+use Prim.Native.Nat.{_≤_, _<_}
 use native.Mathlib.Omega.{arith}
+use Rattle.block.specs.Layout.{mostSubjects}
+use Rattle.queue.specs.Queue.{bit}
 use Rattle.runs.specs.Lent.{SubjectLists}
+use Rattle.search.specs.Search.{setsOf}
 use Rattle.search.proofs.Whole.{measure}
-use Rattle.search.proofs.Midway.{Midway, midway-start, midway-limits, some-far, midway-on, midway-down, midway-ready, midway-settle, midway-less, midway-found, midway-empty}
+use Rattle.search.proofs.Midway.{Midway, midway-start, midway-limits, some-far, midway-on, midway-down, midway-turn, midway-ready, midway-settle, midway-less, midway-found, midway-empty}
 use Rattle.search.proofs.search.Statement.{statement}
 use Rattle.search.proofs.search.Tie as tie
 
@@ -41,51 +45,54 @@ at-hand-requires c κs =
 abbrev turn : tie.After-at-hand Inv-loop μ-loop → tie.At-loop Inv-loop μ-loop
 turn c = c .before .before .before .before .before .before
 
-on : (c : tie.After-at-hand Inv-loop μ-loop) → let v = turn c .loop in let s = begun (turn c) in let left = c .at-hand .result in Midway (s .args .table .now) (s .args .records .now) (s .args .marks) (v .limits) (v .parents) (c .at-hand .last .1 .0) left (v .settled) × (measure (v .settled) (left .near) (left .far) ≤ measure (v .settled) (v .sets .near) (v .sets .far))
+on : (c : tie.After-at-hand Inv-loop μ-loop) → let v = turn c .loop in let s = begun (turn c) in let next = c .at-hand .result in Midway (s .args .table .now) (s .args .records .now) (s .args .marks) (v .limits) (v .parents) (c .at-hand .last .1 .0) (setsOf next) (v .settled) × (measure (v .settled) (next .near) (next .far) ≤ measure (v .settled) (v .sets .near) (v .sets .far))
 on c =
     let v = turn c .loop in
     let s = begun (turn c) in
     midway-on (s .args .table .now) (s .args .records .now) (s .pre .0 .lent) (s .args .marks) (v .limits) (v .parents) (v .waiting) (v .sets) (v .settled) (v .inv) (c .at-hand .result) (c .at-hand .last .1 .0) (c .at-hand .ensures)
 
-lowest-requires : tie.Need-lowest-requires Inv-loop μ-loop
-lowest-requires c κs = c .if2 .taken
+who : (c : tie.After-at-hand Inv-loop μ-loop) → c .at-hand .result .here ≢ 0 → (c .at-hand .result .subject < mostSubjects) × (bit (c .at-hand .result .here) (c .at-hand .result .subject) ≡ 1)
+who c some =
+    let v = turn c .loop in
+    let s = begun (turn c) in
+    midway-turn (s .args .table .now) (s .args .records .now) (s .pre .0 .lent) (s .args .marks) (v .limits) (v .parents) (v .waiting) (v .sets) (v .settled) (v .inv) (c .at-hand .result) (c .at-hand .last .1 .0) some (c .at-hand .ensures)
 
 with-requires : tie.Need-with-requires Inv-loop μ-loop
-with-requires c κs = c .lowest .ensures .small
+with-requires c κs = who (c .before .before .before .before) (c .if2 .taken) .0
 
 apart-requires : tie.Need-apart-requires Inv-loop μ-loop
-apart-requires c κs = c .before .before .before .before .lowest .ensures .small
+apart-requires c κs = who (c .before .before .before .before .before .before .before .before) (c .before .before .before .before .if2 .taken) .0
 
 relax-giver-requires : tie.Need-relax-giver-requires Inv-loop μ-loop
 relax-giver-requires c κs =
-    let a = c .before .before .before .before .before .before .before .before .before .before in
+    let a = c .before .before .before .before .before .before .before .before .before in
     let s = begun (turn a) in
     let v = turn a .loop in
-    let u = c .before .before .before .before .before .lowest in
-    (s .pre .0, u .ensures .small, midway-ready (s .args .table .now) (s .args .records .now) (s .pre .0 .lent) (s .args .marks) (v .limits) (v .parents) (a .at-hand .last .1 .0) (a .at-hand .result) (v .settled) (on a .0) (u .result) (u .ensures) (c .apart .result) (c .apart .ensures .2))
+    let u = who a (c .before .before .before .before .before .if2 .taken) in
+    (s .pre .0, u .0, midway-ready (s .args .table .now) (s .args .records .now) (s .pre .0 .lent) (s .args .marks) (v .limits) (v .parents) (a .at-hand .last .1 .0) (setsOf (a .at-hand .result)) (v .settled) (on a .0) (a .at-hand .result .subject) (u .0) (u .1) (c .apart .result) (c .apart .ensures .2))
 
 loop-less : tie.Need-loop-less Inv-loop μ-loop
 loop-less c =
-    let a = c .before .before .before .before .before .before .before .before .before .before .before .before .before .before .before .before in
+    let a = c .before .before .before .before .before .before .before .before .before .before .before .before .before .before .before in
     let s = begun (turn a) in
     let v = turn a .loop in
-    let u = c .before .before .before .before .before .before .before .before .before .before .before .lowest in
+    let u = who a (c .before .before .before .before .before .before .before .before .before .before .before .if2 .taken) in
     let o = c .before .before .before .before .before .before .apart in
     omega (
       arith,
-      midway-less (s .args .table .now) (s .args .records .now) (s .pre .0 .lent) (s .args .marks) (v .limits) (v .parents) (a .at-hand .last .1 .0) (a .at-hand .result) (v .settled) (on a .0) (u .result) (u .ensures) (o .result) _ (o .ensures .0) (o .ensures .1) (c .before .before .before .before .before .before .before .before .before .before .with .ensures) (c .before .before .before .before .before .relax-giver .result),
+      midway-less (s .args .table .now) (s .args .records .now) (s .pre .0 .lent) (s .args .marks) (v .limits) (v .parents) (a .at-hand .last .1 .0) (setsOf (a .at-hand .result)) (v .settled) (on a .0) (a .at-hand .result .subject) (u .0) (u .1) (o .result) _ (o .ensures .0) (o .ensures .1) (c .before .before .before .before .before .before .before .before .before .before .with .ensures) (c .before .before .before .before .before .relax-giver .result),
       on a .1,
     )
 
 loop-again : tie.Need-loop-again Inv-loop μ-loop
 loop-again c =
-    let a = c .before .before .before .before .before .before .before .before .before .before .before .before .before .before .before .before in
+    let a = c .before .before .before .before .before .before .before .before .before .before .before .before .before .before .before in
     let s = begun (turn a) in
     let v = turn a .loop in
-    let u = c .before .before .before .before .before .before .before .before .before .before .before .lowest in
+    let u = who a (c .before .before .before .before .before .before .before .before .before .before .before .if2 .taken) in
     let o = c .before .before .before .before .before .before .apart in
     let g = c .before .before .before .before .before .relax-giver in
-    midway-settle (s .args .table .now) (s .args .records .now) (s .pre .0 .lent) (s .args .marks) (v .limits) (v .parents) (a .at-hand .last .1 .0) (a .at-hand .result) (v .settled) (on a .0) (u .result) (u .ensures) (o .result) _ (o .ensures .0) (o .ensures .1) (c .before .before .before .before .before .before .before .before .before .before .with .ensures) _ _ _ (g .result) (g .ensures .0) (g .ensures .1)
+    midway-settle (s .args .table .now) (s .args .records .now) (s .pre .0 .lent) (s .args .marks) (v .limits) (v .parents) (a .at-hand .last .1 .0) (setsOf (a .at-hand .result)) (v .settled) (on a .0) (a .at-hand .result .subject) (u .0) (u .1) (o .result) _ (o .ensures .0) (o .ensures .1) (c .before .before .before .before .before .before .before .before .before .before .with .ensures) _ _ _ (g .result) (g .ensures .0) (g .ensures .1)
 
 loop-less-2 : tie.Need-loop-less-2 Inv-loop μ-loop
 loop-less-2 c =
@@ -125,7 +132,6 @@ search-spec =
     first-requires
     loop-holds
     at-hand-requires
-    lowest-requires
     with-requires
     apart-requires
     relax-giver-requires
