@@ -16,7 +16,7 @@ use Rattle.rules.proofs.Signed.{kept, getD-within, read-limit, more, not-more, 
 use Rattle.block.specs.Layout.{mostSubjects}
 use Rattle.queue.specs.Queue.{bit, BitPut, Lowest}
 use Rattle.queue.proofs.Buckets.{bit-zero}
-use Rattle.search.specs.Search.{Heaviest}
+use Rattle.search.specs.Turns.{Heaviest}
 
 -- limits of one code are the same
 code-same : (y z : ℤ) → (y ≡ none) ⊎ (pos 0 ≼ y) → (z ≡ none) ⊎ (pos 0 ≼ z) → code y ≡ code z → y ≡ z

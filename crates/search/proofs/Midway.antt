@@ -17,7 +17,8 @@ use Rattle.search.specs.declared.Turn.{Turn}
 use Rattle.queue.proofs.Buckets.{bit-zero, bit-or, covered-take}
 use Rattle.runs.specs.Lent.{recordCount, Lent, SubjectLists}
 use Rattle.runs.specs.Steps.{Gave, Waiting, Ready}
-use Rattle.search.specs.Search.{Started, IsLimits, LevelTaken, LevelSought, GroupTaken, GroupSought, AtHand, setsOf}
+use Rattle.search.specs.Search.{Started}
+use Rattle.search.specs.Turns.{IsLimits, LevelTaken, LevelSought, GroupTaken, GroupSought, AtHand, setsOf}
 use Rattle.search.specs.Found.{Searched}
 use Rattle.search.proofs.State.{isSettled, State}
 use Rattle.search.proofs.Whole.{measure, level-less, group-less, state-start, waiting-start, level-small, state-level, state-group, state-settle, settle-less, state-end, empty-end}

@@ -21,7 +21,8 @@ use Rattle.rules.proofs.Search.{Found, search-start, search-settle, search-reac
 use Rattle.rules.proofs.Links.{found-links}
 use Rattle.block.proofs.Bytes.{length-tabulate, tabulate-mem, mem-tabulate}
 use Rattle.block.specs.Layout.{mostSubjects}
-use Rattle.search.specs.Search.{underMarks, parentIn, mostLinks, Started, Heaviest}
+use Rattle.search.specs.Search.{underMarks, parentIn, mostLinks, Started}
+use Rattle.search.specs.Turns.{Heaviest}
 use Rattle.runs.specs.Lent.{recordCount, recordAt, Lent, SubjectLists, delegationsIn}
 use Rattle.runs.specs.Steps.{SteppedTo, part, Gave, Waiting}
 use Rattle.queue.specs.Queue.{groups, setBits, bit, BitPut, Without, Lowest, waits, groupOf, topOf, Covered, Empty, Taken}

@@ -1,3 +1,4 @@
 pub mod Search
+pub mod Turns
 pub mod Found
 pub mod Named

@@ -5,7 +5,8 @@ ghost use lib.ListN.{length};
 ghost use Rattle.queue.specs.Queue.{groups, Empty};
 ghost use Rattle.runs.specs.Lent.{SubjectLists};
 ghost use Rattle.runs.specs.Steps.{Indexed};
-ghost use Rattle.search.specs.Search.{Started, IsLimits, Heaviest, turnOf, LevelSought, GroupSought, AtHand};
+ghost use Rattle.search.specs.Search.{Started};
+ghost use Rattle.search.specs.Turns.{IsLimits, Heaviest, turnOf, LevelSought, GroupSought, AtHand};
 ghost use Rattle.search.specs.Found.{Searched};
 use block::layout;
 

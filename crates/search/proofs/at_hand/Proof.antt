@@ -4,7 +4,7 @@ use mathlib.Core.Logic.{inl, inr}
 use borrow.Author.Needs.{needs}
 use Rattle.queue.specs.Queue.{Lowest}
 use Rattle.search.specs.declared.Turn.{Turn}
-use Rattle.search.specs.Search.{turnOf}
+use Rattle.search.specs.Turns.{turnOf}
 use Rattle.search.proofs.at_hand.Statement.{statement}
 use Rattle.search.proofs.at_hand.Tie as tie
 

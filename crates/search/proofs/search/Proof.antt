@@ -6,7 +6,7 @@ use native.Mathlib.Omega.{arith}
 use Rattle.block.specs.Layout.{mostSubjects}
 use Rattle.queue.specs.Queue.{bit}
 use Rattle.runs.specs.Lent.{SubjectLists}
-use Rattle.search.specs.Search.{setsOf}
+use Rattle.search.specs.Turns.{setsOf}
 use Rattle.search.proofs.Whole.{measure}
 use Rattle.search.proofs.Midway.{Midway, midway-start, midway-limits, some-far, midway-on, midway-down, midway-turn, midway-ready, midway-settle, midway-less, midway-found, midway-empty}
 use Rattle.search.proofs.search.Statement.{statement}
