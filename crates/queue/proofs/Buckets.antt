@@ -201,10 +201,6 @@ trailing-least (suc k) n i h = go (n % 2) refl i (trailing-least k (n / 2)) h
 pub lowest-of : (n : ℕ) → n ≢ 0 → n < 2 ^ setBits → Lowest n (trailingZeros setBits n)
 lowest-of n some h = let few = trailing-few setBits n some h in record { small = few; member = trailing-bit setBits n few; least = trailing-least setBits n }
 
--- a set that has a member is not 0, and one that has none is
-pub some-member : (n y : ℕ) → bit n y ≡ 1 → n ≢ 0
-some-member n y h e = omega (arith, bit-zero y, sym h ∙ ap (λ (m : ℕ). bit m y) e)
-
 same-test : (m n : ℕ) → m ≡ n → eqb m n ≡ true
 same-test m n e = T-true (eqb m n) (eq→eqb e)
 

@@ -3,8 +3,8 @@ use mathlib.Core.Path.{_≡_, refl, sym, ap, subst, _∙_}
 use mathlib.Core.Logic.{_≢_, _⊎_, inl, inr}
 use mathlib.Core.Bool.{Bool, not}
 use mathlib.Core.List.{List, _∷_, List·Memᴰ·head}
-use Prim.Native.Nat.{ℕ, suc, _+_, _*_, _-_, _≤_, _<_, zero-le}
-use native.Mathlib.Nat.{le-refl, add-suc}
+use Prim.Native.Nat.{ℕ, suc, _+_, _*_, _-_, _≤_, _<_}
+use native.Mathlib.Nat.{add-suc}
 use native.Mathlib.Omega.{arith}
 use lib.Dec.{T, eqb}
 use lib.IntN.{ℤ, pos, natAbs}
@@ -18,7 +18,6 @@ use Rattle.rules.specs.Condition.{meets}
 use Rattle.rules.specs.Chain.{limit}
 use Rattle.rules.proofs.Lists.{either, eqOr}
 use Rattle.rules.proofs.Limits.{next-below}
-use Rattle.rules.proofs.Chains.{limitFrom-top}
 use Rattle.rules.proofs.Search.{Found, Search, search-skip, search-raise}
 use Rattle.block.specs.Layout.{mostSubjects, recordSize}
 use Rattle.search.specs.Search.{underMarks, parentIn}
@@ -85,13 +84,6 @@ module _ (t : List ℤ) (rule : TableRule t) (s : List ℕ) (marks : ℕ) (settl
       go : (limitOf l u ≡ none) ⊎ Found t (underMarks (delegationsIn s) marks) 0 (limitOf l) settled (parentIn (delegationsIn s) p) u → (limitOf l u ≡ none) ⊎ (pos 0 ≼ limitOf l u)
       go (inl e) = inl e
       go (inr f) = inr (subst (λ (z : ℤ). pos 0 ≼ z) (sym (f .carries)) (f .chain .live))
-
-  pub state-top : (l : List ℤ) (p q : List ℕ) (ds : List Delegation) → State t s marks settled at l p q ds → (u : ℕ) → limitOf l u ≼ pos 255
-  state-top l p q ds st u = go (st .search .found u)
-    where
-      go : (limitOf l u ≡ none) ⊎ Found t (underMarks (delegationsIn s) marks) 0 (limitOf l) settled (parentIn (delegationsIn s) p) u → limitOf l u ≼ pos 255
-      go (inl e) = subst (λ (z : ℤ). z ≼ pos 255) (sym e) zero-le
-      go (inr f) = subst (λ (z : ℤ). z ≼ pos 255) (sym (f .carries)) (limitFrom-top t rule (pos 255) (f .links) (le-refl 256))
 
   -- one giver's records, from its limit
   module _ (u : ℕ) (small : at ≤ 255) where
