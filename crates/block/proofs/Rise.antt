@@ -20,7 +20,8 @@ use Rattle.block.specs.Layout.{recordsAt, recordSize, receiverByte}
 use Rattle.block.specs.Bytes.{IsBytes, allFrom}
 use Rattle.block.specs.Block.{delegationIn}
 use Rattle.block.specs.Records.{recordFrom, delegationAt, delegationsTo}
-use Rattle.block.specs.WellFormed.{allPass, giverEnrolled, receiverEnrolled, endsDiffer, notToOwner, marksApart, delegationTests, recordTests, fourthZero, recordFormed, formedButGiver, follows, rises}
+use Rattle.block.specs.WellFormed.{allPass, giverEnrolled, receiverEnrolled, endsDiffer, notToOwner, marksApart, delegationTests, recordTests, fourthZero, recordFormed, follows, rises}
+use Rattle.block.specs.Pass.{formedButGiver}
 use Rattle.block.proofs.Bytes.{bytes-drop}
 use Rattle.block.proofs.Tests.{Each, end, _▸_, each}
 

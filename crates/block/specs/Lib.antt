@@ -3,3 +3,4 @@ pub mod Bytes
 pub mod Block
 pub mod Records
 pub mod WellFormed
+pub mod Pass

@@ -50,10 +50,6 @@ recordTests n = delegationFormed n ∷ fourthZero ∷ []
 unfoldable pub recordFormed : ℕ → List ℕ → Bool
 recordFormed n s = allPass (recordTests n) s
 
--- the same but for the giver, which may be any
-unfoldable pub formedButGiver : ℕ → List ℕ → Bool
-formedButGiver n s = allPass (receiverEnrolled n ∷ endsDiffer ∷ notToOwner ∷ marksApart ∷ []) (delegationIn s) && fourthZero s
-
 -- ── the head: byte 0, enrolled subjects, 1 to 64; byte 1, zero; bytes 2 and 3, delegations, 0 to 256 ──
 abbrev pub someEnrolled : List ℕ → Bool
 someEnrolled b = leb 1 (subjectsIn b)

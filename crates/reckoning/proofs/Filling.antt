@@ -26,7 +26,7 @@ use Rattle.block.specs.Records.{delegationAt}
 use Rattle.block.proofs.Bytes.{length-tabulate, tabulate-mem, mem-tabulate}
 use Rattle.block.proofs.Held.{delegations-held}
 use Rattle.queue.specs.Queue.{bit, BitPut, Lowest}
-use Rattle.queue.proofs.Buckets.{bit-zero, bit-small, bit-or, bit-here, bit-shr}
+use Rattle.queue.proofs.Buckets.{bit-zero, bit-or, bit-shr}
 use Rattle.runs.specs.Lent.{delegationsIn}
 use Rattle.search.specs.Search.{underMarks}
 use Rattle.search.specs.Found.{Searched}
@@ -96,10 +96,12 @@ pub bit-read : (n k : ℕ) → n / 2 ^ k % 2 ≡ bit n k
 bit-read n k = bit-shr n k 0 ∙ ap (bit n) (add-zero k)
 
 -- one more of a set
-pub set-on : (f : ℕ → ℕ) (set one k : ℕ) → one ≡ 1 * 2 ^ f k → ((j : ℕ) → j < k → bit set (f j) ≡ 1) → (j : ℕ) → j < k + 1 → bit (bitOr set one) (f j) ≡ 1
-set-on f set one k e h = below-more (λ j. bit (bitOr set one) (f j) ≡ 1) k
-    (λ j l. bit-or set one (f j) ∙ omega (arith, h j l, bit-small one (f j)))
-    (bit-or set one (f k) ∙ omega (arith, bit-small set (f k), ap (λ (x : ℕ). bit x (f k)) e ∙ bit-here (f k)))
+pub set-on : (f : ℕ → ℕ) (set set′ k : ℕ) → BitPut set (f k) 1 set′ → ((j : ℕ) → j < k → bit set (f j) ≡ 1) → (j : ℕ) → j < k + 1 → bit set′ (f j) ≡ 1
+set-on f set set′ k put h = below-more (λ j. bit set′ (f j) ≡ 1) k (λ j l. go j (h j l) (eqOr (f k) (f j))) (put .here)
+  where
+    go : (j : ℕ) → bit set (f j) ≡ 1 → (f k ≡ f j) ⊎ (f k ≢ f j) → bit set′ (f j) ≡ 1
+    go j w (inl e) = ap (bit set′) (sym e) ∙ put .here
+    go j w (inr d) = put .others (f j) d ∙ w
 
 -- the marks of two more numbers
 pub names-on : (f g : ℕ → ℕ) (named k : ℕ) → ((j : ℕ) → j < k → MarksAmong (f j) named × MarksAmong (g j) named) → (j : ℕ) → j < k + 1

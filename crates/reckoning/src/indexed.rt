@@ -19,7 +19,7 @@ fn receivers(block: &[u8], n: usize) -> u64
     let mut k: usize = 0;
     while k < n {
         let receiver = block::receiver(block, k) as usize;
-        set = set | (1u64 << receiver);
+        set = queue::with(set, receiver);
         k += 1;
     }
     set

@@ -2,7 +2,7 @@
 use mathlib.Core.Bool.{and-true}
 use borrow.Author.Needs.{needs}
 use borrow.Author.Tests.{eq-eqb, ne-eqb, lt-ltb, le-ltb}
-use Rattle.block.specs.WellFormed.{formedButGiver}
+use Rattle.block.specs.Pass.{formedButGiver}
 use Rattle.block.proofs.Loops.{or-none}
 use Rattle.block.proofs.read.formed_but_giver.Statement.{statement}
 use Rattle.block.proofs.read.formed_but_giver.Tie as tie

@@ -1,10 +1,9 @@
 -- `reckoning::receivers` collects the receivers of the first records. Assumes nothing.
-use mathlib.Core.Path.{ap, _∙_}
-use Prim.Native.Nat.{ℕ, _-_, _*_, _^_, _≤_}
+use mathlib.Core.Path.{subst}
+use Prim.Native.Nat.{ℕ, _-_, _≤_}
 use native.Mathlib.Omega.{arith}
-use lib.Pow.{shl-exact}
 use Rattle.block.specs.Records.{delegationAt}
-use Rattle.queue.specs.Queue.{setBits}
+use Rattle.queue.specs.Queue.{BitPut}
 use Rattle.reckoning.specs.Reckoned.{HasReceivers}
 use Rattle.reckoning.proofs.Filling.{set-on}
 use Rattle.reckoning.proofs.indexed.receivers.Statement.{statement}
@@ -25,8 +24,8 @@ receiver-requires c κs = omega arith
 cast-receiver : tie.Need-cast-receiver Inv-loop μ-loop
 cast-receiver c = omega (arith, c .receiver .ok)
 
-shl-set : tie.Need-shl-set Inv-loop μ-loop
-shl-set c =
+with-requires : tie.Need-with-requires Inv-loop μ-loop
+with-requires c κs =
     let l = c .before .before .loop in
     omega (arith, c .receiver .ensures, c .before .before .before .before .pre .1 (l .k) (omega arith))
 
@@ -38,11 +37,9 @@ loop-less c = omega arith
 
 loop-again : tie.Need-loop-again Inv-loop μ-loop
 loop-again c =
-    let s = c .before .before .before .before in
-    let l = c .before .before .loop in
-    let small = s .pre .1 (l .k) (omega arith) in
-    let one = shl-exact 1 (c .receiver .result) setBits (omega arith) (omega (arith, c .receiver .ensures)) ∙ ap (λ (x : ℕ). 1 * 2 ^ x) (c .receiver .ensures) in
-    (omega arith, set-on (λ j. delegationAt (s .args .block .now) j .receiver) (l .set) _ (l .k) one (l .inv .1))
+    let s = c .before .before .before .before .before in
+    let l = c .before .before .before .loop in
+    (omega arith, set-on (λ j. delegationAt (s .args .block .now) j .receiver) (l .set) (c .with .result) (l .k) (subst (λ (x : ℕ). BitPut (l .set) x 1 (c .with .result)) (c .before .receiver .ensures) (c .with .ensures)) (l .inv .1))
 
 returns : tie.Need-returns Inv-loop μ-loop
 returns c = λ k h. c .before .loop .inv .1 k (omega arith)
@@ -56,7 +53,7 @@ receivers-spec =
     loop-holds
     receiver-requires
     cast-receiver
-    shl-set
+    with-requires
     add-k
     loop-less
     loop-again
