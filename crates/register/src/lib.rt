@@ -1,11 +1,11 @@
-// The public calls of the register, on plain numbers and a lent block of any length and content, by document 01's own step table.
+// The public calls of the register, on plain numbers and a lent block of any length and content, by document 01's own step table; those that reckon reach also by one that the host lends as text of any length and content.
 mod cutting;
 mod granting;
 
 ghost use mathlib.Core.Path.{_≡_};
 ghost use Rattle.rules.specs.Register.{granted};
 ghost use Rattle.rules.specs.Call.{enrol, grant, revoke, downgrade, askReach, askUse};
-ghost use Rattle.steptable.specs.TableText.{ours};
+ghost use Rattle.steptable.specs.TableText.{ours, given};
 ghost use Rattle.register.specs.Made.{refusedBy, answeredBy, Made, MadeOpen};
 ghost use Rattle.register.specs.Cuts.{CutMade};
 use block::layout;
@@ -119,4 +119,57 @@ pub fn downgrade(block: &mut [u8], by: u32, giver: u32, receiver: u32, weight: u
 {
     let table = rules::steps();
     cutting::downgrade_by(block, &table, 0, by, giver, receiver, weight)
+}
+
+// Reach by the step table of a text, ours where it is empty.
+pub fn reach_table(block: &[u8], giver: u32, receiver: u32, table: &[u8]) -> Answer
+    ensures { λ r. ⌜ Made (given (now (table .entry))) (askReach giver receiver) (now (block .entry)) r (now (block .entry)) ⌝ }
+{
+    let g = steptable::read_table(table);
+    granting::reach_by(block, &g.steps, g.refusal, giver, receiver)
+}
+
+// Grant, so.
+pub fn grant_table(
+    block: &mut [u8],
+    giver: u32,
+    receiver: u32,
+    weight: u32,
+    need: u32,
+    bar: u32,
+    table: &[u8],
+) -> Answer
+    ensures { λ r. ⌜ Made (given (now (table .entry))) (grant (granted giver receiver weight need bar)) (now (block .entry)) r (now (block .exit)) ⌝ }
+{
+    let g = steptable::read_table(table);
+    granting::grant_by(block, &g.steps, g.refusal, giver, receiver, weight, need, bar)
+}
+
+// Revoke, so: what is kept is judged by this table.
+pub fn revoke_table(
+    block: &mut [u8],
+    by: u32,
+    giver: u32,
+    receiver: u32,
+    table: &[u8],
+) -> Answer
+    ensures { λ r. ⌜ CutMade (given (now (table .entry))) (revoke by giver receiver) (now (block .entry)) r (now (block .exit)) ⌝ }
+{
+    let g = steptable::read_table(table);
+    cutting::revoke_by(block, &g.steps, g.refusal, by, giver, receiver)
+}
+
+// Downgrade, so.
+pub fn downgrade_table(
+    block: &mut [u8],
+    by: u32,
+    giver: u32,
+    receiver: u32,
+    weight: u32,
+    table: &[u8],
+) -> Answer
+    ensures { λ r. ⌜ CutMade (given (now (table .entry))) (downgrade by giver receiver weight) (now (block .entry)) r (now (block .exit)) ⌝ }
+{
+    let g = steptable::read_table(table);
+    cutting::downgrade_by(block, &g.steps, g.refusal, by, giver, receiver, weight)
 }
