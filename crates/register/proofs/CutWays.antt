@@ -69,7 +69,7 @@ named-formed R y (removal g r) f p = removed-formed R g r f
 named-formed R y (lowering g r w) f p = lowered-formed R g r w (p .1) f
 
 -- an accepted call leaves, on every block, the register that the definitions leave
-register-left : (g : Given) (b : List ℕ) → IsBytes b → (c : Call) → callOn g b c .refusal ≡ 0 → onRegister (callOn g b c) ≡ callStep (g .steps) (decode b) c
+pub register-left : (g : Given) (b : List ℕ) → IsBytes b → (c : Call) → callOn g b c .refusal ≡ 0 → onRegister (callOn g b c) ≡ callStep (g .steps) (decode b) c
 register-left g b bytes c e =
     let o = callStep (g .steps) (decode b) c in
     let f = callStep-formed (g .steps) (decode b) c (held-formed b bytes (accepted-through g b c e .early .formed)) in
