@@ -2,8 +2,8 @@
 use mathlib.Core.Path.{_≡_, refl, sym, ap, subst, _∙_}
 use mathlib.Core.Logic.{_≢_, _⊎_, inl, inr}
 use mathlib.Core.Bool.{Bool, true, false, cond}
-use mathlib.Core.List.{List, [], _∷_, List·Memᴰ·not-nil}
-use Prim.Native.Nat.{ℕ, zero, suc}
+use mathlib.Core.List.{List, [], List·Memᴰ·not-nil}
+use Prim.Native.Nat.{ℕ}
 use native.Mathlib.Omega.{arith}
 use lib.Dec.{T, eqb}
 use lib.ListN.{length}
@@ -19,8 +19,7 @@ use Rattle.rules.specs.CallStep.{accepted, callStep}
 use Rattle.rules.proofs.Table.{steps-rule}
 use Rattle.rules.proofs.Lists.{eqOr, T-true}
 use Rattle.rules.proofs.Calls.{fresh-formed, callStep-under, callStep-supported}
-use Rattle.rules.specs.Trace.{stateFrom}
-use Rattle.rules.proofs.Trace.{stays, places}
+use Rattle.rules.proofs.Trace.{stays-each, stays, places}
 use Rattle.block.specs.Layout.{blockSize}
 use Rattle.block.specs.Bytes.{IsBytes}
 use Rattle.block.specs.Block.{decode, encode}
@@ -38,7 +37,7 @@ use Rattle.register.specs.Cuts.{CutsLeft}
 use Rattle.register.specs.declared.Answer.{Answer}
 use Rattle.register.proofs.CutWays.{register-left, cuts-left}
 use Rattle.register.proofs.Through.{accepted-through}
-use Rattle.demands.specs.History.{Asked, asks, reckons, lentTo, askedOn, CutsAsked, bytesLeft, blockAt, Under, Demand3}
+use Rattle.demands.specs.History.{Asked, asks, reckons, lentTo, askedOn, CutsAsked, bytesLeft, blockAt, GivenBelow, Demand3}
 use Rattle.demands.specs.Kept.{Kept}
 use Rattle.demands.proofs.Keeping.{kept}
 
@@ -78,12 +77,16 @@ cuts-asked b (asks text (downgrade y g r w)) bytes = cuts-left (given text) (giv
 cuts-asked b (asks text (askReach g r)) bytes = λ k i. absurd i
 cuts-asked b (asks text (askUse r)) bytes = λ k i. absurd i
 
--- every call leaves a well-formed block so
-abbrev Sound : List ℕ → Type 0
+-- every call leaves bytes so
+pub bytes-left : (b : List ℕ) (q : Asked) → IsBytes b → IsBytes (askedOn b q .bytes)
+bytes-left b (asks text c) bytes = kept (lentTo c text) b c (lent-keeps c text) bytes .bytes
+
+-- and a well-formed block
+abbrev pub Sound : List ℕ → Type 0
 Sound b = IsBytes b × (wellFormed b ≡ true)
 
-sound : (b : List ℕ) (q : Asked) → Sound b → Sound (askedOn b q .bytes)
-sound b (asks text c) s = (k .bytes, go (eqOr (callOn (lentTo c text) b c .refusal) 0))
+pub sound : (b : List ℕ) (q : Asked) → Sound b → Sound (askedOn b q .bytes)
+sound b (asks text c) s = (bytes-left b (asks text c) (s .0), go (eqOr (callOn (lentTo c text) b c .refusal) 0))
   where
     k : Kept (lentTo c text) b c
     k = kept (lentTo c text) b c (lent-keeps c text) (s .0)
@@ -92,7 +95,7 @@ sound b (asks text c) s = (k .bytes, go (eqOr (callOn (lentTo c text) b c .refus
     go (inl e) = k .formed e
     go (inr n) = ap wellFormed (k .refused n) ∙ s .1
 
-fresh-sound : Sound (encode fresh)
+pub fresh-sound : Sound (encode fresh)
 fresh-sound = (bytes-encode fresh fresh-formed, T-true (wellFormed (encode fresh)) (encode-formed fresh fresh-formed))
 
 -- ── support ──
@@ -126,8 +129,8 @@ module _ (m : List ℤ) (rule : TableRule m) where
       go true e z = callStep-under (given text .steps) m (given-keeps text) rule (below (subst T (sym e) tt) (passes text z)) R c f s
       go false e z = subst (λ o. Supported m (o .left)) (same-step m steps R c e) (callStep-supported m rule R c f s)
 
-  call-under : (text : List ℕ) (c : Call) → (T (reckons c) → given text .refusal ≡ 0 → Below (given text .steps) m) → (b : List ℕ) → IsBytes b → Supported m (decode b) → Supported m (decode (askedOn b (asks text c) .bytes))
-  call-under text c below b bytes s = go (eqOr (callOn g b c .refusal) 0)
+  pub call-under : (b : List ℕ) (q : Asked) → GivenBelow q m → IsBytes b → Supported m (decode b) → Supported m (decode (askedOn b q .bytes))
+  call-under b (asks text c) below bytes s = go (eqOr (callOn g b c .refusal) 0)
     where
       g : Given
       g = lentTo c text
@@ -138,12 +141,8 @@ module _ (m : List ℤ) (rule : TableRule m) where
           subst (λ o. Supported m (o .left)) (sym (register-left g b bytes c e)) (step-under text c below (decode b) (held-formed b bytes (h .formed)) s (h .text))
       go (inr n) = subst (λ (x : List ℕ). Supported m (decode x)) (sym (kept g b c (lent-keeps c text) bytes .refused n)) s
 
-  supported-from : (b : List ℕ) → Sound b → Supported m (decode b) → (qs : List Asked) → Under qs m → (i : ℕ) → Supported m (decode (stateFrom askedOn bytesLeft b qs i))
-  supported-from b s p qs u zero = p
-  supported-from b s p [] u (suc i) = p
-  supported-from b s p (asks text c ∷ qs) u (suc i) = supported-from (askedOn b (asks text c) .bytes) (sound b (asks text c) s) (call-under text c (u .0) b (s .0) p) qs (u .1) i
-
-fresh-supported : (m : List ℤ) → Supported m (decode (encode fresh))
+-- a fresh register is supported by every table
+pub fresh-supported : (m : List ℤ) → Supported m (decode (encode fresh))
 fresh-supported m = subst (Supported m) (sym (decode-encode fresh fresh-formed)) (λ d k. absurd (List·Memᴰ·not-nil k))
 
 -- ── down a list ──
@@ -152,10 +151,8 @@ fresh-supported m = subst (Supported m) (sym (decode-encode fresh fresh-formed))
 pub demand3 : Demand3
 demand3 = record {
   opened = open-written;
-  places = places askedOn bytesLeft IsBytes (λ b q bytes. bytes-left b q bytes) CutsAsked cuts-asked (encode fresh) (bytes-encode fresh fresh-formed);
+  places = places askedOn bytesLeft IsBytes bytes-left CutsAsked cuts-asked (encode fresh) (fresh-sound .0);
   formed = λ qs i. stays askedOn bytesLeft Sound sound (encode fresh) qs i fresh-sound .1;
-  supported = λ qs m rule u i. supported-from m rule (encode fresh) fresh-sound (fresh-supported m) qs u i;
+  supported = λ qs i m rule u. stays-each askedOn bytesLeft (λ b. IsBytes b × Supported m (decode b)) (λ q. GivenBelow q m)
+      (λ b q below p. (bytes-left b q (p .0), call-under m rule b q below (p .0) (p .1))) (encode fresh) qs i u (fresh-sound .0, fresh-supported m) .1;
 }
-  where
-    bytes-left : (b : List ℕ) (q : Asked) → IsBytes b → IsBytes (askedOn b q .bytes)
-    bytes-left b (asks text c) bytes = kept (lentTo c text) b c (lent-keeps c text) bytes .bytes

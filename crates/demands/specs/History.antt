@@ -1,10 +1,12 @@
 -- Demand 3 in its byte form: one claim about a whole list of calls on the block that open writes, each lent a step table as a text of its own (document 01, 'Calls'; document 02, C-11). Assumes nothing.
 use mathlib.Core.Path.{_≡_}
 use mathlib.Core.Bool.{Bool, true, false, cond}
-use mathlib.Core.List.{List, [], _∷_}
+use mathlib.Core.List.{List}
 use Prim.Native.Nat.{ℕ}
 use lib.Dec.{T}
+use lib.ListN.{take}
 use lib.IntN.{ℤ}
+use Rattle.rules.specs.List.{_∈_}
 use Rattle.rules.specs.Table.{TableRule, Below}
 use Rattle.rules.specs.Support.{Supported}
 use Rattle.rules.specs.Call.{Call, enrol, grant, revoke, downgrade, askReach, askUse, fresh}
@@ -59,10 +61,13 @@ blockAt qs i = stateFrom askedOn bytesLeft (encode fresh) qs i
 
 -- ── the demand ──
 
--- no table that was given to a call of the list, ours among them where a call was given none, has an entry above that of m
-abbrev pub Under : List Asked → List ℤ → Type 0
-Under [] m = Unit {0}
-Under (asks text c ∷ qs) m = (T (reckons c) → given text .refusal ≡ 0 → Below (given text .steps) m) × Under qs m
+-- the table given to the call, if it takes one and its text passes, has no entry above that of m; ours is one, where no text was lent
+abbrev pub GivenBelow : Asked → List ℤ → Type 0
+GivenBelow (asks text c) m = T (reckons c) → given text .refusal ≡ 0 → Below (given text .steps) m
+
+-- so for each of the first i calls
+abbrev pub Under : List Asked → ℕ → List ℤ → Type 0
+Under qs i m = (q : Asked) → q ∈ take i qs → GivenBelow q m
 
 pub record Demand3 : Type 0 where
   -- the list begins with the block that open writes
@@ -70,4 +75,4 @@ pub record Demand3 : Type 0 where
   pub places : AtEveryPlace askedOn bytesLeft (encode fresh) (PlaceRight askedOn CutsAsked)
   pub formed : (qs : List Asked) (i : ℕ) → wellFormed (blockAt qs i) ≡ true
   -- a block need not be supported by the table of the next call; it is by every table that no table given so far exceeds
-  pub supported : (qs : List Asked) (m : List ℤ) → TableRule m → Under qs m → (i : ℕ) → Supported m (decode (blockAt qs i))
+  pub supported : (qs : List Asked) (i : ℕ) (m : List ℤ) → TableRule m → Under qs i m → Supported m (decode (blockAt qs i))
