@@ -8,7 +8,7 @@ use Rattle.seatreg.proofs.seatreg_reach_table.Tie as tie
 
 returns : tie.Need-returns
 returns c =
-    let a = c .before .before .before .args in
+    let a = c .before .before .before .before .args in
     short (a .block .now) (a .answers .now) (given (a .table .now)) (askReach (a .giver) (a .receiver)) (c .if1 .taken)
 
 reach-table-requires : tie.Need-reach-table-requires
@@ -25,7 +25,7 @@ returns-2 c =
     let h = c .before .before .hand-out in
     let m = c .before .before .before .before in
     let test = m .before in
-    let a = test .before .before .before .args in
+    let a = test .before .before .before .before .args in
     made (a .block .now) (a .answers .now) (given (a .table .now)) (askReach (a .giver) (a .receiver))
     (test .if1 .left) (m .reach-table .result) (a .block .now) (m .reach-table .ensures) (h .result) (h .last .1 .0) (h .ensures)
 
