@@ -3,9 +3,12 @@ mod held;
 mod links;
 
 ghost use mathlib.Core.Path.{_≡_};
+ghost use Prim.Native.Nat.{_*_, _≤_};
 ghost use denote.Ref.{ptr};
+ghost use lib.ListN.{length, take};
 ghost use Rattle.rules.specs.Table.{TableRule};
 ghost use Rattle.steptable.specs.TableText.{lent, ours, given};
+ghost use Rattle.chain.specs.Links.{linkSize};
 ghost use Rattle.chain.specs.ChainOn.{unwrittenBy, ChainMade, ChainFront};
 use refusals::early;
 use refusals::pair_passed;
@@ -77,6 +80,16 @@ pub fn write_chain_table(
     write_chain_by(block, &g.steps, g.refusal, giver, receiver, buf)
 }
 
+// Tells the refusal of what was written, 0 when accepted, and hands back the filled front of `buf`.
+fn front<'a>(written: ChainAnswer, refusal: &mut u32, buf: &'a mut [u8]) -> &'a mut [u8]
+    requires { ⌜ linkSize * written .links ≤ length (now buf) ⌝ }
+    ensures { λ r. ⌜ (now (refusal .exit) ≡ written .refusal) × (now r ≡ take (linkSize * written .links) (now (buf .entry))) × (ptr r ≡ ptr (buf .entry)) ⌝ }
+{
+    *refusal = written.refusal;
+    let end = LINK_SIZE * written.links;
+    &mut buf[..end]
+}
+
 // The same two: tells the refusal, 0 when accepted, and hands back the filled front of `buf`, empty where refused.
 pub fn chain<'a>(
     block: &[u8],
@@ -88,9 +101,7 @@ pub fn chain<'a>(
     ensures { λ r. ⌜ ChainFront ours (now (block .entry)) giver receiver (now (buf .entry)) (now (refusal .exit)) (now r) × (ptr r ≡ ptr (buf .entry)) ⌝ }
 {
     let written = write_chain(block, giver, receiver, buf);
-    *refusal = written.refusal;
-    let end = LINK_SIZE * written.links;
-    &mut buf[..end]
+    front(written, refusal, buf)
 }
 
 pub fn chain_table<'a>(
@@ -104,7 +115,5 @@ pub fn chain_table<'a>(
     ensures { λ r. ⌜ ChainFront (given (now (table .entry))) (now (block .entry)) giver receiver (now (buf .entry)) (now (refusal .exit)) (now r) × (ptr r ≡ ptr (buf .entry)) ⌝ }
 {
     let written = write_chain_table(block, giver, receiver, table, buf);
-    *refusal = written.refusal;
-    let end = LINK_SIZE * written.links;
-    &mut buf[..end]
+    front(written, refusal, buf)
 }

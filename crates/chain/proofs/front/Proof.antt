@@ -1,0 +1,18 @@
+-- `chain::front` hands back the front of the buffer that was filled. Assumes nothing.
+use borrow.Author.Needs.{needs}
+use mathlib.Core.Path.{sym}
+use lib.Seq.{length-take-le}
+use Rattle.chain.proofs.front.Statement.{statement}
+use Rattle.chain.proofs.front.Tie as tie
+
+mul-end : tie.Need-mul-end
+mul-end c = search needs
+
+slice-aggregate-result : tie.Need-slice-aggregate-result
+slice-aggregate-result c = sym (length-take-le _ _ (c .before .before .pre))
+
+returns : tie.Need-returns
+returns c = search needs
+
+pub front-spec : {M : Type 1} → statement M
+front-spec = tie.close (tie.spec mul-end slice-aggregate-result returns)
