@@ -2,6 +2,8 @@
 //! `call by giver receiver weight need bar BLOCK`. Calls 0 to 5 are those of
 //! the call file, 6 is open, 7 is chain with its buffer's length as the weight.
 //! BLOCK is `=`, the block as the line before left it, or `LENGTH:BYTES`.
+//! In a file of the kind `table` a step table's text stands before the block,
+//! `... bar TABLE BLOCK`: `=`, the text of the line before, or `LENGTH:BYTES`.
 //! The expected line is `refusal first second third BLOCK`, with `=` if no byte
 //! changed. Chain is called twice, each time on a fresh buffer: by the function
 //! that counts its links, which gives the first answer, and by the one that
@@ -10,7 +12,7 @@
 //! refused, 0 if nothing was written.
 
 use crate::call::{chain_table, run_table, Outcome};
-use crate::callfile::{from_values, joined, read_values, used_only, values_of};
+use crate::callfile::{from_values, joined, lines, read_values, used_only, values_of};
 use crate::engine::Engine;
 use crate::judge::judge;
 use crate::refusal::{Call, Passed};
@@ -21,11 +23,20 @@ pub const MOST_BYTES: usize = 4096;
 /// What the chain call's buffer holds before the call.
 const UNWRITTEN: u8 = 0xA5;
 
-/// A call and its block; without one, the block as the case before left it.
+/// A call, the table's text lent to it if it is lent one, and its block; without
+/// one, the block as the case before left it.
 #[derive(Clone, Debug, PartialEq, Eq)]
 pub struct Case {
     pub passed: Passed,
+    pub text: Option<Vec<u8>>,
     pub block: Option<Vec<u8>>,
+}
+
+impl Case {
+    /// The table's text; a call that is lent none is lent an empty one.
+    pub fn lent(&self) -> &[u8] {
+        self.text.as_deref().unwrap_or_default()
+    }
 }
 
 /// `LENGTH:BYTES`, a dot for a zero byte, trailing zero bytes left out.
@@ -72,21 +83,46 @@ fn read_bytes(text: &[u8]) -> Option<Vec<u8>> {
     Some(bytes)
 }
 
-/// A line of a case file.
-pub fn case_line(case: &Case) -> String {
-    let block = case.block.as_deref().map_or("=".to_string(), block_text);
-    format!("{} {block}\n", joined(&values_of(&case.passed)))
+/// A line of a case file, after one with the text before, if there is such a line.
+pub fn case_line(case: &Case, before: Option<&[u8]>) -> String {
+    let numbers = joined(&values_of(&case.passed));
+    let block = column(case.block.as_deref());
+    match case.text.as_deref() {
+        None => format!("{numbers} {block}\n"),
+        text => format!("{numbers} {} {block}\n", column(text.filter(|_| text != before))),
+    }
 }
 
-/// The case on a line without its byte 10.
-pub fn read_case(line: &[u8]) -> Option<Case> {
+/// Bytes, or the sign for those of the line before.
+fn column(bytes: Option<&[u8]>) -> String {
+    bytes.map_or("=".to_string(), block_text)
+}
+
+/// The case on a line without its byte 10, after a line with the text before.
+pub fn read_case(line: &[u8], before: &[u8]) -> Option<Case> {
+    let (front, block) = split_last(line)?;
+    let block = read_column(block)?;
+    if let Some(values) = read_values(front) {
+        return Some(Case { passed: from_values(values)?, text: None, block });
+    }
+    let (numbers, text) = split_last(front)?;
+    let passed = from_values(read_values(numbers)?)?;
+    let text = read_column(text)?.unwrap_or(before.to_vec());
+    Some(Case { passed, text: Some(text), block })
+}
+
+/// The last word of a line and what is before its space.
+fn split_last(line: &[u8]) -> Option<(&[u8], &[u8])> {
     let space = line.iter().rposition(|&byte| byte == b' ')?;
-    let passed = from_values(read_values(&line[..space])?)?;
-    let block = match &line[space + 1..] {
-        b"=" => None,
-        text => Some(read_block(text)?),
-    };
-    Some(Case { passed, block })
+    Some((&line[..space], &line[space + 1..]))
+}
+
+/// The bytes of a column, none for those of the line before.
+fn read_column(text: &[u8]) -> Option<Option<Vec<u8>>> {
+    match text {
+        b"=" => Some(None),
+        text => read_block(text).map(Some),
+    }
 }
 
 /// Runs a case on the block left before it; answers the expected line and
@@ -96,7 +132,7 @@ pub fn expected_line(engine: &Engine, case: &Case, current: &mut Vec<u8>) -> Str
         current.clone_from(block);
     }
     let before = current.clone();
-    let outcome = answer(engine, &case.passed, current);
+    let outcome = answer_table(engine, &case.passed, case.lent(), current);
     left_line(&outcome, &before, current)
 }
 
@@ -135,14 +171,15 @@ fn chain_outcome(n: &Passed, text: &[u8], block: &[u8]) -> Outcome {
 
 /// The expected text of a whole case file, or the number of a line that is no case.
 pub fn expected_text(engine: &Engine, text: &[u8]) -> Result<String, usize> {
-    let mut current = Vec::new();
+    let (mut before, mut current) = (Vec::new(), Vec::new());
     let mut output = String::new();
-    for (at, line) in text.split_inclusive(|&byte| byte == b'\n').enumerate() {
-        let case = line.strip_suffix(b"\n").and_then(read_case).ok_or(at + 1)?;
-        if at == 0 && case.block.is_none() {
+    for (at, line) in lines(text).enumerate() {
+        if at == 0 && line.contains(&b'=') {
             return Err(1);
         }
+        let case = line.strip_suffix(b"\n").and_then(|line| read_case(line, &before)).ok_or(at + 1)?;
         output.push_str(&expected_line(engine, &case, &mut current));
+        before = case.text.unwrap_or_default();
     }
     Ok(output)
 }

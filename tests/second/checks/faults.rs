@@ -1,10 +1,11 @@
-//! Two deliberate faults. The checks must reject them.
+//! Three deliberate faults. The checks must reject them.
 
 use second::block::{Delegation, Register, MOST_SUBJECTS};
 use second::chain::{meets, NONE, START};
 use second::cut::{all_rounds, round};
 use second::engine::{Engine, FAST};
-use second::table::Table;
+use second::search;
+use second::table::{Table, OURS};
 use std::collections::VecDeque;
 
 /// A cut that does one round only.
@@ -13,6 +14,9 @@ pub const ONE_ROUND: Engine = Engine { rounds: one_round, ..FAST };
 /// A search that visits each subject once, on its first chain.
 pub const VISITED_ONCE: Engine =
     Engine { reach: first_chain_reach, reaches: first_chain_reaches, rounds: all_rounds };
+
+/// Calls that leave out the table's text and reckon by ours.
+pub const TEXT_LEFT_OUT: Engine = Engine { reach: our_reach, reaches: our_reaches, rounds: all_rounds };
 
 fn one_round(engine: &Engine, table: &Table, register: &mut Register) -> u32 {
     1 + round(engine, table, register) as u32
@@ -39,4 +43,12 @@ fn first_chain_reach(table: &Table, register: &Register, giver: u32, receiver: u
 fn first_chain_reaches(table: &Table, register: &Register) -> Vec<i16> {
     let of_pair = |d: &Delegation| first_chain_reach(table, register, d.giver as u32, d.receiver as u32);
     register.delegations.iter().map(of_pair).collect()
+}
+
+fn our_reach(_: &Table, register: &Register, giver: u32, receiver: u32) -> i16 {
+    search::reach(register, giver, receiver)
+}
+
+fn our_reaches(_: &Table, register: &Register) -> Vec<i16> {
+    search::reaches(&OURS, register)
 }

@@ -16,7 +16,7 @@ pub fn cases(kind: &Kind) -> Vec<Case> {
 }
 
 /// 0-1, 1-2, ... 62-63, and 63-1 so that a chain has 63 links.
-fn path(weight: fn(u8) -> u8) -> Register {
+pub fn path(weight: fn(u8) -> u8) -> Register {
     let mut grants: Vec<Grant> = (0..63).map(|giver| (giver, giver + 1, weight(giver), 0, 0)).collect();
     grants.push((63, 1, weight(63), 0, 0));
     register(&[0; 64], &grants)
