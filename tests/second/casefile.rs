@@ -2,6 +2,8 @@
 //! `call by giver receiver weight need bar BLOCK`. Calls 0 to 5 are those of
 //! the call file, 6 is open, 7 is chain with its buffer's length as the weight.
 //! BLOCK is `=`, the block as the line before left it, or `LENGTH:BYTES`.
+//! In a file of the kind `table` a step table's text stands before the block,
+//! `... bar TABLE BLOCK`: `=`, the text of the line before, or `LENGTH:BYTES`.
 //! The expected line is `refusal first second third BLOCK`, with `=` if no byte
 //! changed. Chain is called twice, each time on a fresh buffer: by the function
 //! that counts its links, which gives the first answer, and by the one that
@@ -9,22 +11,32 @@
 //! and the third of the part. Accepted, an answer is 1 if the chain is right;
 //! refused, 0 if nothing was written.
 
-use crate::call::{chain, run, Outcome};
-use crate::callfile::{from_values, joined, read_values, used_only, values_of};
+use crate::call::{chain_table, run_table, Outcome};
+use crate::callfile::{from_values, joined, lines, read_values, used_only, values_of};
 use crate::engine::Engine;
 use crate::judge::judge;
 use crate::refusal::{Call, Passed};
+use crate::table::Table;
 
 pub const MOST_BYTES: usize = 4096;
 
 /// What the chain call's buffer holds before the call.
 const UNWRITTEN: u8 = 0xA5;
 
-/// A call and its block; without one, the block as the case before left it.
+/// A call, the table's text lent to it if it is lent one, and its block; without
+/// one, the block as the case before left it.
 #[derive(Clone, Debug, PartialEq, Eq)]
 pub struct Case {
     pub passed: Passed,
+    pub text: Option<Vec<u8>>,
     pub block: Option<Vec<u8>>,
+}
+
+impl Case {
+    /// The table's text; a call that is lent none is lent an empty one.
+    pub fn lent(&self) -> &[u8] {
+        self.text.as_deref().unwrap_or_default()
+    }
 }
 
 /// `LENGTH:BYTES`, a dot for a zero byte, trailing zero bytes left out.
@@ -71,21 +83,46 @@ fn read_bytes(text: &[u8]) -> Option<Vec<u8>> {
     Some(bytes)
 }
 
-/// A line of a case file.
-pub fn case_line(case: &Case) -> String {
-    let block = case.block.as_deref().map_or("=".to_string(), block_text);
-    format!("{} {block}\n", joined(&values_of(&case.passed)))
+/// A line of a case file, after one with the text before, if there is such a line.
+pub fn case_line(case: &Case, before: Option<&[u8]>) -> String {
+    let numbers = joined(&values_of(&case.passed));
+    let block = column(case.block.as_deref());
+    match case.text.as_deref() {
+        None => format!("{numbers} {block}\n"),
+        text => format!("{numbers} {} {block}\n", column(text.filter(|_| text != before))),
+    }
 }
 
-/// The case on a line without its byte 10.
-pub fn read_case(line: &[u8]) -> Option<Case> {
+/// Bytes, or the sign for those of the line before.
+fn column(bytes: Option<&[u8]>) -> String {
+    bytes.map_or("=".to_string(), block_text)
+}
+
+/// The case on a line without its byte 10, after a line with the text before.
+pub fn read_case(line: &[u8], before: &[u8]) -> Option<Case> {
+    let (front, block) = split_last(line)?;
+    let block = read_column(block)?;
+    if let Some(values) = read_values(front) {
+        return Some(Case { passed: from_values(values)?, text: None, block });
+    }
+    let (numbers, text) = split_last(front)?;
+    let passed = from_values(read_values(numbers)?)?;
+    let text = read_column(text)?.unwrap_or(before.to_vec());
+    Some(Case { passed, text: Some(text), block })
+}
+
+/// The last word of a line and what is before its space.
+fn split_last(line: &[u8]) -> Option<(&[u8], &[u8])> {
     let space = line.iter().rposition(|&byte| byte == b' ')?;
-    let passed = from_values(read_values(&line[..space])?)?;
-    let block = match &line[space + 1..] {
-        b"=" => None,
-        text => Some(read_block(text)?),
-    };
-    Some(Case { passed, block })
+    Some((&line[..space], &line[space + 1..]))
+}
+
+/// The bytes of a column, none for those of the line before.
+fn read_column(text: &[u8]) -> Option<Option<Vec<u8>>> {
+    match text {
+        b"=" => Some(None),
+        text => read_block(text).map(Some),
+    }
 }
 
 /// Runs a case on the block left before it; answers the expected line and
@@ -95,7 +132,7 @@ pub fn expected_line(engine: &Engine, case: &Case, current: &mut Vec<u8>) -> Str
         current.clone_from(block);
     }
     let before = current.clone();
-    let outcome = answer(engine, &case.passed, current);
+    let outcome = answer_table(engine, &case.passed, case.lent(), current);
     left_line(&outcome, &before, current)
 }
 
@@ -108,34 +145,41 @@ pub fn left_line(outcome: &Outcome, before: &[u8], after: &[u8]) -> String {
 
 /// The outcome of any call; for chain each answer is 1 if it is right.
 pub fn answer(engine: &Engine, n: &Passed, block: &mut [u8]) -> Outcome {
+    answer_table(engine, n, b"", block)
+}
+
+/// The same, lent a table's text.
+pub fn answer_table(engine: &Engine, n: &Passed, text: &[u8], block: &mut [u8]) -> Outcome {
     let n = used_only(n);
     match n.call {
-        Call::Chain => chain_outcome(&n, block),
-        _ => run(engine, &n, block),
+        Call::Chain => chain_outcome(&n, text, block),
+        _ => run_table(engine, &n, text, block),
     }
 }
 
-fn chain_outcome(n: &Passed, block: &[u8]) -> Outcome {
+fn chain_outcome(n: &Passed, text: &[u8], block: &[u8]) -> Outcome {
     let mut buffer = vec![UNWRITTEN; (n.weight as usize).min(MOST_BYTES)];
-    let written = chain(block, n.giver, n.receiver, &mut buffer);
+    let written = chain_table(block, n.giver, n.receiver, text, &mut buffer);
     let rest_kept = buffer[written.filled..].iter().all(|&byte| byte == UNWRITTEN);
     if written.refusal != 0 {
         return Outcome { refusal: written.refusal, answers: [0, 0, 0] };
     }
-    let right = rest_kept && judge(block, n.giver, n.receiver, &buffer[..written.filled]).is_ok();
+    let is_chain = |table: Table| judge(&table, block, n.giver, n.receiver, &buffer[..written.filled]).is_ok();
+    let right = rest_kept && Table::read(text).is_ok_and(is_chain);
     Outcome { refusal: 0, answers: [right as i32; 3] }
 }
 
 /// The expected text of a whole case file, or the number of a line that is no case.
 pub fn expected_text(engine: &Engine, text: &[u8]) -> Result<String, usize> {
-    let mut current = Vec::new();
+    let (mut before, mut current) = (Vec::new(), Vec::new());
     let mut output = String::new();
-    for (at, line) in text.split_inclusive(|&byte| byte == b'\n').enumerate() {
-        let case = line.strip_suffix(b"\n").and_then(read_case).ok_or(at + 1)?;
-        if at == 0 && case.block.is_none() {
+    for (at, line) in lines(text).enumerate() {
+        if at == 0 && line.contains(&b'=') {
             return Err(1);
         }
+        let case = line.strip_suffix(b"\n").and_then(|line| read_case(line, &before)).ok_or(at + 1)?;
         output.push_str(&expected_line(engine, &case, &mut current));
+        before = case.text.unwrap_or_default();
     }
     Ok(output)
 }

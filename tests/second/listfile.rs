@@ -1,32 +1,41 @@
 //! List files. A line is a list of calls that are made by one call, every block
 //! kept: the lengths of the buffers lent for blocks, refusals and answers, the
-//! list's numbers, seven for each call as in the call file, and a full stop.
+//! texts of the list's tables, `=` for those of the line before or `LENGTH:BYTES`,
+//! the list's numbers, nine for each call, and a full stop. The nine are the seven
+//! of the call file and, for a call that takes a table, where its text begins in
+//! the texts and how long it is.
 //! A list is refused with 1 if its numbers are no whole calls, or a buffer has
 //! not the length of a block more than calls, a refusal a call, three answers a
-//! call; then with 7 if a call's number is none of the call file's. A refused
-//! list writes nothing. Else block 0 is open's, and each call is made on a copy
-//! of the block before; columns that it does not use are not looked at.
+//! call, or a call's text is not within the texts; then with 7 if a call's number
+//! is none of the call file's. A refused list writes nothing. Else block 0 is
+//! open's, and each call is made on a copy of the block before; columns that it
+//! does not use are not looked at.
 //! Expected is a line `refusal BLOCK` with block 0, `=` if it is not written,
 //! and for each whole call what its refusal, answers and block hold, the line
 //! of a case file.
 
 use crate::block::{encode, Register, BLOCK_LEN};
-use crate::call::{run, Outcome};
-use crate::callfile::{from_values, used_only, CALLS_IN_FILE, MALFORMED};
+use crate::call::{run_table, Outcome};
+use crate::callfile::{from_values, used_only, CALLS_IN_FILE};
 use crate::casefile::{block_text, left_line};
 use crate::engine::Engine;
-use crate::refusal::{Passed, WRONG_LENGTH};
+use crate::refusal::{takes_table, Passed, MALFORMED, WRONG_LENGTH};
 
 /// Numbers of a call.
-pub const NUMBERS: usize = 7;
+pub const NUMBERS: usize = 9;
+
+/// Texts have at most so many bytes.
+pub const MOST_TEXTS: usize = 8192;
 
 /// What the buffers of refusals and answers hold before the call.
 const UNWRITTEN: Outcome = Outcome { refusal: 77, answers: [-7, -7, -7] };
 
-/// The lengths of the buffers of blocks, refusals and answers, and the numbers.
+/// The lengths of the buffers of blocks, refusals and answers, the texts and the
+/// numbers.
 #[derive(Clone, Debug, PartialEq, Eq)]
 pub struct List {
     pub lengths: [usize; 3],
+    pub texts: Vec<u8>,
     pub numbers: Vec<u32>,
 }
 
@@ -43,21 +52,36 @@ impl List {
 
     /// 0 when accepted.
     pub fn refusal(&self) -> u32 {
-        if self.numbers.len() % NUMBERS != 0 || self.lengths != lengths(self.calls()) {
+        let mut calls = self.numbers.chunks_exact(NUMBERS);
+        let sized = self.numbers.len() % NUMBERS == 0 && self.lengths == lengths(self.calls());
+        if !sized || calls.clone().any(|call| self.text(call).is_none()) {
             return WRONG_LENGTH;
         }
-        if self.numbers.chunks_exact(NUMBERS).any(|call| call[0] as usize >= CALLS_IN_FILE) {
+        if calls.any(|call| call[0] as usize >= CALLS_IN_FILE) {
             return MALFORMED;
         }
         0
     }
+
+    /// The text of a call's table, empty if the call takes none; nothing if it is
+    /// not within the texts.
+    pub fn text(&self, call: &[u32]) -> Option<&[u8]> {
+        if !passed(call).is_some_and(|n| takes_table(n.call)) {
+            return Some(b"");
+        }
+        let [begin, length] = [call[NUMBERS - 2], call[NUMBERS - 1]].map(|number| number as usize);
+        self.texts.get(begin..begin.checked_add(length)?)
+    }
 }
 
-/// A line of a list file.
-pub fn list_line(list: &List) -> String {
+/// A line of a list file, after one with the texts before, if there is such a line.
+/// Empty texts are written as they are.
+pub fn list_line(list: &List, before: Option<&[u8]>) -> String {
     let [blocks, refusals, answers] = list.lengths;
+    let again = !list.texts.is_empty() && before == Some(&list.texts);
+    let texts = if again { "=".to_string() } else { block_text(&list.texts) };
     let numbers: String = list.numbers.iter().map(|number| format!("{number} ")).collect();
-    format!("{blocks} {refusals} {answers} {numbers}.\n")
+    format!("{blocks} {refusals} {answers} {texts} {numbers}.\n")
 }
 
 /// What is expected of a list.
@@ -71,15 +95,18 @@ pub fn expected_lines(engine: &Engine, list: &List) -> String {
 fn made(engine: &Engine, list: &List) -> String {
     let mut block = encode(&Register::fresh());
     let mut text = format!("0 {}\n", block_text(&block));
-    for n in list.numbers.chunks_exact(NUMBERS).filter_map(passed) {
+    for call in list.numbers.chunks_exact(NUMBERS) {
+        let (Some(n), Some(lent)) = (passed(call), list.text(call)) else { continue };
         let before = block.clone();
-        let outcome = run(engine, &n, &mut block);
+        let outcome = run_table(engine, &n, lent, &mut block);
         text.push_str(&left_line(&outcome, &before, &block));
     }
     text
 }
 
-fn passed(values: &[u32]) -> Option<Passed> {
-    let n = from_values(values.try_into().ok()?)?;
+/// The call of nine numbers, if the first is a call's of the call file.
+pub fn passed(numbers: &[u32]) -> Option<Passed> {
+    let values = numbers[..NUMBERS - 2].try_into().ok()?;
+    let n = from_values(values).filter(|n| (n.call as usize) < CALLS_IN_FILE)?;
     Some(used_only(&n))
 }

@@ -3,19 +3,20 @@
 //! makes a call panic.
 
 use super::same;
-use crate::faults::{ONE_ROUND, VISITED_ONCE};
-use generate::{lists, unsupported};
-use second::block::{encode, well_formed, Register, BLOCK_LEN};
+use crate::faults::{ONE_ROUND, TEXT_LEFT_OUT, VISITED_ONCE};
+use generate::{lists, texts, unsupported};
+use second::block::{decode, encode, well_formed, Register, BLOCK_LEN};
 use second::call::{self, Outcome};
-use second::casefile::answer;
+use second::casefile::{answer, answer_table};
 use second::engine::{Engine, FAST, LITERAL};
-use second::random::Random;
+use second::random::{random_table, Random};
 use second::refusal::{applying, tests, Call, Passed, CALLS};
+use second::table::{Table, OURS};
 
 /// Runs a call and checks what it did to the block.
-fn checked(engine: &Engine, n: &Passed, block: &mut Vec<u8>) -> Result<Outcome, String> {
+fn checked(engine: &Engine, n: &Passed, text: &[u8], block: &mut Vec<u8>) -> Result<Outcome, String> {
     let before = block.clone();
-    let outcome = answer(engine, n, block);
+    let outcome = answer_table(engine, n, text, block);
     let reads_only = matches!(n.call, Call::Reach | Call::Use | Call::Chain);
     if (outcome.refusal != 0 || reads_only) && *block != before {
         return Err(format!("{n:?} changed the block"));
@@ -30,11 +31,12 @@ fn checked(engine: &Engine, n: &Passed, block: &mut Vec<u8>) -> Result<Outcome, 
 }
 
 /// The refusal is the first that applies in the order of the lists.
-fn first_applying(n: &Passed, block: &[u8]) -> u32 {
-    let all = applying(&LITERAL, n, block, n.weight as usize);
+fn first_applying(n: &Passed, text: &[u8], block: &[u8]) -> u32 {
+    let all = applying(&LITERAL, n, text, block, n.weight as usize);
     let lists = tests(n.call);
     let mut order = vec![1];
     order.extend(lists.passed.iter().map(|(number, _)| *number));
+    order.extend(lists.table);
     order.push(8);
     order.extend(lists.held.iter().map(|(number, _)| *number));
     order.into_iter().find(|number| all.contains(number)).unwrap_or(0)
@@ -48,8 +50,8 @@ fn same_lists(engine: &Engine) -> Result<usize, String> {
         let mut block = encode(&Register::fresh());
         for n in lists::list(&mut random, &lists::CUT, 60) {
             let mut literal = block.clone();
-            let due = first_applying(&n, &block);
-            let found = checked(engine, &n, &mut block)?;
+            let due = first_applying(&n, b"", &block);
+            let found = checked(engine, &n, b"", &mut block)?;
             same("outcome", found, answer(&LITERAL, &n, &mut literal))?;
             same("block", &block, &literal)?;
             same("refusal", found.refusal, due)?;
@@ -66,6 +68,48 @@ fn lists_are_literal() {
     assert!(same_lists(&ONE_ROUND).is_err());
 }
 
+/// Any text: empty, refused, or of a table that passes.
+fn any_text(random: &mut Random, refused: &[Vec<u8>]) -> Vec<u8> {
+    match random.below(8) {
+        0 => Vec::new(),
+        1 => refused[random.below(refused.len() as u32) as usize].clone(),
+        _ => random_table(random).text(),
+    }
+}
+
+/// Lists of calls from blocks that are not supported, each call lent another
+/// text, with an engine and with the definition.
+fn same_lists_under_tables(engine: &Engine) -> Result<usize, String> {
+    let mut random = Random::new(0x7AB5);
+    let refused = texts::refused_at_the_end();
+    let mut accepted = 0;
+    for _ in 0..250 {
+        let mut block = encode(&unsupported::random_unsupported(&mut random));
+        for _ in 0..20 {
+            let text = any_text(&mut random, &refused);
+            let call = random.pick(&lists::CUT);
+            let register = decode(&block).ok_or("not well formed")?;
+            let n = lists::likely(&mut random, call, &Table::read(&text).unwrap_or(OURS), &register);
+            let mut literal = block.clone();
+            let due = first_applying(&n, &text, &block);
+            let found = checked(engine, &n, &text, &mut block)?;
+            same("outcome", found, answer_table(&LITERAL, &n, &text, &mut literal))?;
+            same("block", &block, &literal)?;
+            same("refusal", found.refusal, due)?;
+            accepted += (found.refusal == 0) as usize;
+        }
+    }
+    Ok(accepted)
+}
+
+#[test]
+fn lists_under_tables_are_literal() {
+    assert!(same_lists_under_tables(&FAST).unwrap() > 2000);
+    assert!(same_lists_under_tables(&VISITED_ONCE).is_err());
+    assert!(same_lists_under_tables(&ONE_ROUND).is_err());
+    assert!(same_lists_under_tables(&TEXT_LEFT_OUT).is_err());
+}
+
 /// From random well-formed blocks that are not supported.
 #[test]
 fn calls_on_unsupported_blocks() {
@@ -79,7 +123,7 @@ fn calls_on_unsupported_blocks() {
             for call in [Call::Revoke, Call::Downgrade, Call::Chain, Call::Reach, Call::Use] {
                 let n = Passed { giver, receiver, weight: 126, ..call::blank(call) };
                 let mut block = start.clone();
-                let found = checked(&FAST, &n, &mut block).unwrap();
+                let found = checked(&FAST, &n, b"", &mut block).unwrap();
                 assert_ne!(found.refusal, 8);
                 accepted += (found.refusal == 0) as u32;
             }
@@ -100,6 +144,7 @@ fn any_number(random: &mut Random) -> u32 {
 #[test]
 fn any_input_is_answered() {
     let mut random = Random::new(0xA11);
+    let refused: Vec<Vec<u8>> = texts::malformed().into_iter().chain(texts::broken()).map(|text| text.bytes).collect();
     for _ in 0..30_000 {
         let length = random.pick(&[0, 1, 4, 131, 132, 2179, 2180, 2180, 2180, 2181, 4096]);
         let mut block = vec![0; length];
@@ -113,7 +158,8 @@ fn any_input_is_answered() {
         let numbers = [(); 6].map(|_| any_number(&mut random));
         let [by, giver, receiver, weight, need, bar] = numbers;
         let n = Passed { call: random.pick(&CALLS), by, giver, receiver, weight, need, bar };
-        let outcome = checked(&FAST, &n, &mut block).unwrap();
+        let text = any_text(&mut random, &refused);
+        let outcome = checked(&FAST, &n, &text, &mut block).unwrap();
         assert!(length == BLOCK_LEN || outcome.refusal == 1);
     }
 }

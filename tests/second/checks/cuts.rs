@@ -1,15 +1,17 @@
-//! Cuts against all remainders, enumerated, and the counting case.
+//! Cuts against all remainders, enumerated, under our step table and under drawn
+//! ones, and the counting case.
 
-use super::same;
-use crate::faults::{ONE_ROUND, VISITED_ONCE};
+use super::{ours, same, Draw};
+use crate::faults::{ONE_ROUND, TEXT_LEFT_OUT, VISITED_ONCE};
 use crate::relaxed::RELAXED;
 use generate::{examples, register, rounds, slow};
 use second::block::{decode, encode, Register};
 use second::call::run;
 use second::cut::{settle, Counts};
 use second::engine::{Engine, FAST, LITERAL};
-use second::random::{random_register, Random, Shape};
+use second::random::{random_register, random_table, Random, Shape};
 use second::remainder::{candidates, check_best};
+use second::table::OURS;
 
 /// Registers after a named change with at most so many candidates.
 fn tiny(random: &mut Random, weights: &[u8], most: u64) -> Register {
@@ -57,38 +59,53 @@ fn three_rounds() -> Register {
     register(&[0, 0, 0, 1, 1, 0], &grants)
 }
 
-/// The rounds leave the best remainder of every tiny register. Answers how
-/// many remainders were compared.
-fn best_remainder(engine: &Engine) -> Result<u64, String> {
+/// The rounds leave the best remainder of every register. Answers how many
+/// remainders were compared.
+fn best_remainder(engine: &Engine, draw: Draw, registers: Vec<Register>) -> Result<u64, String> {
+    let mut random = Random::new(0x7AB1E);
     let mut compared = 0;
-    for start in tiny_registers() {
+    for start in registers {
+        let table = draw(&mut random);
         let mut left = start.clone();
-        settle(engine, &mut left);
-        compared += check_best(&start, &left)?;
+        settle(engine, &table, &mut left);
+        compared += check_best(&table, &start, &left)?;
     }
     Ok(compared)
 }
 
 #[test]
 fn rounds_leave_the_best_remainder() {
-    assert!(best_remainder(&FAST).unwrap() > 500_000);
+    assert!(best_remainder(&FAST, ours, tiny_registers()).unwrap() > 500_000);
+}
+
+#[test]
+fn rounds_leave_the_best_remainder_under_drawn_tables() {
+    assert!(best_remainder(&FAST, random_table, tiny_registers()).unwrap() > 200_000);
+    assert!(best_remainder(&FAST, random_table, vec![three_rounds(); 300]).unwrap() > 5000);
 }
 
 #[test]
 fn fault_one_round_leaves_no_remainder() {
-    assert!(best_remainder(&ONE_ROUND).is_err());
+    assert!(best_remainder(&ONE_ROUND, ours, tiny_registers()).is_err());
+    assert!(best_remainder(&ONE_ROUND, random_table, vec![three_rounds(); 300]).is_err());
 }
 
 #[test]
 fn fault_visited_once_leaves_another_remainder() {
-    assert!(best_remainder(&VISITED_ONCE).is_err());
+    assert!(best_remainder(&VISITED_ONCE, ours, tiny_registers()).is_err());
+    assert!(best_remainder(&VISITED_ONCE, random_table, tiny_registers()).is_err());
+}
+
+#[test]
+fn fault_text_left_out_leaves_another_remainder() {
+    assert!(best_remainder(&TEXT_LEFT_OUT, random_table, tiny_registers()).is_err());
 }
 
 /// Random registers cut with an engine and with the definition.
-fn same_cuts(engine: &Engine) -> Result<u32, String> {
+fn same_cuts(engine: &Engine, draw: Draw) -> Result<u32, String> {
     let mut random = Random::new(0xC07C07);
     let mut most = 0;
-    for _ in 0..1500 {
+    for _ in 0..3000 {
         let shape = Shape {
             subjects: random.range(3, 7),
             delegations: random.range(3, 16),
@@ -97,9 +114,10 @@ fn same_cuts(engine: &Engine) -> Result<u32, String> {
             conditions: random.pick(&[20, 60]),
         };
         let start = random_register(&mut random, &shape);
+        let table = draw(&mut random);
         let (mut found, mut due) = (start.clone(), start);
-        let counts = settle(&LITERAL, &mut due);
-        same("counts", settle(engine, &mut found), counts)?;
+        let counts = settle(&LITERAL, &table, &mut due);
+        same("counts", settle(engine, &table, &mut found), counts)?;
         same("left", found, due)?;
         most = most.max(counts.rounds);
     }
@@ -108,9 +126,12 @@ fn same_cuts(engine: &Engine) -> Result<u32, String> {
 
 #[test]
 fn cuts_are_literal() {
-    assert!(same_cuts(&FAST).unwrap() >= 4);
-    assert!(same_cuts(&ONE_ROUND).is_err());
-    assert!(same_cuts(&VISITED_ONCE).is_err());
+    for draw in [ours, random_table as Draw] {
+        assert!(same_cuts(&FAST, draw).unwrap() >= 4);
+        assert!(same_cuts(&ONE_ROUND, draw).is_err());
+        assert!(same_cuts(&VISITED_ONCE, draw).is_err());
+    }
+    assert!(same_cuts(&TEXT_LEFT_OUT, random_table).is_err());
 }
 
 /// The numbers that are given for the counting case.
@@ -147,7 +168,7 @@ fn a_cut_of_485_rounds() {
     }
     assert_eq!(decode(&block), Some(rounds::built()));
     let mut left = rounds::built();
-    assert_eq!(settle(&FAST, &mut left), Counts { dropped: 0, lowered: 0, rounds: 1 });
+    assert_eq!(settle(&FAST, &OURS, &mut left), Counts { dropped: 0, lowered: 0, rounds: 1 });
     for engine in [&FAST, &RELAXED] {
         let mut block = block.clone();
         assert_eq!(run(engine, &rounds::FIRST_CUT, &mut block).answers, [232, 0, 485]);

@@ -1,12 +1,13 @@
 //! The generated files: sizes, kinds, what they cover, and that the expected
 //! lines of small registers follow from the definition.
 
-use crate::faults::{ONE_ROUND, VISITED_ONCE};
+use crate::faults::{ONE_ROUND, TEXT_LEFT_OUT, VISITED_ONCE};
 use crate::relaxed::RELAXED;
 use generate::{callfiles, cases, files, limits, Kind, KINDS};
 use second::block::{decode, BLOCK_LEN};
+use second::call::Outcome;
 use second::callfile::{print, used_columns, values_of, MOST_INPUT};
-use second::casefile::{answer, expected_text, read_case, Case};
+use second::casefile::{answer_table, case_line, expected_text, read_case, Case, MOST_BYTES};
 use second::engine::{Engine, FAST, LITERAL};
 use second::refusal::{Call, CALLS};
 use std::collections::BTreeSet;
@@ -16,11 +17,17 @@ fn with_blocks(kind: &Kind) -> Vec<Case> {
     let mut block = Vec::new();
     let mut all = Vec::new();
     for case in cases(kind) {
-        block = case.block.unwrap_or(block);
-        all.push(Case { passed: case.passed, block: Some(block.clone()) });
-        answer(&FAST, &case.passed, &mut block);
+        block = case.block.clone().unwrap_or(block);
+        let whole = Case { block: Some(block.clone()), ..case };
+        answered(&FAST, &whole, &mut block);
+        all.push(whole);
     }
     all
+}
+
+/// The outcome of a case on this block.
+fn answered(engine: &Engine, case: &Case, block: &mut [u8]) -> Outcome {
+    answer_table(engine, &case.passed, case.lent(), block)
 }
 
 #[test]
@@ -28,11 +35,13 @@ fn files_are_small_and_read_back() {
     let mut bytes = 0;
     for kind in &KINDS {
         let cases = with_blocks(kind);
+        let files = files(&cases);
         let mut lines = 0;
-        for file in files(&cases) {
+        assert!(files.iter().map(|file| file.cases.len()).sum::<usize>() <= 500_000);
+        for file in &files {
             assert!(file.cases.len() <= MOST_INPUT && file.expected.len() <= MOST_INPUT);
             assert_eq!(expected_text(&FAST, file.cases.as_bytes()), Ok(file.expected.clone()));
-            assert!(file.cases.lines().next().is_some_and(|line| !line.ends_with('=')));
+            assert!(file.cases.lines().next().is_some_and(|line| !line.contains('=')));
             lines += file.cases.lines().count();
             bytes += file.cases.len() + file.expected.len();
         }
@@ -51,17 +60,22 @@ fn kinds_use_their_calls_only() {
     }
 }
 
-/// Columns that a call does not use are 0, and lengths are at most 4,096.
+/// Columns that a call does not use are 0, and lengths are at most 4,096. A text
+/// is there in the kind `table`, and only there.
 #[test]
 fn lines_keep_the_form() {
-    for case in KINDS.iter().flat_map(with_blocks) {
+    for (kind, case) in KINDS.iter().flat_map(|kind| with_blocks(kind).into_iter().map(move |case| (kind, case))) {
         let values = values_of(&case.passed);
         let used = used_columns(case.passed.call);
         assert!(values[1..].iter().zip(used).all(|(&value, used)| used || value == 0));
-        assert!(case.block.as_ref().is_some_and(|block| block.len() <= 4096));
-        assert!(case.passed.call != Call::Chain || case.passed.weight <= 4096);
-        let line = second::casefile::case_line(&case);
-        assert_eq!(read_case(line.trim_end().as_bytes()), Some(case));
+        assert!(case.block.as_ref().is_some_and(|block| block.len() <= MOST_BYTES));
+        assert!(case.passed.call != Call::Chain || case.passed.weight as usize <= MOST_BYTES);
+        assert!(case.text.is_some() == (kind.name == "table") && case.lent().len() <= MOST_BYTES);
+        for before in [None, case.text.as_deref()] {
+            let line = case_line(&case, before);
+            assert_eq!(line.contains('='), before.is_some());
+            assert_eq!(read_case(line.trim_end().as_bytes(), case.lent()).as_ref(), Some(&case));
+        }
     }
 }
 
@@ -95,12 +109,12 @@ fn limits_are_covered() {
 fn compared(engine: &Engine, of: fn(&[u8]) -> bool) -> (u32, u32) {
     let (mut all, mut differing) = (0, 0);
     for case in KINDS.iter().flat_map(with_blocks).filter(|case| case.passed.call != Call::Chain) {
-        let mut due = case.block.unwrap_or_default();
+        let mut due = case.block.clone().unwrap_or_default();
         if !of(&due) {
             continue;
         }
         let mut found = due.clone();
-        let same = answer(&FAST, &case.passed, &mut due) == answer(engine, &case.passed, &mut found);
+        let same = answered(&FAST, &case, &mut due) == answered(engine, &case, &mut found);
         all += 1;
         differing += !(same && due == found) as u32;
     }
@@ -124,6 +138,7 @@ fn expected_lines_follow_from_the_definition() {
 fn faults_are_noticed_by_the_cases() {
     assert!(compared(&ONE_ROUND, |_| true).1 > 50);
     assert!(compared(&VISITED_ONCE, is_small).1 > 50);
+    assert!(compared(&TEXT_LEFT_OUT, |_| true).1 > 50);
 }
 
 /// Every accepted chain is right.
@@ -131,8 +146,8 @@ fn faults_are_noticed_by_the_cases() {
 fn chains_are_right() {
     let mut accepted = 0;
     for case in KINDS.iter().flat_map(with_blocks).filter(|case| case.passed.call == Call::Chain) {
-        let mut block = case.block.unwrap_or_default();
-        let outcome = answer(&FAST, &case.passed, &mut block);
+        let mut block = case.block.clone().unwrap_or_default();
+        let outcome = answered(&FAST, &case, &mut block);
         assert_eq!(outcome.answers, [(outcome.refusal == 0) as i32; 3]);
         accepted += outcome.answers[0];
     }
@@ -145,8 +160,8 @@ fn cuts_are_deep() {
     let mut rounds = BTreeSet::new();
     for case in with_blocks(&KINDS[2]) {
         if matches!(case.passed.call, Call::Revoke | Call::Downgrade) {
-            let mut block = case.block.unwrap_or_default();
-            rounds.insert(answer(&FAST, &case.passed, &mut block).answers[2]);
+            let mut block = case.block.clone().unwrap_or_default();
+            rounds.insert(answered(&FAST, &case, &mut block).answers[2]);
         }
     }
     assert!([1, 2, 3, 4, 5, 6, 172, 485].iter().all(|number| rounds.contains(number)));
@@ -157,9 +172,9 @@ fn cuts_are_deep() {
 fn wrong_lengths_are_refused_with_1() {
     let mut wrong = 0;
     for case in KINDS.iter().flat_map(with_blocks) {
-        let mut block = case.block.unwrap_or_default();
+        let mut block = case.block.clone().unwrap_or_default();
         if block.len() != BLOCK_LEN {
-            assert_eq!(answer(&FAST, &case.passed, &mut block).refusal, 1);
+            assert_eq!(answered(&FAST, &case, &mut block).refusal, 1);
             wrong += 1;
         }
     }

@@ -15,6 +15,22 @@ mod listfiles;
 mod pairs;
 mod relaxed;
 mod searches;
+mod tables;
+
+use second::random::Random;
+use second::table::{Table, OURS};
+
+/// Draws the step table that a check is made under.
+type Draw = fn(&mut Random) -> Table;
+
+fn ours(_: &mut Random) -> Table {
+    OURS
+}
+
+/// What a call is lent for a table: for ours nothing.
+fn lent(table: &Table) -> Vec<u8> {
+    if *table == OURS { Vec::new() } else { table.text() }
+}
 
 /// An error that says what was compared.
 fn same<T: PartialEq + std::fmt::Debug>(what: &str, found: T, due: T) -> Result<(), String> {

@@ -1,16 +1,17 @@
 //! The lists of calls that are made by one call.
 
 use generate::callfiles::file;
-use generate::{list_files, listfiles};
+use crate::faults::TEXT_LEFT_OUT;
+use generate::{list_files, listfiles, textlists};
 use second::block::decode;
 use second::callfile::{from_values, print, used_only, MOST_INPUT};
 use second::casefile::read_block;
 use second::engine::{FAST, LITERAL};
-use second::listfile::{expected_lines, lengths, List, NUMBERS};
+use second::listfile::{expected_lines, lengths, List, MOST_TEXTS, NUMBERS};
 use second::refusal::Passed;
 
 fn calls(list: &List) -> Vec<Passed> {
-    let of = |values: &[u32]| used_only(&from_values(values.try_into().unwrap()).unwrap());
+    let of = |numbers: &[u32]| used_only(&from_values(numbers[..7].try_into().unwrap()).unwrap());
     list.numbers.chunks_exact(NUMBERS).map(of).collect()
 }
 
@@ -23,9 +24,12 @@ fn answers(expected: &str) -> Vec<&str> {
     expected.lines().skip(1).map(|line| line.rsplit_once(' ').unwrap().0).collect()
 }
 
+/// Those that are lent no texts, as call files are.
 #[test]
 fn a_list_answers_as_its_call_file() {
-    for list in accepted() {
+    let without_texts: Vec<List> = accepted().into_iter().filter(|list| list.texts.is_empty()).collect();
+    assert!(without_texts.len() > 15);
+    for list in without_texts {
         let printed = String::from_utf8(print(&FAST, &file("", &calls(&list)).input)).unwrap();
         let printed: Vec<&str> = printed.lines().skip(1).collect();
         assert_eq!(answers(&expected_lines(&FAST, &list)), printed);
@@ -64,12 +68,46 @@ fn short_lists_are_literal() {
     }
 }
 
+/// The cut under ours, then under the table that falls by two.
+#[test]
+fn a_list_is_judged_by_the_tables_of_its_calls() {
+    let list = textlists::example();
+    let expected = expected_lines(&FAST, &list);
+    let due = ["0 0 0 1", "0 4 0 0", "0 0 2 2", "0 5 0 0", "0 6 0 0", "0 1 0 0"];
+    assert_eq!(answers(&expected)[8..], due);
+    assert_ne!(expected_lines(&TEXT_LEFT_OUT, &list), expected);
+}
+
+/// Seven calls for each place of a text: 0 where it passes, 7 or 17 where it does
+/// not, and use as without one.
+#[test]
+fn every_text_of_a_list_is_read() {
+    let expected = expected_lines(&FAST, &textlists::every_text());
+    let refusals: Vec<&str> = answers(&expected)[4..].iter().map(|line| line.split(' ').next().unwrap()).collect();
+    let due = ["0", "7", "17", "0", "0", "0", "0", "7", "7", "7", "7", "7", "7", "0"];
+    assert_eq!(refusals.len(), 7 * due.len());
+    for (refusals, due) in refusals.chunks_exact(7).zip(due) {
+        // The third call's by is neither giver nor owner.
+        let third = if due == "0" { "14" } else { due };
+        assert_eq!(refusals, [due, due, third, due, due, due, "0"]);
+    }
+}
+
+/// The texts of calls 1 to 4 are within the texts.
+fn texts_fit(list: &List) -> bool {
+    let end = |call: &[u32]| call[7] as u64 + call[8] as u64;
+    let mut calls = list.numbers.chunks_exact(NUMBERS);
+    calls.all(|call| !(1..=4).contains(&call[0]) || end(call) <= list.texts.len() as u64)
+}
+
 /// The refusals are 1 and 7, 1 where both apply; nothing is written.
 #[test]
 fn refused_lists_write_nothing() {
-    let (mut wrong, mut malformed) = (0, 0);
+    let (mut wrong, mut malformed, mut outside) = (0, 0, 0);
     for list in listfiles::all().iter().filter(|list| list.refusal() != 0) {
-        let whole = list.numbers.len() % NUMBERS == 0 && list.lengths == lengths(list.calls());
+        let sized = list.numbers.len() % NUMBERS == 0 && list.lengths == lengths(list.calls());
+        let whole = sized && texts_fit(list);
+        outside += (sized && !whole) as u32;
         assert_eq!(list.refusal(), if whole { 7 } else { 1 });
         wrong += !whole as u32;
         malformed += whole as u32;
@@ -78,8 +116,11 @@ fn refused_lists_write_nothing() {
         assert!(expected.lines().skip(1).all(|line| line == "77 -7 -7 -7 ="));
         assert_eq!(expected.lines().count(), 1 + list.calls());
     }
-    // 28 parts of calls, 13 lengths and 5 of both; 5 numbers that are no call's.
-    assert_eq!((wrong, malformed), (28 + 13 + 5, 5));
+    // 36 parts of calls, 13 lengths and 5 of both, 6 beside texts; 10 and 4 places
+    // for each of four calls and 3 beside a number that is no call's; 5 and 3 such
+    // numbers.
+    assert_eq!(outside, 4 * (10 + 4) + 3);
+    assert_eq!((wrong, malformed), (36 + 13 + 5 + 6 + outside, 5 + 3));
 }
 
 #[test]
@@ -87,6 +128,7 @@ fn lists_fit_the_program() {
     let lists = listfiles::all();
     assert!(lists.iter().all(|list| list.calls() <= listfiles::MOST_CALLS));
     assert!(lists.iter().any(|list| list.calls() == listfiles::MOST_CALLS));
+    assert_eq!(lists.iter().map(|list| list.texts.len()).max(), Some(MOST_TEXTS));
     let files = list_files(&lists);
     assert!(files.iter().all(|file| file.cases.len() <= MOST_INPUT && file.expected.len() <= MOST_INPUT));
     assert_eq!(files.iter().map(|file| file.cases.lines().count()).sum::<usize>(), lists.len());

@@ -2,7 +2,7 @@
 //! that can apply at once.
 
 use generate::{cases, KINDS};
-use second::casefile::answer;
+use second::casefile::answer_table;
 use second::engine::FAST;
 use second::refusal::{applying, tests, Call, CALLS};
 use std::collections::{BTreeMap, BTreeSet};
@@ -10,24 +10,25 @@ use std::collections::{BTreeMap, BTreeSet};
 type Pair = (u32, u32);
 
 /// The refusals that can apply to a call, in order.
-fn table(call: Call) -> &'static [u32] {
+fn refusals(call: Call) -> &'static [u32] {
     match call {
         Call::Open => &[1],
         Call::Enrol => &[1, 4, 8, 10],
-        Call::Grant => &[1, 2, 3, 4, 5, 6, 8, 9, 11, 12, 16],
-        Call::Reach => &[1, 2, 5, 6, 8, 9],
+        Call::Grant => &[1, 2, 3, 4, 5, 6, 7, 17, 8, 9, 11, 12, 16],
+        Call::Reach => &[1, 2, 5, 6, 7, 17, 8, 9],
         Call::Use => &[1, 2, 8, 9],
-        Call::Revoke => &[1, 2, 5, 6, 8, 9, 13, 14],
-        Call::Downgrade => &[1, 2, 3, 5, 6, 8, 9, 13, 14, 15],
-        Call::Chain => &[1, 2, 5, 6, 8, 9, 13, 16],
+        Call::Revoke => &[1, 2, 5, 6, 7, 17, 8, 9, 13, 14],
+        Call::Downgrade => &[1, 2, 3, 5, 6, 7, 17, 8, 9, 13, 14, 15],
+        Call::Chain => &[1, 2, 5, 6, 7, 17, 8, 9, 13, 16],
     }
 }
 
 /// The pairs of a call that cannot apply at once.
 fn impossible(call: Call) -> Vec<Pair> {
-    let mut pairs = Vec::new();
-    let table = table(call);
-    let of_register = table.iter().copied().filter(|&number| number > 8 && number != 14);
+    // The entries of a text are judged if it has the form, and the reach is
+    // reckoned by a table that passes.
+    let mut pairs = vec![(7, 17), (7, 16), (17, 16)];
+    let of_register = refusals(call).iter().copied().filter(|&number| number > 8 && number != 14 && number != 17);
     for held in of_register {
         // What a register holds is not judged on a block that is not well
         // formed. 14 looks at the numbers only.
@@ -85,8 +86,8 @@ fn realised() -> BTreeMap<Call, Realised> {
     for kind in &KINDS {
         let mut block = Vec::new();
         for case in cases(kind) {
-            block = case.block.unwrap_or(block);
-            let numbers = applying(&FAST, &case.passed, &block, case.passed.weight as usize);
+            block = case.block.clone().unwrap_or(block);
+            let numbers = applying(&FAST, &case.passed, case.lent(), &block, case.passed.weight as usize);
             let of_call = all.entry(case.passed.call).or_default();
             if let [number] = numbers[..] {
                 of_call.alone.insert(number);
@@ -94,7 +95,7 @@ fn realised() -> BTreeMap<Call, Realised> {
             for (at, &first) in numbers.iter().enumerate() {
                 of_call.pairs.extend(numbers[at + 1..].iter().map(|&second| (first, second)));
             }
-            of_call.returned.insert(answer(&FAST, &case.passed, &mut block).refusal);
+            of_call.returned.insert(answer_table(&FAST, &case.passed, case.lent(), &mut block).refusal);
         }
     }
     all
@@ -104,8 +105,8 @@ fn realised() -> BTreeMap<Call, Realised> {
 fn every_pair_that_can_apply_is_realised() {
     let realised = realised();
     for call in CALLS {
-        let table = table(call);
-        let all = table.iter().enumerate().flat_map(|(at, &a)| table[at + 1..].iter().map(move |&b| (a, b)));
+        let numbers = refusals(call);
+        let all = numbers.iter().enumerate().flat_map(|(at, &a)| numbers[at + 1..].iter().map(move |&b| (a, b)));
         let impossible: BTreeSet<Pair> = impossible(call).into_iter().collect();
         let due: BTreeSet<Pair> = all.filter(|pair| !impossible.contains(pair)).collect();
         assert_eq!(realised[&call].pairs, due, "{call:?}");
@@ -117,23 +118,24 @@ fn every_refusal_is_realised() {
     let realised = realised();
     for call in CALLS {
         let alone: BTreeSet<u32> =
-            table(call).iter().copied().filter(|number| !never_alone(call).contains(number)).collect();
+            refusals(call).iter().copied().filter(|number| !never_alone(call).contains(number)).collect();
         assert_eq!(realised[&call].alone, alone, "{call:?}");
-        let mut returned: BTreeSet<u32> = table(call).iter().copied().collect();
+        let mut returned: BTreeSet<u32> = refusals(call).iter().copied().collect();
         returned.insert(0);
         assert_eq!(realised[&call].returned, returned, "{call:?}");
     }
 }
 
-/// The lists in the code are those of the table.
+/// The lists in the code are those above.
 #[test]
-fn lists_are_the_table() {
+fn lists_are_the_refusals() {
     for call in CALLS {
         let lists = tests(call);
         let mut order = vec![1];
         order.extend(lists.passed.iter().map(|(number, _)| *number));
+        order.extend(lists.table);
         order.extend((call != Call::Open).then_some(8));
         order.extend(lists.held.iter().map(|(number, _)| *number));
-        assert_eq!(order, table(call), "{call:?}");
+        assert_eq!(order, refusals(call), "{call:?}");
     }
 }

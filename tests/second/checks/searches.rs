@@ -1,15 +1,17 @@
-//! The fast search against the literal one, and against relaxation.
+//! The fast search against the literal one, and against relaxation, under our
+//! step table and under drawn ones.
 
-use super::same;
-use crate::faults::{ONE_ROUND, VISITED_ONCE};
+use super::{lent, ours, same, Draw};
+use crate::faults::{ONE_ROUND, TEXT_LEFT_OUT, VISITED_ONCE};
 use crate::relaxed::limits;
 use generate::{full, register, rounds};
 use second::block::{encode, Register};
 use second::call;
-use second::chain::{all_chains, limit_of, literal_reach, NONE, STEP};
+use second::chain::{all_chains, limit_of, literal_reach, NONE};
 use second::engine::{Engine, FAST, LITERAL};
 use second::judge::judge;
-use second::random::{random_register, Random, Shape};
+use second::random::{random_register, random_table, Random, Shape};
+use second::table::OURS;
 
 /// Small registers: conditions, cycles, unsupported ones.
 fn small(random: &mut Random) -> Register {
@@ -24,36 +26,47 @@ fn small(random: &mut Random) -> Register {
 }
 
 /// All pairs of many small registers. Answers how many reaches were not -1.
-fn same_as_literal(engine: &Engine) -> Result<u32, String> {
+fn same_as_literal(engine: &Engine, draw: Draw) -> Result<u32, String> {
     let mut random = Random::new(0x5EA4C4);
     let mut some = 0;
     for _ in 0..4000 {
-        let register = small(&mut random);
+        let (register, table) = (small(&mut random), draw(&mut random));
         let count = register.marks.len() as u32;
         for (giver, receiver) in (0..count).flat_map(|g| (0..count).map(move |r| (g, r))) {
-            let due = literal_reach(&register, giver, receiver);
-            let found = (engine.reach)(&register, giver, receiver);
+            let due = literal_reach(&table, &register, giver, receiver);
+            let found = (engine.reach)(&table, &register, giver, receiver);
             same(&format!("reach {giver}-{receiver} of {register:?}"), found, due)?;
             some += (due != NONE) as u32;
         }
-        same("all reaches", (engine.reaches)(&register), (LITERAL.reaches)(&register))?;
+        same("all reaches", (engine.reaches)(&table, &register), (LITERAL.reaches)(&table, &register))?;
     }
     Ok(some)
 }
 
 #[test]
 fn fast_is_literal() {
-    assert!(same_as_literal(&FAST).unwrap() > 20_000);
-    assert!(same_as_literal(&ONE_ROUND).is_ok());
+    assert!(same_as_literal(&FAST, ours).unwrap() > 20_000);
+    assert!(same_as_literal(&ONE_ROUND, ours).is_ok());
+}
+
+#[test]
+fn fast_is_literal_under_drawn_tables() {
+    assert!(same_as_literal(&FAST, random_table).unwrap() > 10_000);
 }
 
 #[test]
 fn fault_visited_once_is_not_literal() {
-    assert!(same_as_literal(&VISITED_ONCE).is_err());
+    assert!(same_as_literal(&VISITED_ONCE, ours).is_err());
+    assert!(same_as_literal(&VISITED_ONCE, random_table).is_err());
 }
 
 #[test]
-fn fast_is_relaxation_on_large_registers() {
+fn fault_text_left_out_is_not_literal() {
+    assert!(same_as_literal(&TEXT_LEFT_OUT, ours).is_ok());
+    assert!(same_as_literal(&TEXT_LEFT_OUT, random_table).is_err());
+}
+
+fn same_as_relaxation(draw: Draw) {
     let mut random = Random::new(0x1A46E);
     let mut registers = vec![full::all_enrolled(), rounds::built()];
     for delegations in [64, 128, 256, 300] {
@@ -61,59 +74,78 @@ fn fast_is_relaxation_on_large_registers() {
         registers.extend((0..10).map(|_| random_register(&mut random, &shape)));
     }
     for register in &registers {
+        let table = draw(&mut random);
         for receiver in 0..64 {
-            let limits = limits(register, receiver);
+            let limits = limits(&table, register, receiver);
             for giver in 0..64 {
-                assert_eq!((FAST.reach)(register, giver, receiver), limits[giver as usize]);
+                assert_eq!((FAST.reach)(&table, register, giver, receiver), limits[giver as usize]);
             }
         }
     }
 }
 
-/// Every chain that is written for a supported delegation is judged.
 #[test]
-fn written_chains_are_judged() {
+fn fast_is_relaxation_on_large_registers() {
+    same_as_relaxation(ours);
+    same_as_relaxation(random_table);
+}
+
+/// Every chain that is written for a supported delegation is judged. Answers how
+/// many links there were.
+fn judged_links(draw: Draw) -> usize {
     let mut random = Random::new(0xC4A1);
     let mut links = 0;
     for _ in 0..3000 {
-        let register = small(&mut random);
+        let (register, table) = (small(&mut random), draw(&mut random));
         let block = encode(&register);
         for d in &register.delegations {
             let (giver, receiver) = (d.giver as u32, d.receiver as u32);
             let mut buffer = [0x5A; 200];
-            let written = call::chain(&block, giver, receiver, &mut buffer);
-            let supported = literal_reach(&register, giver, receiver) >= d.weight as i16;
+            let written = call::chain_table(&block, giver, receiver, &lent(&table), &mut buffer);
+            let supported = literal_reach(&table, &register, giver, receiver) >= d.weight as i16;
             assert_eq!(written.refusal, if supported { 0 } else { 16 });
             assert!(buffer[written.filled..].iter().all(|&byte| byte == 0x5A));
             if supported {
-                judge(&block, giver, receiver, &buffer[..written.filled]).unwrap();
+                judge(&table, &block, giver, receiver, &buffer[..written.filled]).unwrap();
                 links += written.filled / 2;
             }
         }
     }
-    assert!(links > 4000);
+    links
 }
 
-/// The judge accepts exactly the listed chains of a limit that is enough.
 #[test]
-fn judge_knows_chains() {
+fn written_chains_are_judged() {
+    assert!(judged_links(ours) > 4000);
+    assert!(judged_links(random_table) > 1000);
+}
+
+/// The judge accepts exactly the listed chains of a limit that is enough. Answers
+/// how many it accepted.
+fn accepted_chains(draw: Draw) -> u32 {
     let mut random = Random::new(0x10D6E);
     let mut accepted = 0;
     for _ in 0..300 {
-        let register = small(&mut random);
+        let (register, table) = (small(&mut random), draw(&mut random));
         let block = encode(&register);
         for d in &register.delegations {
             let (giver, receiver) = (d.giver as u32, d.receiver as u32);
-            let chains = all_chains(&register, giver, receiver);
+            let chains = all_chains(&table, &register, giver, receiver);
             for chain in &chains {
                 let bytes: Vec<u8> = chain.iter().flat_map(|link| [link.giver, link.receiver]).collect();
-                let due = limit_of(chain) >= d.weight as i16;
-                assert_eq!(judge(&block, giver, receiver, &bytes).is_ok(), due);
+                let due = limit_of(&table, chain) >= d.weight as i16;
+                assert_eq!(judge(&table, &block, giver, receiver, &bytes).is_ok(), due);
                 accepted += due as u32;
             }
         }
     }
-    assert!(accepted > 500);
+    accepted
+}
+
+#[test]
+fn judge_knows_chains() {
+    assert!(accepted_chains(ours) > 500);
+    assert!(accepted_chains(random_table) > 200);
 }
 
 #[test]
@@ -123,19 +155,20 @@ fn judge_turns_back_what_is_no_chain() {
         (3, 2, 255, 0, 0),
     ];
     let block = encode(&register(&[0, 0, 0, 0, 0], &grants));
-    assert_eq!(judge(&block, 2, 4, &[0, 1, 1, 2]), Ok(()));
+    assert_eq!(judge(&OURS, &block, 2, 4, &[0, 1, 1, 2]), Ok(()));
     let no_chains: [&[u8]; 9] = [
         &[], &[0], &[0, 1], &[1, 2], &[0, 2], &[0, 3, 3, 2], &[0, 1, 0, 2], &[0, 2, 2, 1, 1, 2], &[0, 4, 4, 2],
     ];
     for bytes in no_chains {
-        assert!(judge(&block, 2, 4, bytes).is_err(), "{bytes:?}");
+        assert!(judge(&OURS, &block, 2, 4, bytes).is_err(), "{bytes:?}");
     }
-    assert!(judge(&block, 2, 3, &[0, 1, 1, 2]).is_err());
+    assert!(judge(&OURS, &block, 2, 3, &[0, 1, 1, 2]).is_err());
 }
 
 #[test]
 fn step_table_keeps_the_rule() {
-    assert_eq!((STEP[0], STEP[1], STEP[254], STEP[255]), (-1, 0, 253, 255));
-    assert!((1..255).all(|weight| STEP[weight] == weight as i16 - 1));
-    assert!(STEP.windows(2).all(|two| two[0] < two[1]));
+    let next = OURS.next;
+    assert_eq!((next[0], next[1], next[254], next[255]), (-1, 0, 253, 255));
+    assert!((1..255).all(|weight| next[weight] == weight as i16 - 1));
+    assert!(next.windows(2).all(|two| two[0] < two[1]));
 }

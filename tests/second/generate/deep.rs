@@ -5,6 +5,7 @@ use second::block::encode;
 use second::cut::settle;
 use second::engine::FAST;
 use second::random::{random_register, Random, Shape};
+use second::table::OURS;
 
 pub fn cases(kind: &Kind) -> Vec<Case> {
     match kind.name {
@@ -15,7 +16,7 @@ pub fn cases(kind: &Kind) -> Vec<Case> {
 }
 
 /// 0-1, 1-2, ... 62-63, and 63-1 so that a chain has 63 links.
-fn path(weight: fn(u8) -> u8) -> Register {
+pub fn path(weight: fn(u8) -> u8) -> Register {
     let mut grants: Vec<Grant> = (0..63).map(|giver| (giver, giver + 1, weight(giver), 0, 0)).collect();
     grants.push((63, 1, weight(63), 0, 0));
     register(&[0; 64], &grants)
@@ -103,7 +104,7 @@ fn random_rounds() -> Vec<Case> {
         };
         let mut start = random_register(&mut random, &shape);
         if random.chance(60) {
-            settle(&FAST, &mut start);
+            settle(&FAST, &OURS, &mut start);
         }
         let least = if cases.len() < 30 { 4 } else { 7 };
         cases.extend(cut_of_rounds(&mut random, &start, least));

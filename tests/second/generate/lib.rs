@@ -1,5 +1,5 @@
 //! The cases that every implementation is compared on: block-level ones in
-//! three kinds, lists of calls, and call files.
+//! four kinds, lists of calls, and call files.
 
 pub mod broken;
 pub mod callfiles;
@@ -13,6 +13,9 @@ pub mod malformed;
 pub mod refusals;
 pub mod rounds;
 pub mod slow;
+pub mod tables;
+pub mod textlists;
+pub mod texts;
 pub mod unsupported;
 mod write;
 
@@ -32,7 +35,7 @@ pub struct Kind {
     pub calls: &'static [Call],
 }
 
-pub const KINDS: [Kind; 3] = [
+pub const KINDS: [Kind; 4] = [
     Kind {
         name: "base",
         added: &[Call::Open, Call::Enrol, Call::Use],
@@ -48,10 +51,14 @@ pub const KINDS: [Kind; 3] = [
         added: &[Call::Revoke, Call::Downgrade],
         calls: &second::refusal::CALLS,
     },
+    Kind { name: "table", added: &tables::CALLS, calls: &tables::CALLS },
 ];
 
 /// All cases of a kind, in a fixed order.
 pub fn cases(kind: &Kind) -> Vec<Case> {
+    if kind.name == "table" {
+        return tables::cases();
+    }
     let mut cases = Vec::new();
     cases.extend(examples::cases(kind));
     cases.extend(refusals::cases(kind));
@@ -81,12 +88,12 @@ pub fn register(marks: &[u16], grants: &[Grant]) -> Register {
 
 /// A case with its own block.
 pub fn on(block: &[u8], passed: Passed) -> Case {
-    Case { passed, block: Some(block.to_vec()) }
+    Case { passed, text: None, block: Some(block.to_vec()) }
 }
 
 /// A case on the block as the case before left it.
 pub fn next(passed: Passed) -> Case {
-    Case { passed, block: None }
+    Case { passed, text: None, block: None }
 }
 
 pub fn open() -> Passed {

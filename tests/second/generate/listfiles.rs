@@ -2,7 +2,7 @@
 
 use super::*;
 use second::block::BLOCK_LEN;
-use second::callfile::{used_columns, values_of};
+use second::callfile::used_columns;
 use second::listfile::{lengths, List, NUMBERS};
 use second::random::Random;
 
@@ -19,12 +19,14 @@ pub fn all() -> Vec<List> {
     all.extend(wrong_lengths());
     all.extend(no_calls());
     all.extend(random_lists());
+    all.extend(textlists::all());
     all
 }
 
-/// A list of calls with the lengths that they need.
+/// A list of calls that are lent no texts.
 pub fn list(calls: &[Passed]) -> List {
-    List { lengths: lengths(calls.len()), numbers: calls.iter().flat_map(values_of).collect() }
+    let calls: Vec<_> = calls.iter().map(|n| (*n, (0, 0))).collect();
+    textlists::under(b"", &calls)
 }
 
 /// Accepted calls and refused ones.
@@ -51,14 +53,14 @@ fn unused_columns() -> List {
     list
 }
 
-/// Every number of numbers from 1 to 15, with the lengths of the whole calls
+/// Every number of numbers from 1 to 19, with the lengths of the whole calls
 /// and of one call more.
 fn parts_of_calls() -> Vec<List> {
     let mut lists = Vec::new();
-    for count in 1..=15 {
+    for count in 1..=19 {
         let numbers = list(&few()).numbers[..count].to_vec();
         for calls in [count / NUMBERS, count / NUMBERS + 1] {
-            lists.push(List { lengths: lengths(calls), numbers: numbers.clone() });
+            lists.push(List { lengths: lengths(calls), numbers: numbers.clone(), texts: Vec::new() });
         }
     }
     lists

@@ -3,10 +3,11 @@
 use super::*;
 use second::block::{decode, encode};
 use second::callfile::{from_values, used_columns, values_of};
-use second::casefile::answer;
+use second::casefile::answer_table;
 use second::engine::FAST;
 use second::random::{random_masks, Random};
-use second::search;
+use second::search::reach_table;
+use second::table::{Table, OURS};
 
 const BASE: [Call; 4] = [Call::Enrol, Call::Use, Call::Enrol, Call::Enrol];
 const REACH: [Call; 10] = [
@@ -56,29 +57,39 @@ pub fn list(random: &mut Random, calls: &[Call], length: usize) -> Vec<Passed> {
     let subjects = random.range(2, 7);
     while list.len() < length {
         let call = if list.len() < subjects as usize { Call::Enrol } else { random.pick(calls) };
-        let register = decode(&block).unwrap_or(Register::fresh());
-        let mut n = plausible(random, call, &register);
-        if random.chance(7) {
-            n = with_odd_number(random, &n);
-        }
-        answer(&FAST, &n, &mut block);
-        list.push(n);
+        list.push(drawn(random, call, b"", &mut block));
     }
     list
 }
 
+/// A plausible call under the table of a text, or ours; the block is left as the
+/// call leaves it.
+pub fn drawn(random: &mut Random, call: Call, text: &[u8], block: &mut [u8]) -> Passed {
+    let table = Table::read(text).unwrap_or(OURS);
+    let register = decode(block).unwrap_or(Register::fresh());
+    let n = likely(random, call, &table, &register);
+    answer_table(&FAST, &n, text, block);
+    n
+}
+
+/// A plausible call; of a few, one number may be any.
+pub fn likely(random: &mut Random, call: Call, table: &Table, register: &Register) -> Passed {
+    let n = plausible(random, call, table, register);
+    if random.chance(7) { with_odd_number(random, &n) } else { n }
+}
+
 /// A call that is likely to be accepted.
-fn plausible(random: &mut Random, call: Call, register: &Register) -> Passed {
+fn plausible(random: &mut Random, call: Call, table: &Table, register: &Register) -> Passed {
     let count = register.marks.len() as u32;
     let (giver, receiver) = match call {
-        Call::Grant => open_pair(random, register),
+        Call::Grant => open_pair(random, table, register),
         _ => pair(random, register, call == Call::Reach),
     };
     let by = random.pick(&[0, giver, giver, another_subject(count, giver)]);
     match call {
         Call::Open => open(),
         Call::Enrol => enrol(random.pick(&[0, 1, 2, 3, 4, 5, 6, 7, 65_535])),
-        Call::Grant => plausible_grant(random, register, giver, receiver),
+        Call::Grant => plausible_grant(random, table, register, giver, receiver),
         Call::Revoke => revoke(by, giver, receiver),
         Call::Downgrade => {
             let present = register.standing(giver, receiver).map_or(3, |d| d.weight as u32);
@@ -106,11 +117,11 @@ fn pair(random: &mut Random, register: &Register, any: bool) -> (u32, u32) {
 }
 
 /// A pair that doesn't stand and has a reach, if one is found in a few tries.
-fn open_pair(random: &mut Random, register: &Register) -> (u32, u32) {
+fn open_pair(random: &mut Random, table: &Table, register: &Register) -> (u32, u32) {
     for _ in 0..8 {
         let (giver, receiver) = pair(random, register, true);
         let stands = register.standing(giver, receiver).is_some();
-        if giver != receiver && !stands && search::reach(register, giver, receiver) >= 0 {
+        if giver != receiver && !stands && reach_table(table, register, giver, receiver) >= 0 {
             return (giver, receiver);
         }
     }
@@ -118,8 +129,8 @@ fn open_pair(random: &mut Random, register: &Register) -> (u32, u32) {
 }
 
 /// Most grants are within the reach, some exactly, some just above it.
-fn plausible_grant(random: &mut Random, register: &Register, giver: u32, receiver: u32) -> Passed {
-    let reach = search::reach(register, giver, receiver).max(0) as u32;
+fn plausible_grant(random: &mut Random, table: &Table, register: &Register, giver: u32, receiver: u32) -> Passed {
+    let reach = reach_table(table, register, giver, receiver).max(0) as u32;
     let weight = match random.below(8) {
         0 => random.below(256),
         1 => reach + 1,

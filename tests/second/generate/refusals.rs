@@ -14,7 +14,7 @@ pub fn cases(kind: &Kind) -> Vec<Case> {
         for block in blocks() {
             let mut seen = BTreeSet::new();
             for n in candidates(call) {
-                if seen.insert(applying(&FAST, &n, &block, n.weight as usize)) {
+                if seen.insert(applying(&FAST, &n, b"", &block, n.weight as usize)) {
                     cases.push(on(&block, n));
                 }
             }
@@ -24,7 +24,7 @@ pub fn cases(kind: &Kind) -> Vec<Case> {
 }
 
 /// The blocks that candidates are tried on.
-fn blocks() -> Vec<Vec<u8>> {
+pub fn blocks() -> Vec<Vec<u8>> {
     let supported = encode(&supported());
     let mut malformed = supported.clone();
     malformed[ZERO_AT] = 1;
@@ -46,7 +46,7 @@ fn supported() -> Register {
     register(&[0, 1, 2, 1, 3], &grants)
 }
 
-fn unsupported() -> Register {
+pub fn unsupported() -> Register {
     let grants = [(0, 1, 2, 0, 0), (1, 2, 9, 0, 0), (2, 3, 255, 0, 0), (3, 2, 5, 0, 0)];
     register(&[0, 1, 2, 1, 3], &grants)
 }
@@ -56,7 +56,7 @@ const WEIGHTS: [u32; 4] = [1, 0, 255, 256];
 const MASKS: [(u32, u32); 4] = [(0, 0), (1, 3), (65_536, 0), (0, 4_294_967_295)];
 const BUFFERS: [u32; 2] = [126, 125];
 
-fn candidates(call: Call) -> Vec<Passed> {
+pub fn candidates(call: Call) -> Vec<Passed> {
     match call {
         Call::Open => vec![open()],
         Call::Enrol => [5, 0, 65_535, 65_536].map(enrol).to_vec(),

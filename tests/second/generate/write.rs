@@ -16,33 +16,38 @@ pub struct File {
     pub expected: String,
 }
 
-/// Distributes cases over files. A block that is already there is written `=`.
+/// Distributes cases over files. A text and a block that are already there are
+/// written `=`.
 pub fn files(cases: &[Case]) -> Vec<File> {
     let mut files: Vec<File> = Vec::new();
-    let mut current = Vec::new();
+    let (mut text, mut current) = (None, Vec::new());
     for case in cases {
         let block = case.block.clone().unwrap_or_else(|| current.clone());
-        let whole = Case { passed: case.passed, block: Some(block) };
+        let whole = Case { block: Some(block), ..case.clone() };
         let same = whole.block.as_deref() == Some(&current[..]);
         let short = if same { Case { block: None, ..whole.clone() } } else { whole.clone() };
+        let line = case_line(&short, text);
         let expected = expected_line(&FAST, &whole, &mut current);
         match files.last_mut() {
-            Some(file) if file.holds(&case_line(&short), &expected) => file.add(&case_line(&short), &expected),
-            _ => files.push(File { cases: case_line(&whole), expected }),
+            Some(file) if file.holds(&line, &expected) => file.add(&line, &expected),
+            _ => files.push(File { cases: case_line(&whole, None), expected }),
         }
+        text = case.text.as_deref();
     }
     files
 }
 
-/// Distributes lists over files.
+/// Distributes lists over files. Texts that are already there are written `=`.
 pub fn list_files(lists: &[List]) -> Vec<File> {
     let mut files: Vec<File> = Vec::new();
+    let mut texts = None;
     for list in lists {
-        let (line, expected) = (list_line(list), expected_lines(&FAST, list));
+        let (line, expected) = (list_line(list, texts), expected_lines(&FAST, list));
         match files.last_mut() {
             Some(file) if file.holds(&line, &expected) => file.add(&line, &expected),
-            _ => files.push(File { cases: line, expected }),
+            _ => files.push(File { cases: list_line(list, None), expected }),
         }
+        texts = Some(&list.texts[..]);
     }
     files
 }
@@ -76,7 +81,7 @@ fn with_blocks(cases: &[Case]) -> Vec<Case> {
     let mut whole = Vec::with_capacity(cases.len());
     for case in cases {
         let block = case.block.clone().unwrap_or_else(|| current.clone());
-        let made = Case { passed: case.passed, block: Some(block) };
+        let made = Case { block: Some(block), ..case.clone() };
         expected_line(&FAST, &made, &mut current);
         whole.push(made);
     }
