@@ -1,10 +1,12 @@
-//! The calls, on any bytes and any numbers.
+//! The calls, on any bytes and any numbers. Those that reckon reach may be lent
+//! a table's text; without one, or with an empty one, they reckon by ours.
 
 use crate::block::{encode, Delegation, Register, BLOCK_LEN};
 use crate::cut::settle;
 use crate::engine::{Engine, FAST};
 use crate::refusal::{admit, Call, Passed, WRONG_LENGTH};
 use crate::search::Search;
+use crate::table::Table;
 
 /// The refusal number, 0 when accepted, and three answers, 0 where unused.
 #[derive(Clone, Copy, Debug, PartialEq, Eq)]
@@ -45,22 +47,27 @@ pub fn downgrade(block: &mut [u8], by: u32, giver: u32, receiver: u32, weight: u
 }
 
 pub fn reach(block: &[u8], giver: u32, receiver: u32) -> Outcome {
-    answer(&FAST, &Passed { giver, receiver, ..blank(Call::Reach) }, block)
+    answer(&FAST, &Passed { giver, receiver, ..blank(Call::Reach) }, b"", block)
 }
 
 /// Document 01's call "use".
 pub fn use_right(block: &[u8], receiver: u32) -> Outcome {
-    answer(&FAST, &Passed { receiver, ..blank(Call::Use) }, block)
+    answer(&FAST, &Passed { receiver, ..blank(Call::Use) }, b"", block)
 }
 
 /// Writes a chain of the pair's largest limit, owner's end first.
 pub fn chain(block: &[u8], giver: u32, receiver: u32, buffer: &mut [u8]) -> Written {
+    chain_table(block, giver, receiver, b"", buffer)
+}
+
+/// The same, lent a table's text.
+pub fn chain_table(block: &[u8], giver: u32, receiver: u32, text: &[u8], buffer: &mut [u8]) -> Written {
     let n = Passed { giver, receiver, ..blank(Call::Chain) };
-    let register = match admit(&FAST, &n, block, buffer.len()) {
+    let (table, register) = match admit(&FAST, &n, text, block, buffer.len()) {
         Err(refusal) => return Written { refusal, filled: 0 },
-        Ok(register) => register,
+        Ok(admitted) => admitted,
     };
-    let links = Search::new(&register).chain(giver, receiver).unwrap_or_default();
+    let links = Search::new(&table, &register).chain(giver, receiver).unwrap_or_default();
     for (place, link) in buffer.chunks_exact_mut(2).zip(&links) {
         place.copy_from_slice(&[link.giver, link.receiver]);
     }
@@ -75,35 +82,40 @@ pub fn blank(call: Call) -> Passed {
 /// Any call but chain, with the engine named. Chain needs a buffer and has its
 /// own function; here it has none and is refused.
 pub fn run(engine: &Engine, n: &Passed, block: &mut [u8]) -> Outcome {
+    run_table(engine, n, b"", block)
+}
+
+/// The same, lent a table's text, which a call that reckons no reach ignores.
+pub fn run_table(engine: &Engine, n: &Passed, text: &[u8], block: &mut [u8]) -> Outcome {
     match n.call {
         Call::Open => open(block),
-        Call::Reach | Call::Use | Call::Chain => answer(engine, n, block),
-        Call::Enrol | Call::Grant | Call::Revoke | Call::Downgrade => change(engine, n, block),
+        Call::Reach | Call::Use | Call::Chain => answer(engine, n, text, block),
+        Call::Enrol | Call::Grant | Call::Revoke | Call::Downgrade => change(engine, n, text, block),
     }
 }
 
-fn change(engine: &Engine, n: &Passed, block: &mut [u8]) -> Outcome {
-    let mut register = match admit(engine, n, block, 0) {
+fn change(engine: &Engine, n: &Passed, text: &[u8], block: &mut [u8]) -> Outcome {
+    let (table, mut register) = match admit(engine, n, text, block, 0) {
         Err(refusal) => return refused(refusal),
-        Ok(register) => register,
+        Ok(admitted) => admitted,
     };
     let answers = match n.call {
         Call::Enrol => add_subject(n, &mut register),
         Call::Grant => add_delegation(n, &mut register),
-        _ => cut(engine, n, &mut register),
+        _ => cut(engine, &table, n, &mut register),
     };
     block.copy_from_slice(&encode(&register));
     accepted(answers)
 }
 
-fn answer(engine: &Engine, n: &Passed, block: &[u8]) -> Outcome {
-    let register = match admit(engine, n, block, 0) {
+fn answer(engine: &Engine, n: &Passed, text: &[u8], block: &[u8]) -> Outcome {
+    let (table, register) = match admit(engine, n, text, block, 0) {
         Err(refusal) => return refused(refusal),
-        Ok(register) => register,
+        Ok(admitted) => admitted,
     };
     match n.call {
         Call::Use => accepted([may_use(&register, n.receiver) as i32, 0, 0]),
-        _ => accepted([(engine.reach)(&register, n.giver, n.receiver) as i32, 0, 0]),
+        _ => accepted([(engine.reach)(&table, &register, n.giver, n.receiver) as i32, 0, 0]),
     }
 }
 
@@ -129,14 +141,14 @@ fn add_delegation(n: &Passed, register: &mut Register) -> [i32; 3] {
 }
 
 /// The named change, then the rounds.
-fn cut(engine: &Engine, n: &Passed, register: &mut Register) -> [i32; 3] {
+fn cut(engine: &Engine, table: &Table, n: &Passed, register: &mut Register) -> [i32; 3] {
     if let Ok(at) = register.place(n.giver, n.receiver) {
         match n.call {
             Call::Revoke => drop(register.delegations.remove(at)),
             _ => register.delegations[at].weight = n.weight as u8,
         }
     }
-    let counts = settle(engine, register);
+    let counts = settle(engine, table, register);
     [counts.dropped as i32, counts.lowered as i32, counts.rounds as i32]
 }
 

@@ -3,7 +3,7 @@
 use crate::block::{encode, Register};
 use crate::call::{blank, run, Outcome};
 use crate::engine::Engine;
-use crate::refusal::{Call, Passed, CALLS};
+use crate::refusal::{Call, Passed, CALLS, MALFORMED};
 
 pub const MOST_INPUT: usize = 65_536;
 pub const NAMES_IN: &[u8] = b"call by giver receiver weight need bar\n";
@@ -11,9 +11,6 @@ pub const NAMES_OUT: &[u8] = b"refusal first second third\n";
 
 /// The largest call number of a call file is 5.
 pub const CALLS_IN_FILE: usize = 6;
-
-/// The refusal of a malformed line.
-pub const MALFORMED: u32 = 7;
 
 /// What the program prints for an input.
 pub fn print(engine: &Engine, input: &[u8]) -> Vec<u8> {
@@ -34,7 +31,7 @@ pub fn print(engine: &Engine, input: &[u8]) -> Vec<u8> {
 }
 
 /// The lines with their byte 10; the last may lack it.
-fn lines(text: &[u8]) -> impl Iterator<Item = &[u8]> {
+pub fn lines(text: &[u8]) -> impl Iterator<Item = &[u8]> {
     text.split_inclusive(|&byte| byte == b'\n')
 }
 
@@ -60,7 +57,7 @@ pub fn read_values(text: &[u8]) -> Option<[u32; 7]> {
 }
 
 /// Digits only, no leading zero, at most 4,294,967,295.
-fn read_number(digits: &[u8]) -> Option<u32> {
+pub fn read_number(digits: &[u8]) -> Option<u32> {
     let leading_zero = digits.len() > 1 && digits[0] == b'0';
     if digits.is_empty() || digits.len() > 10 || leading_zero || !digits.iter().all(u8::is_ascii_digit) {
         return None;

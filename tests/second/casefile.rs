@@ -9,11 +9,12 @@
 //! and the third of the part. Accepted, an answer is 1 if the chain is right;
 //! refused, 0 if nothing was written.
 
-use crate::call::{chain, run, Outcome};
+use crate::call::{chain_table, run_table, Outcome};
 use crate::callfile::{from_values, joined, read_values, used_only, values_of};
 use crate::engine::Engine;
 use crate::judge::judge;
 use crate::refusal::{Call, Passed};
+use crate::table::Table;
 
 pub const MOST_BYTES: usize = 4096;
 
@@ -108,21 +109,27 @@ pub fn left_line(outcome: &Outcome, before: &[u8], after: &[u8]) -> String {
 
 /// The outcome of any call; for chain each answer is 1 if it is right.
 pub fn answer(engine: &Engine, n: &Passed, block: &mut [u8]) -> Outcome {
+    answer_table(engine, n, b"", block)
+}
+
+/// The same, lent a table's text.
+pub fn answer_table(engine: &Engine, n: &Passed, text: &[u8], block: &mut [u8]) -> Outcome {
     let n = used_only(n);
     match n.call {
-        Call::Chain => chain_outcome(&n, block),
-        _ => run(engine, &n, block),
+        Call::Chain => chain_outcome(&n, text, block),
+        _ => run_table(engine, &n, text, block),
     }
 }
 
-fn chain_outcome(n: &Passed, block: &[u8]) -> Outcome {
+fn chain_outcome(n: &Passed, text: &[u8], block: &[u8]) -> Outcome {
     let mut buffer = vec![UNWRITTEN; (n.weight as usize).min(MOST_BYTES)];
-    let written = chain(block, n.giver, n.receiver, &mut buffer);
+    let written = chain_table(block, n.giver, n.receiver, text, &mut buffer);
     let rest_kept = buffer[written.filled..].iter().all(|&byte| byte == UNWRITTEN);
     if written.refusal != 0 {
         return Outcome { refusal: written.refusal, answers: [0, 0, 0] };
     }
-    let right = rest_kept && judge(block, n.giver, n.receiver, &buffer[..written.filled]).is_ok();
+    let is_chain = |table: Table| judge(&table, block, n.giver, n.receiver, &buffer[..written.filled]).is_ok();
+    let right = rest_kept && Table::read(text).is_ok_and(is_chain);
     Outcome { refusal: 0, answers: [right as i32; 3] }
 }
 

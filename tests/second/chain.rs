@@ -1,31 +1,13 @@
-//! Support chains as document 01 defines them: the step table, conditions,
-//! limits, and the literal search that lists every chain of a pair.
+//! Support chains as document 01 defines them: conditions, limits, and the
+//! literal search that lists every chain of a pair.
 
 use crate::block::{Delegation, Register};
+use crate::table::Table;
 
 /// The sign for no reach.
 pub const NONE: i16 = -1;
 /// The limit every chain starts with.
 pub const START: i16 = 255;
-
-/// How much a right falls at each step, indexed by weight.
-pub const STEP: [i16; 256] = step_table();
-
-const fn step_table() -> [i16; 256] {
-    let mut table = [NONE; 256];
-    let mut weight = 1;
-    while weight < 255 {
-        table[weight] = weight as i16 - 1;
-        weight += 1;
-    }
-    table[255] = 255;
-    table
-}
-
-/// The limit after a delegation of this weight. The limit before is not -1.
-pub fn step(limit: i16, weight: u8) -> i16 {
-    STEP[limit.min(weight as i16) as usize]
-}
 
 /// Marks include all of need and none of bar.
 pub fn meets(marks: u16, delegation: &Delegation) -> bool {
@@ -33,10 +15,10 @@ pub fn meets(marks: u16, delegation: &Delegation) -> bool {
 }
 
 /// The limit that a list of delegations carries, or -1 once it becomes -1.
-pub fn limit_of(links: &[Delegation]) -> i16 {
+pub fn limit_of(table: &Table, links: &[Delegation]) -> i16 {
     let mut limit = START;
     for link in links {
-        limit = step(limit, link.weight);
+        limit = table.step(limit, link.weight);
         if limit == NONE {
             return NONE;
         }
@@ -45,20 +27,21 @@ pub fn limit_of(links: &[Delegation]) -> i16 {
 }
 
 /// Every chain for the pair. Meant for small registers.
-pub fn all_chains(register: &Register, giver: u32, receiver: u32) -> Vec<Vec<Delegation>> {
+pub fn all_chains(table: &Table, register: &Register, giver: u32, receiver: u32) -> Vec<Vec<Delegation>> {
     let mut found = Vec::new();
-    let goal = Goal { register, giver, marks: register.marks_of(receiver) };
+    let goal = Goal { table, register, giver, marks: register.marks_of(receiver) };
     extend(&goal, &mut Vec::new(), &mut found);
     found
 }
 
 /// The largest limit over all chains of the pair, or -1.
-pub fn literal_reach(register: &Register, giver: u32, receiver: u32) -> i16 {
-    let chains = all_chains(register, giver, receiver);
-    chains.iter().map(|links| limit_of(links)).max().unwrap_or(NONE)
+pub fn literal_reach(table: &Table, register: &Register, giver: u32, receiver: u32) -> i16 {
+    let chains = all_chains(table, register, giver, receiver);
+    chains.iter().map(|links| limit_of(table, links)).max().unwrap_or(NONE)
 }
 
 struct Goal<'a> {
+    table: &'a Table,
     register: &'a Register,
     giver: u32,
     marks: u16,
@@ -77,7 +60,7 @@ fn extend(goal: &Goal, links: &mut Vec<Delegation>, found: &mut Vec<Vec<Delegati
             continue;
         }
         links.push(*link);
-        if limit_of(links) != NONE {
+        if limit_of(goal.table, links) != NONE {
             extend(goal, links, found);
         }
         links.pop();

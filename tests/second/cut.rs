@@ -3,6 +3,7 @@
 use crate::block::Register;
 use crate::chain::NONE;
 use crate::engine::Engine;
+use crate::table::Table;
 
 /// What a cut answers.
 #[derive(Clone, Copy, Debug, PartialEq, Eq)]
@@ -14,8 +15,8 @@ pub struct Counts {
 
 /// One round: every weight becomes the smaller of itself and the reach of its
 /// pair, all from the register as the round began. Answers if any changed.
-pub fn round(engine: &Engine, register: &mut Register) -> bool {
-    let reaches = (engine.reaches)(register);
+pub fn round(engine: &Engine, table: &Table, register: &mut Register) -> bool {
+    let reaches = (engine.reaches)(table, register);
     let mut changed = false;
     let mut left = Vec::with_capacity(register.delegations.len());
     for (delegation, &reach) in register.delegations.iter().zip(&reaches) {
@@ -33,18 +34,18 @@ pub fn round(engine: &Engine, register: &mut Register) -> bool {
 }
 
 /// Rounds up to the first that changes nothing, which counts.
-pub fn all_rounds(engine: &Engine, register: &mut Register) -> u32 {
+pub fn all_rounds(engine: &Engine, table: &Table, register: &mut Register) -> u32 {
     let mut rounds = 1;
-    while round(engine, register) {
+    while round(engine, table, register) {
         rounds += 1;
     }
     rounds
 }
 
 /// Carries out the rounds on a register after the named change.
-pub fn settle(engine: &Engine, register: &mut Register) -> Counts {
+pub fn settle(engine: &Engine, table: &Table, register: &mut Register) -> Counts {
     let begun = register.clone();
-    let rounds = (engine.rounds)(engine, register);
+    let rounds = (engine.rounds)(engine, table, register);
     let mut counts = Counts { dropped: 0, lowered: 0, rounds };
     for before in &begun.delegations {
         match register.standing(before.giver as u32, before.receiver as u32) {

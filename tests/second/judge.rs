@@ -2,9 +2,10 @@
 //! sentence of document 01's definition is one test here.
 
 use crate::block::{decode, Delegation, Register};
+use crate::table::Table;
 
 /// Judges the bytes that a chain call wrote for a standing delegation.
-pub fn judge(block: &[u8], giver: u32, receiver: u32, written: &[u8]) -> Result<(), String> {
+pub fn judge(table: &Table, block: &[u8], giver: u32, receiver: u32, written: &[u8]) -> Result<(), String> {
     let register = decode(block).ok_or("the block is not well formed")?;
     let named = find(&register, giver, receiver).ok_or("the pair doesn't stand")?;
     if written.len() % 2 != 0 {
@@ -17,7 +18,7 @@ pub fn judge(block: &[u8], giver: u32, receiver: u32, written: &[u8]) -> Result<
     judge_ends(&links, giver)?;
     judge_subjects(&links)?;
     judge_conditions(&links, register.marks_of(receiver))?;
-    if judge_limit(&links)? < named.weight as i32 {
+    if judge_limit(table, &links)? < named.weight as i32 {
         return Err("the limit is below the weight".to_string());
     }
     Ok(())
@@ -66,13 +67,13 @@ fn judge_conditions(links: &[Delegation], marks: u16) -> Result<(), String> {
     Ok(())
 }
 
-/// The limit starts at 255 and falls by one at each finite step; nothing may
-/// follow a 0.
-fn judge_limit(links: &[Delegation]) -> Result<i32, String> {
+/// The limit starts at 255 and becomes, at each link, the table's entry for the
+/// smaller of the limit and the link's weight; it never becomes -1.
+fn judge_limit(table: &Table, links: &[Delegation]) -> Result<i32, String> {
     let mut limit = 255;
     for link in links {
         let smaller = limit.min(link.weight as i32);
-        limit = if smaller == 255 { 255 } else { smaller - 1 };
+        limit = table.next[smaller as usize] as i32;
         if limit < 0 {
             return Err("the limit becomes -1".to_string());
         }

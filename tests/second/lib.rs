@@ -1,4 +1,5 @@
-//! The second implementation of the seat register, read from document 01 alone.
+//! The second implementation of the seat register, read from documents 01 and
+//! 02 alone.
 
 pub mod block;
 pub mod call;
@@ -14,3 +15,4 @@ pub mod random;
 pub mod refusal;
 pub mod remainder;
 pub mod search;
+pub mod table;

@@ -12,10 +12,10 @@
 
 use crate::block::{encode, Register, BLOCK_LEN};
 use crate::call::{run, Outcome};
-use crate::callfile::{from_values, used_only, CALLS_IN_FILE, MALFORMED};
+use crate::callfile::{from_values, used_only, CALLS_IN_FILE};
 use crate::casefile::{block_text, left_line};
 use crate::engine::Engine;
-use crate::refusal::{Passed, WRONG_LENGTH};
+use crate::refusal::{Passed, MALFORMED, WRONG_LENGTH};
 
 /// Numbers of a call.
 pub const NUMBERS: usize = 7;

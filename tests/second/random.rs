@@ -1,6 +1,9 @@
-//! A small generator of numbers with a fixed sequence, and random registers.
+//! A small generator of numbers with a fixed sequence, random registers and
+//! random step tables.
 
 use crate::block::{Delegation, Register};
+use crate::chain::NONE;
+use crate::table::{Table, WEIGHTS};
 
 /// The generator known as splitmix64.
 pub struct Random {
@@ -86,4 +89,22 @@ pub fn random_masks(random: &mut Random, marks: u16) -> (u16, u16) {
     let need = random.next() as u16 & random.next() as u16 & marks;
     let bar = random.next() as u16 & random.next() as u16 & marks & !need;
     (need, bar)
+}
+
+/// A step table that passes: many fall by little, some keep one next for long,
+/// some are -1 nearly everywhere, and 255 often stays.
+pub fn random_table(random: &mut Random) -> Table {
+    let rising = random.pick(&[100, 100, 90, 50, 10, 1]);
+    let least_fall = random.pick(&[1, 1, 1, 2, 3, 40]);
+    let more = random.pick(&[1, 2, 2, 3, 20, 256]);
+    let mut next = [NONE; WEIGHTS];
+    for weight in 1..WEIGHTS {
+        let before = next[weight - 1];
+        let fall = least_fall + random.below(more) as i16;
+        next[weight] = if random.chance(rising) { before.max(weight as i16 - fall) } else { before };
+    }
+    if random.chance(60) {
+        next[255] = 255;
+    }
+    Table { next }
 }

@@ -1,12 +1,17 @@
 //! Refusals: for each call two ordered lists after document 01's two headings.
-//! The refusal is the first that applies of: 1, passed in order, 8, held in
-//! order. It is never a numeric minimum.
+//! The refusal is the first that applies of: 1, passed in order, 7 and 17 for a
+//! lent table's text, 8, held in order. It is never a numeric minimum.
 
 use crate::block::{decode, Register, BLOCK_LEN, MOST_DELEGATIONS, MOST_SUBJECTS};
 use crate::engine::Engine;
+use crate::table::{Table, OURS};
 
 pub const WRONG_LENGTH: u32 = 1;
+/// A line of a call file, or a table's text, has another form.
+pub const MALFORMED: u32 = 7;
 pub const NOT_WELL_FORMED: u32 = 8;
+/// The entries of a table's text break a rule.
+pub const BAD_TABLE: u32 = 17;
 pub const LEAST_BUFFER: usize = 126;
 
 /// The calls, in the order of their numbers in the case files.
@@ -42,29 +47,39 @@ pub struct Passed {
 
 type PassedTest = fn(&Passed) -> bool;
 
-/// A test of what the register holds; some look at the numbers only.
+/// A test of what the register holds; some look at the numbers only, some at
+/// the pair's reach too.
 #[derive(Clone, Copy)]
 pub enum HeldTest {
     Numbers(PassedTest),
-    Register(fn(&Engine, &Passed, &Register) -> bool),
+    Register(fn(&Passed, &Register) -> bool),
+    Reach(fn(&Passed, &Register, i16) -> bool),
 }
 
 /// The tests of a call. 1 and 8 are not listed: 1 is every call's first, and
-/// 8 stands between the lists for every call but open.
+/// 8 stands before the held ones for every call but open.
 pub struct Tests {
     pub passed: &'static [(u32, PassedTest)],
+    /// The refusals of a lent table's text; none for a call that takes no table.
+    pub table: &'static [u32],
     pub held: &'static [(u32, HeldTest)],
 }
 
-use HeldTest::{Numbers as N, Register as R};
+use HeldTest::{Numbers as N, Reach, Register as R};
+
+/// The calls that reckon reach take a table.
+pub fn takes_table(call: Call) -> bool {
+    matches!(call, Call::Grant | Call::Reach | Call::Revoke | Call::Downgrade | Call::Chain)
+}
 
 pub fn tests(call: Call) -> Tests {
+    let table: &[u32] = if takes_table(call) { &[MALFORMED, BAD_TABLE] } else { &[] };
     let (passed, held): (&'static [(u32, PassedTest)], &'static [(u32, HeldTest)]) = match call {
         Call::Open => (&[], &[]),
         Call::Enrol => (&[(4, masks)], &[(10, R(all_enrolled))]),
         Call::Grant => (
             &[(2, subjects), (3, weight), (4, masks), (5, equal), (6, to_owner)],
-            &[(9, R(not_enrolled)), (11, R(stands)), (12, R(full)), (16, R(above_reach))],
+            &[(9, R(not_enrolled)), (11, R(stands)), (12, R(full)), (16, Reach(above_reach))],
         ),
         Call::Reach => (&[(2, subjects), (5, equal), (6, to_owner)], &[(9, R(not_enrolled))]),
         Call::Use => (&[(2, subjects)], &[(9, R(not_enrolled))]),
@@ -78,14 +93,14 @@ pub fn tests(call: Call) -> Tests {
         ),
         Call::Chain => (
             &[(2, subjects), (5, equal), (6, to_owner)],
-            &[(9, R(not_enrolled)), (13, R(stands_not)), (16, R(unsupported))],
+            &[(9, R(not_enrolled)), (13, R(stands_not)), (16, Reach(unsupported))],
         ),
     };
-    Tests { passed, held }
+    Tests { passed, table, held }
 }
 
-/// The decoded register, or the refusal. Not for open.
-pub fn admit(engine: &Engine, n: &Passed, block: &[u8], buffer: usize) -> Result<Register, u32> {
+/// The table to reckon by and the decoded register, or the refusal. Not for open.
+pub fn admit(engine: &Engine, n: &Passed, text: &[u8], block: &[u8], buffer: usize) -> Result<(Table, Register), u32> {
     if wrong_length(n, block, buffer) {
         return Err(WRONG_LENGTH);
     }
@@ -93,45 +108,50 @@ pub fn admit(engine: &Engine, n: &Passed, block: &[u8], buffer: usize) -> Result
     if let Some((number, _)) = tests.passed.iter().find(|(_, test)| test(n)) {
         return Err(*number);
     }
+    let table = lent_table(n.call, text)?;
     let Some(register) = decode(block) else {
         return Err(NOT_WELL_FORMED);
     };
-    match tests.held.iter().find(|(_, test)| holds(*test, engine, n, &register)) {
+    let reach = || Some((engine.reach)(&table, &register, n.giver, n.receiver));
+    match tests.held.iter().find(|(_, test)| applies(*test, n, Some(&register), reach)) {
         Some((number, _)) => Err(*number),
-        None => Ok(register),
+        None => Ok((table, register)),
     }
 }
 
 /// Every refusal that applies, each judged on its own. Tests of the register
-/// are judged on well-formed blocks only, 8 on 2,180 bytes only.
-pub fn applying(engine: &Engine, n: &Passed, block: &[u8], buffer: usize) -> Vec<u32> {
+/// are judged on well-formed blocks only, 8 on 2,180 bytes only, the reach under
+/// tables that pass only, and 17 on texts of the form only.
+pub fn applying(engine: &Engine, n: &Passed, text: &[u8], block: &[u8], buffer: usize) -> Vec<u32> {
     let tests = tests(n.call);
     let mut numbers = Vec::new();
     if wrong_length(n, block, buffer) {
         numbers.push(WRONG_LENGTH);
     }
     numbers.extend(tests.passed.iter().filter(|(_, test)| test(n)).map(|(number, _)| *number));
+    let table = lent_table(n.call, text);
+    numbers.extend(table.err());
     let register = decode(block);
     if n.call != Call::Open && block.len() == BLOCK_LEN && register.is_none() {
         numbers.push(NOT_WELL_FORMED);
     }
-    for (number, test) in tests.held {
-        let applies = match (test, &register) {
-            (N(test), _) => test(n),
-            (R(test), Some(register)) => test(engine, n, register),
-            (R(_), None) => false,
-        };
-        if applies {
-            numbers.push(*number);
-        }
-    }
+    let reach = || Some((engine.reach)(&table.ok()?, register.as_ref()?, n.giver, n.receiver));
+    let held = tests.held.iter().filter(|(_, test)| applies(*test, n, register.as_ref(), reach));
+    numbers.extend(held.map(|(number, _)| *number));
     numbers
 }
 
-fn holds(test: HeldTest, engine: &Engine, n: &Passed, register: &Register) -> bool {
+/// Ours for a call that takes no table.
+fn lent_table(call: Call, text: &[u8]) -> Result<Table, u32> {
+    if takes_table(call) { Table::read(text) } else { Ok(OURS) }
+}
+
+/// Whether a test applies, on a register and a reach if there are such.
+fn applies(test: HeldTest, n: &Passed, register: Option<&Register>, reach: impl Fn() -> Option<i16>) -> bool {
     match test {
         N(test) => test(n),
-        R(test) => test(engine, n, register),
+        R(test) => register.is_some_and(|register| test(n, register)),
+        Reach(test) => register.zip(reach()).is_some_and(|(register, reach)| test(n, register, reach)),
     }
 }
 
@@ -166,27 +186,27 @@ fn to_owner(n: &Passed) -> bool {
 }
 
 /// 9: a named subject, by included, is not enrolled.
-fn not_enrolled(_: &Engine, n: &Passed, register: &Register) -> bool {
+fn not_enrolled(n: &Passed, register: &Register) -> bool {
     [n.by, n.giver, n.receiver].iter().any(|&subject| !register.enrolled(subject))
 }
 
 /// 10: 64 subjects enrolled.
-fn all_enrolled(_: &Engine, _: &Passed, register: &Register) -> bool {
+fn all_enrolled(_: &Passed, register: &Register) -> bool {
     register.marks.len() == MOST_SUBJECTS
 }
 
 /// 11: the pair stands.
-fn stands(_: &Engine, n: &Passed, register: &Register) -> bool {
+fn stands(n: &Passed, register: &Register) -> bool {
     register.standing(n.giver, n.receiver).is_some()
 }
 
 /// 12: 256 delegations stand.
-fn full(_: &Engine, _: &Passed, register: &Register) -> bool {
+fn full(_: &Passed, register: &Register) -> bool {
     register.delegations.len() == MOST_DELEGATIONS
 }
 
 /// 13: the pair doesn't stand.
-fn stands_not(_: &Engine, n: &Passed, register: &Register) -> bool {
+fn stands_not(n: &Passed, register: &Register) -> bool {
     register.standing(n.giver, n.receiver).is_none()
 }
 
@@ -196,17 +216,16 @@ fn not_entitled(n: &Passed) -> bool {
 }
 
 /// 15: new weight not below the present; a pair that doesn't stand has none.
-fn not_below(_: &Engine, n: &Passed, register: &Register) -> bool {
+fn not_below(n: &Passed, register: &Register) -> bool {
     register.standing(n.giver, n.receiver).is_some_and(|d| n.weight >= d.weight as u32)
 }
 
 /// 16 for grant: the pair's reach is below the weight passed.
-fn above_reach(engine: &Engine, n: &Passed, register: &Register) -> bool {
-    ((engine.reach)(register, n.giver, n.receiver) as i64) < n.weight as i64
+fn above_reach(n: &Passed, _: &Register, reach: i16) -> bool {
+    (reach as i64) < n.weight as i64
 }
 
 /// 16 for chain: the pair's reach is below the weight that stands.
-fn unsupported(engine: &Engine, n: &Passed, register: &Register) -> bool {
-    let reach = (engine.reach)(register, n.giver, n.receiver);
+fn unsupported(n: &Passed, register: &Register, reach: i16) -> bool {
     register.standing(n.giver, n.receiver).is_some_and(|d| reach < d.weight as i16)
 }

@@ -1,7 +1,9 @@
-//! All remainders of a cut, enumerated on tiny registers.
+//! All remainders of a cut, enumerated on tiny registers. Chains are judged by
+//! the step table given to that cut.
 
 use crate::block::{Delegation, Register};
 use crate::chain::{literal_reach, NONE};
+use crate::table::Table;
 
 /// How many candidates there are: each delegation is absent or has one of the
 /// weights up to the standing one.
@@ -12,12 +14,13 @@ pub fn candidates(start: &Register) -> u64 {
 /// Hands every remainder of the register after the named change to `each`, as
 /// weights in the order of the records, -1 for absent. Stops at the first error.
 pub fn each_remainder(
+    table: &Table,
     start: &Register,
     each: &mut dyn FnMut(&[i16]) -> Result<(), String>,
 ) -> Result<(), String> {
     let mut weights = vec![NONE; start.delegations.len()];
     loop {
-        if is_supported(&with_weights(start, &weights)) {
+        if is_supported(table, &with_weights(start, &weights)) {
             each(&weights)?;
         }
         if !advance(start, &mut weights) {
@@ -46,29 +49,29 @@ pub fn with_weights(start: &Register, weights: &[i16]) -> Register {
 }
 
 /// Every delegation is supported within the register itself.
-pub fn is_supported(register: &Register) -> bool {
-    let supported = |d: &Delegation| d.weight as i16 <= literal_reach(register, d.giver as u32, d.receiver as u32);
-    register.delegations.iter().all(supported)
+pub fn is_supported(table: &Table, register: &Register) -> bool {
+    let reach = |d: &Delegation| literal_reach(table, register, d.giver as u32, d.receiver as u32);
+    register.delegations.iter().all(|d| d.weight as i16 <= reach(d))
 }
 
 /// Whether `left` is a remainder of the cut with this register after the named change.
-pub fn is_remainder(start: &Register, left: &Register) -> bool {
+pub fn is_remainder(table: &Table, start: &Register, left: &Register) -> bool {
     let stands = |d: &Delegation| {
         let before = start.standing(d.giver as u32, d.receiver as u32);
         before.is_some_and(|b| b.need == d.need && b.bar == d.bar && d.weight <= b.weight)
     };
-    left.marks == start.marks && left.delegations.iter().all(stands) && is_supported(left)
+    left.marks == start.marks && left.delegations.iter().all(stands) && is_supported(table, left)
 }
 
 /// Checks that `left` is the best remainder, against all others.
-pub fn check_best(start: &Register, left: &Register) -> Result<u64, String> {
-    if !is_remainder(start, left) {
+pub fn check_best(table: &Table, start: &Register, left: &Register) -> Result<u64, String> {
+    if !is_remainder(table, start, left) {
         return Err(format!("{left:?} is no remainder of {start:?}"));
     }
     let of_pair = |d: &Delegation| left.standing(d.giver as u32, d.receiver as u32).map_or(NONE, |l| l.weight as i16);
     let best: Vec<i16> = start.delegations.iter().map(of_pair).collect();
     let mut count = 0;
-    each_remainder(start, &mut |weights| {
+    each_remainder(table, start, &mut |weights| {
         count += 1;
         if weights.iter().zip(&best).all(|(weight, best)| weight <= best) {
             return Ok(());

@@ -2,9 +2,11 @@
 //! heaviest first, over the runs of each giver's records.
 
 use crate::block::{Delegation, Register, MOST_SUBJECTS};
-use crate::chain::{meets, step, NONE, START};
+use crate::chain::{meets, NONE, START};
+use crate::table::{Table, OURS};
 
 pub struct Search<'a> {
+    table: &'a Table,
     register: &'a Register,
     /// Giver g's records are those from `runs[g]` up to `runs[g + 1]`.
     runs: [usize; MOST_SUBJECTS + 1],
@@ -17,7 +19,7 @@ pub struct Limits {
 }
 
 impl<'a> Search<'a> {
-    pub fn new(register: &'a Register) -> Search<'a> {
+    pub fn new(table: &'a Table, register: &'a Register) -> Search<'a> {
         let mut runs = [0; MOST_SUBJECTS + 1];
         for delegation in &register.delegations {
             runs[delegation.giver as usize + 1] += 1;
@@ -25,7 +27,7 @@ impl<'a> Search<'a> {
         for giver in 0..MOST_SUBJECTS {
             runs[giver + 1] += runs[giver];
         }
-        Search { register, runs }
+        Search { table, register, runs }
     }
 
     /// A limit never rises along a link, so the heaviest subject that is still
@@ -49,7 +51,7 @@ impl<'a> Search<'a> {
         let mut raised = 0;
         for record in self.runs[giver]..self.runs[giver + 1] {
             let link = &self.register.delegations[record];
-            let next = step(limits.at[giver], link.weight);
+            let next = self.table.step(limits.at[giver], link.weight);
             let receiver = link.receiver as usize;
             if next > limits.at[receiver] && meets(marks, link) {
                 limits.at[receiver] = next;
@@ -101,14 +103,19 @@ fn heaviest(open: u64, limits: &[i16; MOST_SUBJECTS]) -> Option<usize> {
     best
 }
 
-/// The reach of one pair.
+/// The reach of one pair under our table.
 pub fn reach(register: &Register, giver: u32, receiver: u32) -> i16 {
-    Search::new(register).limits(receiver).reach(giver)
+    reach_table(&OURS, register, giver, receiver)
+}
+
+/// The reach of one pair.
+pub fn reach_table(table: &Table, register: &Register, giver: u32, receiver: u32) -> i16 {
+    Search::new(table, register).limits(receiver).reach(giver)
 }
 
 /// The reach of every standing pair, in the order of the records.
-pub fn reaches(register: &Register) -> Vec<i16> {
-    let search = Search::new(register);
+pub fn reaches(table: &Table, register: &Register) -> Vec<i16> {
+    let search = Search::new(table, register);
     let mut of_receiver: Vec<Option<Limits>> = (0..MOST_SUBJECTS).map(|_| None).collect();
     let mut answers = Vec::with_capacity(register.delegations.len());
     for d in &register.delegations {

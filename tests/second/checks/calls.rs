@@ -31,7 +31,7 @@ fn checked(engine: &Engine, n: &Passed, block: &mut Vec<u8>) -> Result<Outcome, 
 
 /// The refusal is the first that applies in the order of the lists.
 fn first_applying(n: &Passed, block: &[u8]) -> u32 {
-    let all = applying(&LITERAL, n, block, n.weight as usize);
+    let all = applying(&LITERAL, n, b"", block, n.weight as usize);
     let lists = tests(n.call);
     let mut order = vec![1];
     order.extend(lists.passed.iter().map(|(number, _)| *number));

@@ -10,6 +10,7 @@ use second::cut::{settle, Counts};
 use second::engine::{Engine, FAST, LITERAL};
 use second::random::{random_register, Random, Shape};
 use second::remainder::{candidates, check_best};
+use second::table::OURS;
 
 /// Registers after a named change with at most so many candidates.
 fn tiny(random: &mut Random, weights: &[u8], most: u64) -> Register {
@@ -63,8 +64,8 @@ fn best_remainder(engine: &Engine) -> Result<u64, String> {
     let mut compared = 0;
     for start in tiny_registers() {
         let mut left = start.clone();
-        settle(engine, &mut left);
-        compared += check_best(&start, &left)?;
+        settle(engine, &OURS, &mut left);
+        compared += check_best(&OURS, &start, &left)?;
     }
     Ok(compared)
 }
@@ -98,8 +99,8 @@ fn same_cuts(engine: &Engine) -> Result<u32, String> {
         };
         let start = random_register(&mut random, &shape);
         let (mut found, mut due) = (start.clone(), start);
-        let counts = settle(&LITERAL, &mut due);
-        same("counts", settle(engine, &mut found), counts)?;
+        let counts = settle(&LITERAL, &OURS, &mut due);
+        same("counts", settle(engine, &OURS, &mut found), counts)?;
         same("left", found, due)?;
         most = most.max(counts.rounds);
     }
@@ -147,7 +148,7 @@ fn a_cut_of_485_rounds() {
     }
     assert_eq!(decode(&block), Some(rounds::built()));
     let mut left = rounds::built();
-    assert_eq!(settle(&FAST, &mut left), Counts { dropped: 0, lowered: 0, rounds: 1 });
+    assert_eq!(settle(&FAST, &OURS, &mut left), Counts { dropped: 0, lowered: 0, rounds: 1 });
     for engine in [&FAST, &RELAXED] {
         let mut block = block.clone();
         assert_eq!(run(engine, &rounds::FIRST_CUT, &mut block).answers, [232, 0, 485]);

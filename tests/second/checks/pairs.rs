@@ -86,7 +86,7 @@ fn realised() -> BTreeMap<Call, Realised> {
         let mut block = Vec::new();
         for case in cases(kind) {
             block = case.block.unwrap_or(block);
-            let numbers = applying(&FAST, &case.passed, &block, case.passed.weight as usize);
+            let numbers = applying(&FAST, &case.passed, b"", &block, case.passed.weight as usize);
             let of_call = all.entry(case.passed.call).or_default();
             if let [number] = numbers[..] {
                 of_call.alone.insert(number);

@@ -6,10 +6,11 @@ use crate::relaxed::limits;
 use generate::{full, register, rounds};
 use second::block::{encode, Register};
 use second::call;
-use second::chain::{all_chains, limit_of, literal_reach, NONE, STEP};
+use second::chain::{all_chains, limit_of, literal_reach, NONE};
 use second::engine::{Engine, FAST, LITERAL};
 use second::judge::judge;
 use second::random::{random_register, Random, Shape};
+use second::table::OURS;
 
 /// Small registers: conditions, cycles, unsupported ones.
 fn small(random: &mut Random) -> Register {
@@ -31,12 +32,12 @@ fn same_as_literal(engine: &Engine) -> Result<u32, String> {
         let register = small(&mut random);
         let count = register.marks.len() as u32;
         for (giver, receiver) in (0..count).flat_map(|g| (0..count).map(move |r| (g, r))) {
-            let due = literal_reach(&register, giver, receiver);
-            let found = (engine.reach)(&register, giver, receiver);
+            let due = literal_reach(&OURS, &register, giver, receiver);
+            let found = (engine.reach)(&OURS, &register, giver, receiver);
             same(&format!("reach {giver}-{receiver} of {register:?}"), found, due)?;
             some += (due != NONE) as u32;
         }
-        same("all reaches", (engine.reaches)(&register), (LITERAL.reaches)(&register))?;
+        same("all reaches", (engine.reaches)(&OURS, &register), (LITERAL.reaches)(&OURS, &register))?;
     }
     Ok(some)
 }
@@ -62,9 +63,9 @@ fn fast_is_relaxation_on_large_registers() {
     }
     for register in &registers {
         for receiver in 0..64 {
-            let limits = limits(register, receiver);
+            let limits = limits(&OURS, register, receiver);
             for giver in 0..64 {
-                assert_eq!((FAST.reach)(register, giver, receiver), limits[giver as usize]);
+                assert_eq!((FAST.reach)(&OURS, register, giver, receiver), limits[giver as usize]);
             }
         }
     }
@@ -82,11 +83,11 @@ fn written_chains_are_judged() {
             let (giver, receiver) = (d.giver as u32, d.receiver as u32);
             let mut buffer = [0x5A; 200];
             let written = call::chain(&block, giver, receiver, &mut buffer);
-            let supported = literal_reach(&register, giver, receiver) >= d.weight as i16;
+            let supported = literal_reach(&OURS, &register, giver, receiver) >= d.weight as i16;
             assert_eq!(written.refusal, if supported { 0 } else { 16 });
             assert!(buffer[written.filled..].iter().all(|&byte| byte == 0x5A));
             if supported {
-                judge(&block, giver, receiver, &buffer[..written.filled]).unwrap();
+                judge(&OURS, &block, giver, receiver, &buffer[..written.filled]).unwrap();
                 links += written.filled / 2;
             }
         }
@@ -104,11 +105,11 @@ fn judge_knows_chains() {
         let block = encode(&register);
         for d in &register.delegations {
             let (giver, receiver) = (d.giver as u32, d.receiver as u32);
-            let chains = all_chains(&register, giver, receiver);
+            let chains = all_chains(&OURS, &register, giver, receiver);
             for chain in &chains {
                 let bytes: Vec<u8> = chain.iter().flat_map(|link| [link.giver, link.receiver]).collect();
-                let due = limit_of(chain) >= d.weight as i16;
-                assert_eq!(judge(&block, giver, receiver, &bytes).is_ok(), due);
+                let due = limit_of(&OURS, chain) >= d.weight as i16;
+                assert_eq!(judge(&OURS, &block, giver, receiver, &bytes).is_ok(), due);
                 accepted += due as u32;
             }
         }
@@ -123,19 +124,20 @@ fn judge_turns_back_what_is_no_chain() {
         (3, 2, 255, 0, 0),
     ];
     let block = encode(&register(&[0, 0, 0, 0, 0], &grants));
-    assert_eq!(judge(&block, 2, 4, &[0, 1, 1, 2]), Ok(()));
+    assert_eq!(judge(&OURS, &block, 2, 4, &[0, 1, 1, 2]), Ok(()));
     let no_chains: [&[u8]; 9] = [
         &[], &[0], &[0, 1], &[1, 2], &[0, 2], &[0, 3, 3, 2], &[0, 1, 0, 2], &[0, 2, 2, 1, 1, 2], &[0, 4, 4, 2],
     ];
     for bytes in no_chains {
-        assert!(judge(&block, 2, 4, bytes).is_err(), "{bytes:?}");
+        assert!(judge(&OURS, &block, 2, 4, bytes).is_err(), "{bytes:?}");
     }
-    assert!(judge(&block, 2, 3, &[0, 1, 1, 2]).is_err());
+    assert!(judge(&OURS, &block, 2, 3, &[0, 1, 1, 2]).is_err());
 }
 
 #[test]
 fn step_table_keeps_the_rule() {
-    assert_eq!((STEP[0], STEP[1], STEP[254], STEP[255]), (-1, 0, 253, 255));
-    assert!((1..255).all(|weight| STEP[weight] == weight as i16 - 1));
-    assert!(STEP.windows(2).all(|two| two[0] < two[1]));
+    let next = OURS.next;
+    assert_eq!((next[0], next[1], next[254], next[255]), (-1, 0, 253, 255));
+    assert!((1..255).all(|weight| next[weight] == weight as i16 - 1));
+    assert!(next.windows(2).all(|two| two[0] < two[1]));
 }

@@ -5,6 +5,7 @@ use second::block::encode;
 use second::cut::settle;
 use second::engine::FAST;
 use second::random::{random_register, Random, Shape};
+use second::table::OURS;
 
 pub fn cases(kind: &Kind) -> Vec<Case> {
     match kind.name {
@@ -103,7 +104,7 @@ fn random_rounds() -> Vec<Case> {
         };
         let mut start = random_register(&mut random, &shape);
         if random.chance(60) {
-            settle(&FAST, &mut start);
+            settle(&FAST, &OURS, &mut start);
         }
         let least = if cases.len() < 30 { 4 } else { 7 };
         cases.extend(cut_of_rounds(&mut random, &start, least));

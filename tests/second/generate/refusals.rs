@@ -14,7 +14,7 @@ pub fn cases(kind: &Kind) -> Vec<Case> {
         for block in blocks() {
             let mut seen = BTreeSet::new();
             for n in candidates(call) {
-                if seen.insert(applying(&FAST, &n, &block, n.weight as usize)) {
+                if seen.insert(applying(&FAST, &n, b"", &block, n.weight as usize)) {
                     cases.push(on(&block, n));
                 }
             }

@@ -4,6 +4,7 @@ use super::*;
 use second::block::encode;
 use second::random::{random_register, Random, Shape};
 use second::remainder::is_supported;
+use second::table::OURS;
 
 pub const WEIGHTS: [u8; 12] = [0, 1, 2, 3, 4, 5, 100, 254, 255, 255, 255, 255];
 
@@ -30,7 +31,7 @@ pub fn random_unsupported(random: &mut Random) -> Register {
             conditions: random.pick(&[0, 30, 60]),
         };
         let register = random_register(random, &shape);
-        if !is_supported(&register) {
+        if !is_supported(&OURS, &register) {
             return register;
         }
     }
