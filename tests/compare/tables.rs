@@ -106,13 +106,15 @@ const TOO_LARGE: [i64; 8] = [255, 256, 32_767, 32_768, 65_535, 65_536, 0x8000_00
 /// A text of the form whose entries break a rule.
 fn broken(random: &mut Random) -> Vec<u8> {
     let mut next = passing(random).next.map(i64::from);
-    let weight = random.below(WEIGHTS as u32) as usize;
-    next[weight] = match random.below(6) {
+    let any = random.below(WEIGHTS as u32) as usize;
+    let weight = random.pick(&[0, 1, 254, 255, any, any, any, any, any, any]);
+    next[weight] = match random.below(7) {
         0 => weight as i64,
-        1 => random.pick(&TOO_LARGE),
-        2 => next[weight] + 65_536,
-        3 => next[weight.max(1) - 1] - 1,
-        4 => next[(weight + 1).min(255)] + 1,
+        1 => weight as i64 + 1,
+        2 => random.pick(&TOO_LARGE),
+        3 => next[weight] + 65_536,
+        4 => next[weight.max(1) - 1] - 1,
+        5 => next[(weight + 1).min(255)] + 1,
         _ => random.below(300) as i64,
     };
     next[weight] = next[weight].max(-1);
@@ -124,7 +126,8 @@ fn broken(random: &mut Random) -> Vec<u8> {
 
 /// Bytes that stand in a text, or are taken for such.
 const BYTES: &[u8] = b"01234567899-- \n\n\r\t+.,\0\x0B\xA0";
-const ENDS: [&[u8]; 6] = [b"\n", b"\0", b" ", b"255 255\n", b"256 255\n", b"weight next\n"];
+/// Short texts, which also stand after another one.
+const SHORT: [&[u8]; 7] = [b"\n", b"\0", b" ", b"255 255\n", b"256 255\n", b"weight next", b"weight next\n"];
 
 /// A text that has another form, with few exceptions. Its entries may break a rule besides.
 fn malformed(random: &mut Random) -> Vec<u8> {
@@ -135,9 +138,10 @@ fn malformed(random: &mut Random) -> Vec<u8> {
         5 | 6 => drop(text.remove(at)),
         7 | 8 => text.insert(at, random.pick(BYTES)),
         9 | 10 => text.truncate(at),
-        11 => text.extend(random.pick(&ENDS)),
+        11 => text.extend(random.pick(&SHORT)),
         12 => text.resize(text.len() + random.pick(&[1, 2000, 70_000]), b'\n'),
-        13 | 14 => drop(text.splice(at.., passing(random).text().split_off(at.min(1000)))),
+        13 => drop(text.splice(at.., passing(random).text().split_off(at.min(1000)))),
+        14 => text = random.pick(&SHORT).to_vec(),
         15 => text = (0..random.range(1, 3000)).map(|_| random.next() as u8).collect(),
         _ => text = with_odd_line(random, &text),
     }
@@ -154,7 +158,7 @@ fn place(random: &mut Random, length: usize) -> usize {
     }
 }
 
-/// What may not stand for a number, but -1 as a next.
+/// What may not stand for a number, but -1 for a next.
 const ODD: [&str; 17] = [
     "-2", "-0", "+1", "-1", "--1", "-", "", "00", "01", "-01", "0x1", "1e1", "1.0",
     "4294967296", "4294967551", "18446744073709551616", "99999999999999999999",
@@ -166,7 +170,8 @@ fn with_odd_line(random: &mut Random, text: &[u8]) -> Vec<u8> {
     let at = random.below(lines.len() as u32) as usize;
     let (odd, line) = (random.pick(&ODD), lines[at].trim_end().to_string());
     let (weight, next) = line.split_once(' ').unwrap_or_default();
-    lines[at] = match random.below(16) {
+    let more = random.pick(&[1, 256, 65_536, 1 << 32]) + weight.parse::<u64>().unwrap_or(0);
+    lines[at] = match random.below(18) {
         0 => format!("{line}\r\n"),
         1 => format!("{line} \n"),
         2 => format!(" {line}\n"),
@@ -177,7 +182,8 @@ fn with_odd_line(random: &mut Random, text: &[u8]) -> Vec<u8> {
         7 => line,
         8 => String::new(),
         9 | 10 => format!("{odd} {next}\n"),
-        11 => format!("{next} {weight}\n"),
+        11 | 12 => format!("{more} {next}\n"),
+        13 => format!("{next} {weight}\n"),
         _ => format!("{weight} {odd}\n"),
     };
     lines.concat().into_bytes()
