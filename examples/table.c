@@ -42,18 +42,21 @@ static void show(const char *call, uint32_t refusal)
 
 static void show_register(void)
 {
+    printf("  standing:");
     for (uint32_t i = 0; i < seatreg_delegations(block); i++) {
         struct seatreg_delegation d = seatreg_delegation_at(block, i);
         printf(" %u-%u:%u", (unsigned)d.giver, (unsigned)d.receiver, (unsigned)d.weight);
     }
-    printf(" stand\n");
+    printf("\n");
 }
 
-static void open_with_five(void)
+static void open_and_enrol(void)
 {
-    show("open", seatreg_open(BLOCK, ANSWERS));
-    for (int subject = 1; subject < 5; subject++)
-        show("enrol", seatreg_enrol(BLOCK, 0, ANSWERS));
+    uint32_t refusal = seatreg_open(BLOCK, ANSWERS);
+
+    for (int subject = 1; subject <= 4 && refusal == SEATREG_ACCEPTED; subject++)
+        refusal = seatreg_enrol(BLOCK, 0, ANSWERS);
+    show("open, and enrol four", refusal);
 }
 
 int main(void)
@@ -61,7 +64,7 @@ int main(void)
     static struct table by_two, broken, malformed, empty; /* an empty text stands for our table */
 
     write_table(&by_two, 2);
-    open_with_five();
+    open_and_enrol();
     show("grant 0-1:9 by two", seatreg_grant_table(BLOCK, 0, 1, 9, 0, 0, TABLE(by_two), ANSWERS));
     show("grant 1-2:8 by two", seatreg_grant_table(BLOCK, 1, 2, 8, 0, 0, TABLE(by_two), ANSWERS));
     show("grant 1-2:7 by two", seatreg_grant_table(BLOCK, 1, 2, 7, 0, 0, TABLE(by_two), ANSWERS));
@@ -77,7 +80,7 @@ int main(void)
 
     /* A register made under our table. 0-4 holds nothing up, but a cut under the other table lowers all
      * that this one doesn't support. */
-    open_with_five();
+    open_and_enrol();
     show("grant 0-1:9", seatreg_grant(BLOCK, 0, 1, 9, 0, 0, ANSWERS));
     show("grant 1-2:8", seatreg_grant(BLOCK, 1, 2, 8, 0, 0, ANSWERS));
     show("grant 2-3:6", seatreg_grant(BLOCK, 2, 3, 6, 0, 0, ANSWERS));
