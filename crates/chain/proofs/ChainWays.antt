@@ -41,7 +41,8 @@ use Rattle.rules.proofs.Signed.{below-weight}
 use Rattle.chain.proofs.LinkBytes.{bytes-length}
 use Rattle.chain.proofs.Ready.{limit-reach, traceable}
 use Rattle.search.proofs.Searching.{reach-marks, records-held, lent-held, reach-found, chain-found}
-use Rattle.refusals.specs.Early.{notWellFormed, early}
+use Rattle.steptable.specs.declared.Given.{Given}
+use Rattle.refusals.specs.Early.{textRefused, notWellFormed, early}
 use Rattle.chain.specs.ChainOn.{chainRefusalOn, unwrittenBy, ChainLeft, ChainMade, ChainFront}
 use Rattle.chain.specs.declared.ChainAnswer.{ChainAnswer}
 use Rattle.refusals.proofs.Holding.{or-false, at-place, place-inside, weight-stands, enrolled-test}
@@ -154,52 +155,52 @@ module _ (t : List ℤ) (b : List ℕ) (bytes : IsBytes b) (formed : wellFormed 
           subst (λ (x : ℕ). ChainLeft t (decode b) g r (weightAt (decode b .delegations) g r) x buf o after) n
           (subst (λ (x : ℤ). ChainLeft t (decode b) g r x (cond (ltZ (reach t (decode b) g r) (pos w)) 16 0) buf o after) v q)
 
--- ── refused by the buffer's length, by 1, by what was passed, by 8 ──
-module _ (t : List ℤ) (b : List ℕ) (g r : ℕ) (buf : List ℕ) where
-  chain-refused : (n : ℕ) → chainRefusalOn t b g r buf ≡ n → n ≢ 0 → ChainMade t b g r buf (unwrittenBy n) buf
-  chain-refused n e k = left-refused t (decode b) g r (weightAt (decode b .delegations) g r) (chainRefusalOn t b g r buf) n buf e k
+-- ── refused by the buffer's length, by 1, by what was passed, by the step table's text, by 8 ──
+module _ (k : Given) (b : List ℕ) (g r : ℕ) (buf : List ℕ) where
+  chain-refused : (n : ℕ) → chainRefusalOn k b g r buf ≡ n → n ≢ 0 → ChainMade k b g r buf (unwrittenBy n) buf
+  chain-refused n e z = left-refused (k .steps) (decode b) g r (weightAt (decode b .delegations) g r) (chainRefusalOn k b g r buf) n buf e z
 
-  pub chain-buffer : length buf < chainSize → ChainMade t b g r buf (unwrittenBy 1) buf
+  pub chain-buffer : length buf < chainSize → ChainMade k b g r buf (unwrittenBy 1) buf
   unfolding chainRefusalOn
   chain-buffer h = chain-refused 1 (rw (lt-ltb (length buf) chainSize h) (or-true (not (eqb (length b) blockSize)))) (λ z. omega arith)
     where
-      or-true : (x : Bool) → cond (x || true) 1 (firstOf (chainPassed g r ++ (notWellFormed b ∷ chainHeld t (decode b) g r))) ≡ 1
+      or-true : (x : Bool) → cond (x || true) 1 (firstOf (chainPassed g r ++ (textRefused (k .refusal) ++ (notWellFormed b ∷ chainHeld (k .steps) (decode b) g r)))) ≡ 1
       or-true true = refl
       or-true false = refl
 
-  early-numbered : T (numbered (early b (askReach g r)))
+  early-numbered : T (numbered (early (k .refusal) b (askReach g r)))
   unfolding passed
   early-numbered = tt
 
   module _ (room : chainSize ≤ length buf) where
     -- with room in the buffer, the refusals of a reach before those by what the register holds
-    past-buffer : chainRefusalOn t b g r buf ≡ firstOf (early b (askReach g r) ++ chainHeld t (decode b) g r)
+    past-buffer : chainRefusalOn k b g r buf ≡ firstOf (early (k .refusal) b (askReach g r) ++ chainHeld (k .steps) (decode b) g r)
     unfolding chainRefusalOn passed
     past-buffer = rw (le-ltb (length buf) chainSize room, or-false (not (eqb (length b) blockSize)))
 
-    pub chain-early : (n : ℕ) → firstOf (early b (askReach g r)) ≡ n → n ≢ 0 → ChainMade t b g r buf (unwrittenBy n) buf
-    chain-early n e k = chain-refused n (past-buffer ∙ firstOf-some (early b (askReach g r)) (chainHeld t (decode b) g r) n early-numbered e k) k
+    pub chain-early : (n : ℕ) → firstOf (early (k .refusal) b (askReach g r)) ≡ n → n ≢ 0 → ChainMade k b g r buf (unwrittenBy n) buf
+    chain-early n e z = chain-refused n (past-buffer ∙ firstOf-some (early (k .refusal) b (askReach g r)) (chainHeld (k .steps) (decode b) g r) n early-numbered e z) z
 
     -- past these what is left is what the register allows
-    pub chain-made : firstOf (early b (askReach g r)) ≡ 0 → (o : ChainAnswer) (after : List ℕ)
-        → ChainLeft t (decode b) g r (weightAt (decode b .delegations) g r) (firstOf (chainHeld t (decode b) g r)) buf o after → ChainMade t b g r buf o after
+    pub chain-made : firstOf (early (k .refusal) b (askReach g r)) ≡ 0 → (o : ChainAnswer) (after : List ℕ)
+        → ChainLeft (k .steps) (decode b) g r (weightAt (decode b .delegations) g r) (firstOf (chainHeld (k .steps) (decode b) g r)) buf o after → ChainMade k b g r buf o after
     chain-made e o after h =
-        subst (λ (x : ℕ). ChainLeft t (decode b) g r (weightAt (decode b .delegations) g r) x buf o after)
-        (sym (past-buffer ∙ firstOf-none (early b (askReach g r)) (chainHeld t (decode b) g r) early-numbered e)) h
+        subst (λ (x : ℕ). ChainLeft (k .steps) (decode b) g r (weightAt (decode b .delegations) g r) x buf o after)
+        (sym (past-buffer ∙ firstOf-none (early (k .refusal) b (askReach g r)) (chainHeld (k .steps) (decode b) g r) early-numbered e)) h
 
 -- ── the front handed back ──
-module _ (t : List ℤ) (b : List ℕ) (g r : ℕ) (buf : List ℕ) (o : ChainAnswer) (after : List ℕ) (made : ChainMade t b g r buf o after) where
+module _ (k : Given) (b : List ℕ) (g r : ℕ) (buf : List ℕ) (o : ChainAnswer) (after : List ℕ) (made : ChainMade k b g r buf o after) where
   pub front-fits : 2 * o .links ≤ length after
   front-fits = go (eqOr (o .refusal) 0)
     where
       go : (o .refusal ≡ 0) ⊎ (o .refusal ≢ 0) → 2 * o .links ≤ length after
       go (inl e) = let (ds, c, n, a) = made .chain e in omega (arith, n, ap length a, length-append (linkBytes ds) (drop (2 * length ds) buf), bytes-length ds)
-      go (inr k) = omega (arith, made .refused k .0)
+      go (inr n) = omega (arith, made .refused n .0)
 
-  pub front-made : ChainFront t b g r buf (o .refusal) (take (2 * o .links) after)
+  pub front-made : ChainFront k b g r buf (o .refusal) (take (2 * o .links) after)
   front-made = record {
     refusal = made .refusal;
-    refused = λ k. ap (λ (i : ℕ). take (2 * i) after) (made .refused k .0);
+    refused = λ n. ap (λ (i : ℕ). take (2 * i) after) (made .refused n .0);
     chain = λ z.
         let (ds, c, n, a) = made .chain z in
         (ds, c, (λ j. take (2 * n j) (a j)) ∙ take-at (linkBytes ds) (drop (2 * length ds) buf) (2 * length ds) (bytes-length ds));

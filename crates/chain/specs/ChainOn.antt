@@ -1,4 +1,4 @@
--- The chain call on bytes (document 01, 'Calls'): its refusal, and what it may write into the lent buffer. Assumes nothing.
+-- The chain call on bytes (document 01, 'Calls'; document 02, C-11): its refusal, and what it may write into the lent buffer. Assumes nothing.
 use mathlib.Core.Path.{_≡_}
 use mathlib.Core.Logic.{_≢_}
 use mathlib.Core.Bool.{Bool, not, _||_}
@@ -14,16 +14,17 @@ use Rattle.rules.specs.Refusal.{firstOf, chainPassed, chainHeld}
 use Rattle.block.specs.Layout.{blockSize}
 use Rattle.block.specs.Block.{decode}
 use Rattle.chain.specs.Links.{linkBytes, linkSize, chainSize}
-use Rattle.refusals.specs.Early.{notWellFormed}
+use Rattle.steptable.specs.declared.Given.{Given}
+use Rattle.refusals.specs.Early.{textRefused, notWellFormed}
 use Rattle.chain.specs.declared.ChainAnswer.{ChainAnswer}
 
 -- 1: the block is not 2,180 bytes, or the buffer is under 126
 abbrev pub wrongLengths : List ℕ → List ℕ → ℕ × Bool
 wrongLengths b buf = (1, not (eqb (length b) blockSize) || ltb (length buf) chainSize)
 
--- the first that applies of 1, what was passed, 8, what the register holds
-unfoldable pub chainRefusalOn : List ℤ → List ℕ → ℕ → ℕ → List ℕ → ℕ
-chainRefusalOn t b g r buf = firstOf (wrongLengths b buf ∷ (chainPassed g r ++ (notWellFormed b ∷ chainHeld t (decode b) g r)))
+-- the first that applies of 1, what was passed, 7 and 17 by the step table's text, 8, what the register holds
+unfoldable pub chainRefusalOn : Given → List ℕ → ℕ → ℕ → List ℕ → ℕ
+chainRefusalOn k b g r buf = firstOf (wrongLengths b buf ∷ (chainPassed g r ++ (textRefused (k .refusal) ++ (notWellFormed b ∷ chainHeld (k .steps) (decode b) g r))))
 
 -- what a refused chain call returns
 abbrev pub unwrittenBy : ℕ → ChainAnswer
@@ -38,11 +39,11 @@ pub record ChainLeft (t : List ℤ) (R : Register) (g r : ℕ) (w : ℤ) (n : �
   pub chain : o .refusal ≡ 0 → (ds : List Delegation) × ChainFor t R g r w ds × (o .links ≡ length ds) × (after ≡ linkBytes ds ++ drop (linkSize * length ds) before)
 
 -- what the chain call promises: of the register that the block holds, for the weight that stands there for the pair
-abbrev pub ChainMade : List ℤ → List ℕ → ℕ → ℕ → List ℕ → ChainAnswer → List ℕ → Type 0
-ChainMade t b g r before o after = ChainLeft t (decode b) g r (weightAt (decode b .delegations) g r) (chainRefusalOn t b g r before) before o after
+abbrev pub ChainMade : Given → List ℕ → ℕ → ℕ → List ℕ → ChainAnswer → List ℕ → Type 0
+ChainMade k b g r before o after = ChainLeft (k .steps) (decode b) g r (weightAt (decode b .delegations) g r) (chainRefusalOn k b g r before) before o after
 
 -- what the chain call tells and hands back where it hands back the front: the refusal n; an empty part where refused, else the bytes of such a chain
-pub record ChainFront (t : List ℤ) (b : List ℕ) (g r : ℕ) (before : List ℕ) (n : ℕ) (part : List ℕ) : Type 0 where
-  pub refusal : n ≡ chainRefusalOn t b g r before
+pub record ChainFront (k : Given) (b : List ℕ) (g r : ℕ) (before : List ℕ) (n : ℕ) (part : List ℕ) : Type 0 where
+  pub refusal : n ≡ chainRefusalOn k b g r before
   pub refused : n ≢ 0 → part ≡ []
-  pub chain : n ≡ 0 → (ds : List Delegation) × ChainFor t (decode b) g r (weightAt (decode b .delegations) g r) ds × (part ≡ linkBytes ds)
+  pub chain : n ≡ 0 → (ds : List Delegation) × ChainFor (k .steps) (decode b) g r (weightAt (decode b .delegations) g r) ds × (part ≡ linkBytes ds)

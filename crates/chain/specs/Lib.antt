@@ -1,3 +1,3 @@
 pub mod Links
 pub mod ChainOn
-pub mod Given
+pub mod Lent

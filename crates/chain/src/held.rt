@@ -15,7 +15,7 @@ ghost use Rattle.refusals.specs.Checked.{Checked, BothEnrolled};
 ghost use Rattle.search.specs.Found.{Searched};
 ghost use Rattle.chain.specs.Links.{chainSize};
 ghost use Rattle.chain.specs.ChainOn.{ChainLeft};
-ghost use Rattle.chain.specs.Given.{LimitsLent};
+ghost use Rattle.chain.specs.Lent.{LimitsLent};
 use crate::ChainAnswer;
 use crate::links;
 use crate::unwritten;

@@ -1,10 +1,11 @@
-// Document 01's call chain: a chain that carries the weight of a standing delegation, written into a lent buffer.
+// Document 01's call chain: a chain that carries the weight of a standing delegation, written into a lent buffer; by document 01's own step table, or by one that the host lends as text.
 mod held;
 mod links;
 
 ghost use mathlib.Core.Path.{_≡_};
 ghost use denote.Ref.{ptr};
-ghost use Rattle.rules.specs.Table.{TableRule, steps};
+ghost use Rattle.rules.specs.Table.{TableRule};
+ghost use Rattle.steptable.specs.TableText.{lent, ours, given};
 ghost use Rattle.chain.specs.ChainOn.{unwrittenBy, ChainMade, ChainFront};
 use refusals::early;
 use refusals::pair_passed;
@@ -32,21 +33,22 @@ fn unwritten(number: u32) -> ChainAnswer
     }
 }
 
-// The chain call by a lent step table.
+// The chain call by a lent step table, whose text is refused with `text` or passes where that is 0.
 fn write_chain_by(
     block: &[u8],
     table: &[i16],
+    text: u32,
     giver: u32,
     receiver: u32,
     buf: &mut [u8],
 ) -> ChainAnswer
     requires { ⌜ TableRule (now table) ⌝ }
-    ensures { λ r. ⌜ ChainMade (now (table .entry)) (now (block .entry)) giver receiver (now (buf .entry)) r (now (buf .exit)) ⌝ }
+    ensures { λ r. ⌜ ChainMade (lent text (now (table .entry))) (now (block .entry)) giver receiver (now (buf .entry)) r (now (buf .exit)) ⌝ }
 {
     if buf.len() < CHAIN_SIZE {
         return unwritten(refusal::WRONG_LENGTH);
     }
-    let n = early(block, pair_passed(giver, receiver));
+    let n = early(block, pair_passed(giver, receiver), text);
     if n != 0 {
         return unwritten(n);
     }
@@ -55,13 +57,27 @@ fn write_chain_by(
 
 // Writes a chain that carries the weight of a standing delegation into `buf`.
 pub fn write_chain(block: &[u8], giver: u32, receiver: u32, buf: &mut [u8]) -> ChainAnswer
-    ensures { λ r. ⌜ ChainMade steps (now (block .entry)) giver receiver (now (buf .entry)) r (now (buf .exit)) ⌝ }
+    ensures { λ r. ⌜ ChainMade ours (now (block .entry)) giver receiver (now (buf .entry)) r (now (buf .exit)) ⌝ }
 {
     let table = rules::steps();
-    write_chain_by(block, &table, giver, receiver, buf)
+    write_chain_by(block, &table, 0, giver, receiver, buf)
 }
 
-// The same: tells the refusal, 0 when accepted, and hands back the filled front of `buf`, empty where refused.
+// By the step table of a text, ours where it is empty.
+pub fn write_chain_table(
+    block: &[u8],
+    giver: u32,
+    receiver: u32,
+    table: &[u8],
+    buf: &mut [u8],
+) -> ChainAnswer
+    ensures { λ r. ⌜ ChainMade (given (now (table .entry))) (now (block .entry)) giver receiver (now (buf .entry)) r (now (buf .exit)) ⌝ }
+{
+    let g = steptable::read_table(table);
+    write_chain_by(block, &g.steps, g.refusal, giver, receiver, buf)
+}
+
+// The same two: tells the refusal, 0 when accepted, and hands back the filled front of `buf`, empty where refused.
 pub fn chain<'a>(
     block: &[u8],
     giver: u32,
@@ -69,9 +85,25 @@ pub fn chain<'a>(
     refusal: &mut u32,
     buf: &'a mut [u8],
 ) -> &'a mut [u8]
-    ensures { λ r. ⌜ ChainFront steps (now (block .entry)) giver receiver (now (buf .entry)) (now (refusal .exit)) (now r) × (ptr r ≡ ptr (buf .entry)) ⌝ }
+    ensures { λ r. ⌜ ChainFront ours (now (block .entry)) giver receiver (now (buf .entry)) (now (refusal .exit)) (now r) × (ptr r ≡ ptr (buf .entry)) ⌝ }
 {
     let written = write_chain(block, giver, receiver, buf);
+    *refusal = written.refusal;
+    let end = LINK_SIZE * written.links;
+    &mut buf[..end]
+}
+
+pub fn chain_table<'a>(
+    block: &[u8],
+    giver: u32,
+    receiver: u32,
+    table: &[u8],
+    refusal: &mut u32,
+    buf: &'a mut [u8],
+) -> &'a mut [u8]
+    ensures { λ r. ⌜ ChainFront (given (now (table .entry))) (now (block .entry)) giver receiver (now (buf .entry)) (now (refusal .exit)) (now r) × (ptr r ≡ ptr (buf .entry)) ⌝ }
+{
+    let written = write_chain_table(block, giver, receiver, table, buf);
     *refusal = written.refusal;
     let end = LINK_SIZE * written.links;
     &mut buf[..end]

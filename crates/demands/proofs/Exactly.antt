@@ -9,7 +9,7 @@ use borrow.Author.Tests.{le-ltb}
 use lib.Dec.{ltb, nltb→le}
 use lib.IntN.{ℤ, pos}
 use Rattle.rules.specs.Limit.{none, code, _≼_}
-use Rattle.rules.specs.Table.{TableRule, steps}
+use Rattle.rules.specs.Table.{TableRule}
 use Rattle.rules.specs.Register.{Delegation}
 use Rattle.rules.specs.Chain.{limit, IsChain}
 use Rattle.rules.specs.Reach.{IsReach, reach}
@@ -24,77 +24,81 @@ use Rattle.rules.proofs.Reach.{reach-is, reach-only}
 use Rattle.rules.proofs.Support.{allowed-carried, carried-allowed}
 use Rattle.rules.proofs.Calls.{accepted-refusal}
 use Rattle.block.specs.Block.{decode}
+use Rattle.steptable.specs.TableText.{ours, given}
+use Rattle.steptable.specs.declared.Given.{Given}
+use Rattle.steptable.proofs.Right.{given-keeps}
 use Rattle.register.specs.CallOn.{Result, callOn}
 use Rattle.demands.specs.Exactly.{Grantable, GrantExactly, ReachAnswer, ReachExactly}
 use Rattle.register.proofs.Made.{callOn-accepted}
 use Rattle.register.proofs.Through.{accepted-through}
 
 -- ── grant ──
-module _ (t : List ℤ) (rule : TableRule t) (b : List ℕ) (d : Delegation) where
+module _ (g : Given) (rule : TableRule (g .steps)) (b : List ℕ) (d : Delegation) where
   -- the tests before 16, and 16
   abbrev tests : List (ℕ × Bool)
   tests = notEnrolled (decode b) (d .giver ∷ d .receiver ∷ []) ∷ pairStands (decode b) (d .giver) (d .receiver) ∷ allStand (decode b) ∷ []
 
   abbrev last : List (ℕ × Bool)
-  last = overweight t (decode b) (d ∷ []) ∷ []
+  last = overweight (g .steps) (decode b) (d ∷ []) ∷ []
 
-  grant-only : callOn t b (grant d) .refusal ≡ 0 → Grantable t b d
+  grant-only : callOn g b (grant d) .refusal ≡ 0 → Grantable g b d
   unfolding held
   grant-only e =
-      let h = accepted-through t b (grant d) e in
-      let l = ltb (code (allowed t (decode b) d)) (suc (d .weight)) in
+      let h = accepted-through g b (grant d) e in
+      let l = ltb (code (allowed (g .steps) (decode b) d)) (suc (d .weight)) in
       record {
         size = h .early .size;
         passed = h .early .passed;
+        text = h .early .text;
         formed = h .early .formed;
         held = firstOf-left tests last tt (h .held);
-        carried = allowed-carried t rule (decode b) d (nltb→le (code (allowed t (decode b) d)) (suc (d .weight)) (not-or-left l false (passes-of (tests ++ last) tt (h .held) 16)));
+        carried = allowed-carried (g .steps) rule (decode b) d (nltb→le (code (allowed (g .steps) (decode b) d)) (suc (d .weight)) (not-or-left l false (passes-of (tests ++ last) tt (h .held) 16)));
       }
 
-  grant-whenever : Grantable t b d → callOn t b (grant d) .refusal ≡ 0
+  grant-whenever : Grantable g b d → callOn g b (grant d) .refusal ≡ 0
   unfolding held
   grant-whenever k =
-      let light = carried-allowed t rule (decode b) d (k .carried) in
-      let all : firstOf (tests ++ last) ≡ 0 = firstOf-none tests last tt (k .held) ∙ rw (le-ltb (code (allowed t (decode b) d)) (suc (d .weight)) light) in
-      ap (λ (x : Result). x .refusal) (callOn-accepted t (grant d) b record { size = k .size; passed = k .passed; formed = k .formed } all) ∙ accepted-refusal t (decode b) (grant d)
+      let light = carried-allowed (g .steps) rule (decode b) d (k .carried) in
+      let all : firstOf (tests ++ last) ≡ 0 = firstOf-none tests last tt (k .held) ∙ rw (le-ltb (code (allowed (g .steps) (decode b) d)) (suc (d .weight)) light) in
+      ap (λ (x : Result). x .refusal) (callOn-accepted g (grant d) b record { size = k .size; passed = k .passed; text = k .text; formed = k .formed } all) ∙ accepted-refusal (g .steps) (decode b) (grant d)
 
-  pub grant-exactly : GrantExactly t b d
+  pub grant-exactly : GrantExactly g b d
   grant-exactly = record { only = grant-only; whenever = grant-whenever }
 
 -- ── reach ──
-module _ (t : List ℤ) (b : List ℕ) (g r : ℕ) (e : callOn t b (askReach g r) .refusal ≡ 0) where
+module _ (o : Given) (b : List ℕ) (g r : ℕ) (e : callOn o b (askReach g r) .refusal ≡ 0) where
   -- what is answered is the reach of the definition
-  answer-reach : callOn t b (askReach g r) .first ≡ reach t (decode b) g r
+  answer-reach : callOn o b (askReach g r) .first ≡ reach (o .steps) (decode b) g r
   unfolding accepted
-  answer-reach = let h = accepted-through t b (askReach g r) e in ap (λ (x : Result). x .first) (callOn-accepted t (askReach g r) b (h .early) (h .held))
+  answer-reach = let h = accepted-through o b (askReach g r) e in ap (λ (x : Result). x .first) (callOn-accepted o (askReach g r) b (h .early) (h .held))
 
-  answers-reach : ReachAnswer t b g r
+  answers-reach : ReachAnswer o b g r
   answers-reach = record {
     none-only = λ q ds c. let h = is .bounds ds c in omega (arith, c .live, ap code (sym answer-reach ∙ q));
     none-whenever = λ h. answer-reach ∙ no-chain h (is .attained);
-    some-only = λ k q. (attains k (sym answer-reach ∙ q) (is .attained), λ ds c. subst (λ (z : ℤ). limit t ds ≼ z) (sym answer-reach ∙ q) (is .bounds ds c));
-    some-whenever = λ k ds c q h. answer-reach ∙ reach-only t (decode b) g r (pos k) record { bounds = h; attained = inr (ds, c, sym q) };
+    some-only = λ k q. (attains k (sym answer-reach ∙ q) (is .attained), λ ds c. subst (λ (z : ℤ). limit (o .steps) ds ≼ z) (sym answer-reach ∙ q) (is .bounds ds c));
+    some-whenever = λ k ds c q h. answer-reach ∙ reach-only (o .steps) (decode b) g r (pos k) record { bounds = h; attained = inr (ds, c, sym q) };
   }
     where
-      is : IsReach t (decode b) g r (reach t (decode b) g r)
-      is = reach-is t (decode b) g r
+      is : IsReach (o .steps) (decode b) g r (reach (o .steps) (decode b) g r)
+      is = reach-is (o .steps) (decode b) g r
 
-      no-chain : ((ds : List Delegation) → IsChain t (decode b) g r ds → ⊥)
-          → (reach t (decode b) g r ≡ none) ⊎ ((ds : List Delegation) × IsChain t (decode b) g r ds × (reach t (decode b) g r ≡ limit t ds)) → reach t (decode b) g r ≡ none
+      no-chain : ((ds : List Delegation) → IsChain (o .steps) (decode b) g r ds → ⊥)
+          → (reach (o .steps) (decode b) g r ≡ none) ⊎ ((ds : List Delegation) × IsChain (o .steps) (decode b) g r ds × (reach (o .steps) (decode b) g r ≡ limit (o .steps) ds)) → reach (o .steps) (decode b) g r ≡ none
       no-chain h (inl q) = q
       no-chain h (inr q) = absurd (h (q .0) (q .1))
 
-      attains : (k : ℕ) → reach t (decode b) g r ≡ pos k → (reach t (decode b) g r ≡ none) ⊎ ((ds : List Delegation) × IsChain t (decode b) g r ds × (reach t (decode b) g r ≡ limit t ds))
-          → (ds : List Delegation) × IsChain t (decode b) g r ds × (limit t ds ≡ pos k)
+      attains : (k : ℕ) → reach (o .steps) (decode b) g r ≡ pos k → (reach (o .steps) (decode b) g r ≡ none) ⊎ ((ds : List Delegation) × IsChain (o .steps) (decode b) g r ds × (reach (o .steps) (decode b) g r ≡ limit (o .steps) ds))
+          → (ds : List Delegation) × IsChain (o .steps) (decode b) g r ds × (limit (o .steps) ds ≡ pos k)
       attains k q (inl z) = let y = ap code (sym q ∙ z) in absurd (omega arith)
       attains k q (inr z) = (z .0, z .1, sym (z .2) ∙ q)
 
-pub reach-exactly : (t : List ℤ) (b : List ℕ) (g r : ℕ) → ReachExactly t b g r
-reach-exactly t b g r e = answers-reach t b g r e
+pub reach-exactly : (o : Given) (b : List ℕ) (g r : ℕ) → ReachExactly o b g r
+reach-exactly o b g r e = answers-reach o b g r e
 
--- ── by document 01's own table ──
-pub grant-exactly-steps : (b : List ℕ) (d : Delegation) → GrantExactly steps b d
-grant-exactly-steps b d = grant-exactly steps steps-rule b d
+-- ── by the table of any text, and by document 01's own ──
+pub grant-exactly-given : (text b : List ℕ) (d : Delegation) → GrantExactly (given text) b d
+grant-exactly-given text b d = grant-exactly (given text) (given-keeps text) b d
 
-pub reach-exactly-steps : (b : List ℕ) (g r : ℕ) → ReachExactly steps b g r
-reach-exactly-steps b g r = reach-exactly steps b g r
+pub grant-exactly-ours : (b : List ℕ) (d : Delegation) → GrantExactly ours b d
+grant-exactly-ours b d = grant-exactly ours steps-rule b d

@@ -1,27 +1,44 @@
 -- The history theorem: demand 3 in its byte form follows from the relation that every public call promises. Assumes nothing.
-use mathlib.Core.Path.{_≡_, sym, ap, _∙_}
+use mathlib.Core.Path.{_≡_, refl, sym, ap, subst, _∙_}
+use mathlib.Core.Logic.{_≢_, _⊎_, inl, inr}
 use mathlib.Core.Bool.{Bool, true, false, cond}
-use mathlib.Core.List.{List}
+use mathlib.Core.List.{List, [], List·Memᴰ·not-nil}
 use Prim.Native.Nat.{ℕ}
 use native.Mathlib.Omega.{arith}
-use lib.Dec.{eqb}
+use lib.Dec.{T, eqb}
 use lib.ListN.{length}
 use lib.IntN.{ℤ, pos}
-use Rattle.rules.specs.Table.{TableRule, steps}
-use Rattle.rules.specs.Call.{fresh}
+use Rattle.rules.specs.Table.{TableRule, Below, steps}
+use Rattle.rules.specs.Register.{Register}
+use Rattle.rules.specs.Support.{Supported}
+use Rattle.rules.specs.Cut.{Change}
+use Rattle.rules.specs.WellFormed.{WellFormed}
+use Rattle.rules.specs.Call.{Call, enrol, grant, revoke, downgrade, askReach, askUse, fresh}
+use Rattle.rules.specs.Refusal.{firstOf, held, refusalOf}
+use Rattle.rules.specs.CallStep.{accepted, callStep}
 use Rattle.rules.proofs.Table.{steps-rule}
-use Rattle.rules.proofs.Calls.{fresh-formed}
-use Rattle.rules.proofs.Trace.{places}
+use Rattle.rules.proofs.Lists.{eqOr, T-true}
+use Rattle.rules.proofs.Calls.{fresh-formed, callStep-under, callStep-supported}
+use Rattle.rules.proofs.Trace.{stays-each, stays, places}
 use Rattle.block.specs.Layout.{blockSize}
 use Rattle.block.specs.Bytes.{IsBytes}
-use Rattle.block.specs.Block.{encode}
-use Rattle.block.proofs.Encode.{bytes-encode}
+use Rattle.block.specs.Block.{decode, encode}
+use Rattle.block.specs.WellFormed.{wellFormed}
+use Rattle.block.proofs.Encode.{bytes-encode, decode-encode}
+use Rattle.block.proofs.Form.{encode-formed}
+use Rattle.block.proofs.Held.{held-formed}
+use Rattle.steptable.specs.TableText.{ours, given}
+use Rattle.steptable.specs.declared.Given.{Given}
+use Rattle.steptable.proofs.Right.{given-right, given-keeps, given-number}
+use Rattle.refusals.specs.Early.{textRefused}
 use Rattle.register.specs.CallOn.{Result, turned, callOn, openOn}
 use Rattle.register.specs.Made.{result, MadeOpen}
 use Rattle.register.specs.Cuts.{CutsLeft}
 use Rattle.register.specs.declared.Answer.{Answer}
-use Rattle.register.proofs.CutWays.{cuts-left}
-use Rattle.demands.specs.History.{bytesLeft, Demand3}
+use Rattle.register.proofs.CutWays.{register-left, cuts-left}
+use Rattle.register.proofs.Through.{accepted-through}
+use Rattle.demands.specs.History.{Asked, asks, reckons, lentTo, askedOn, CutsAsked, bytesLeft, blockAt, GivenBelow, Demand3}
+use Rattle.demands.specs.Kept.{Kept}
 use Rattle.demands.proofs.Keeping.{kept}
 
 -- what an accepted open writes
@@ -33,14 +50,109 @@ open-written b o after q z = go (eqb (length b) blockSize) q
     go true e = ap (λ (r : Result). r .bytes) e
     go false e = let n = sym z ∙ ap (λ (r : Result). r .refusal) e in absurd (omega arith)
 
--- ── down a list ──
-module _ (t : List ℤ) (rule : TableRule t) where
-  -- THE WHOLE LIST, on bytes
-  pub demand3 : Demand3 t
-  demand3 = record {
-    opened = open-written;
-    places = places (callOn t) bytesLeft IsBytes (λ b c bytes. kept t b c rule bytes .bytes) (CutsLeft t) (λ b c bytes. cuts-left t rule b bytes c) (encode fresh) (bytes-encode fresh fresh-formed);
-  }
+-- ── one call ──
 
-pub demand3-steps : Demand3 steps
-demand3-steps = demand3 steps steps-rule
+-- every table lent keeps the rule
+pub lent-keeps : (c : Call) (text : List ℕ) → TableRule (lentTo c text .steps)
+lent-keeps c text = go (reckons c)
+  where
+    go : (x : Bool) → TableRule (cond x (given text) ours .steps)
+    go true = given-keeps text
+    go false = steps-rule
+
+-- a call that is lent no text is given ours
+pub lent-ours : (c : Call) → lentTo c [] ≡ ours
+lent-ours c = go (reckons c)
+  where
+    go : (x : Bool) → cond x (given []) ours ≡ ours
+    go true = given-right .empty
+    go false = refl
+
+-- a cut is given what its own text gives
+cuts-asked : (b : List ℕ) (q : Asked) → IsBytes b → CutsAsked b q (askedOn b q)
+cuts-asked b (asks text (enrol m)) bytes = λ k i. absurd i
+cuts-asked b (asks text (grant d)) bytes = λ k i. absurd i
+cuts-asked b (asks text (revoke y g r)) bytes = cuts-left (given text) (given-keeps text) b bytes (revoke y g r)
+cuts-asked b (asks text (downgrade y g r w)) bytes = cuts-left (given text) (given-keeps text) b bytes (downgrade y g r w)
+cuts-asked b (asks text (askReach g r)) bytes = λ k i. absurd i
+cuts-asked b (asks text (askUse r)) bytes = λ k i. absurd i
+
+-- every call leaves bytes so
+pub bytes-left : (b : List ℕ) (q : Asked) → IsBytes b → IsBytes (askedOn b q .bytes)
+bytes-left b (asks text c) bytes = kept (lentTo c text) b c (lent-keeps c text) bytes .bytes
+
+-- and a well-formed block
+abbrev pub Sound : List ℕ → Type 0
+Sound b = IsBytes b × (wellFormed b ≡ true)
+
+pub sound : (b : List ℕ) (q : Asked) → Sound b → Sound (askedOn b q .bytes)
+sound b (asks text c) s = (bytes-left b (asks text c) (s .0), go (eqOr (callOn (lentTo c text) b c .refusal) 0))
+  where
+    k : Kept (lentTo c text) b c
+    k = kept (lentTo c text) b c (lent-keeps c text) (s .0)
+
+    go : (callOn (lentTo c text) b c .refusal ≡ 0) ⊎ (callOn (lentTo c text) b c .refusal ≢ 0) → wellFormed (callOn (lentTo c text) b c .bytes) ≡ true
+    go (inl e) = k .formed e
+    go (inr n) = ap wellFormed (k .refused n) ∙ s .1
+
+pub fresh-sound : Sound (encode fresh)
+fresh-sound = (bytes-encode fresh fresh-formed, T-true (wellFormed (encode fresh)) (encode-formed fresh fresh-formed))
+
+-- ── support ──
+
+-- a call that reckons no reach is the same by every table
+same-step : (t m : List ℤ) (R : Register) (c : Call) → reckons c ≡ false → callStep t R c ≡ callStep m R c
+unfolding callStep refusalOf held accepted
+same-step t m R (enrol n) e = refl
+same-step t m R (grant d) e = absurd (subst T e tt)
+same-step t m R (revoke y g r) e = absurd (subst T e tt)
+same-step t m R (downgrade y g r w) e = absurd (subst T e tt)
+same-step t m R (askReach g r) e = absurd (subst T e tt)
+same-step t m R (askUse r) e = refl
+
+-- a text that no test refuses passes
+passes : (text : List ℕ) → firstOf (textRefused (given text .refusal)) ≡ 0 → given text .refusal ≡ 0
+passes text e = go (given-number text)
+  where
+    go : (given text .refusal ≡ 0) ⊎ ((given text .refusal ≡ 7) ⊎ (given text .refusal ≡ 17)) → given text .refusal ≡ 0
+    go (inl z) = z
+    go (inr (inl z)) = absurd (subst (λ (n : ℕ). firstOf (textRefused n) ≡ 0 → ⊥) (sym z) (λ f. omega arith) e)
+    go (inr (inr z)) = absurd (subst (λ (n : ℕ). firstOf (textRefused n) ≡ 0 → ⊥) (sym z) (λ f. omega arith) e)
+
+module _ (m : List ℤ) (rule : TableRule m) where
+  -- the register that an accepted call leaves
+  step-under : (text : List ℕ) (c : Call) → (T (reckons c) → given text .refusal ≡ 0 → Below (given text .steps) m) → (R : Register) → WellFormed R → Supported m R
+      → firstOf (textRefused (lentTo c text .refusal)) ≡ 0 → Supported m (callStep (lentTo c text .steps) R c .left)
+  step-under text c below R f s = go (reckons c) refl
+    where
+      go : (x : Bool) → reckons c ≡ x → let g = cond x (given text) ours in firstOf (textRefused (g .refusal)) ≡ 0 → Supported m (callStep (g .steps) R c .left)
+      go true e z = callStep-under (given text .steps) m (given-keeps text) rule (below (subst T (sym e) tt) (passes text z)) R c f s
+      go false e z = subst (λ o. Supported m (o .left)) (same-step m steps R c e) (callStep-supported m rule R c f s)
+
+  pub call-under : (b : List ℕ) (q : Asked) → GivenBelow q m → IsBytes b → Supported m (decode b) → Supported m (decode (askedOn b q .bytes))
+  call-under b (asks text c) below bytes s = go (eqOr (callOn g b c .refusal) 0)
+    where
+      g : Given
+      g = lentTo c text
+
+      go : (callOn g b c .refusal ≡ 0) ⊎ (callOn g b c .refusal ≢ 0) → Supported m (decode (callOn g b c .bytes))
+      go (inl e) =
+          let h = accepted-through g b c e .early in
+          subst (λ o. Supported m (o .left)) (sym (register-left g b bytes c e)) (step-under text c below (decode b) (held-formed b bytes (h .formed)) s (h .text))
+      go (inr n) = subst (λ (x : List ℕ). Supported m (decode x)) (sym (kept g b c (lent-keeps c text) bytes .refused n)) s
+
+-- a fresh register is supported by every table
+pub fresh-supported : (m : List ℤ) → Supported m (decode (encode fresh))
+fresh-supported m = subst (Supported m) (sym (decode-encode fresh fresh-formed)) (λ d k. absurd (List·Memᴰ·not-nil k))
+
+-- ── down a list ──
+
+-- THE WHOLE LIST, on bytes
+pub demand3 : Demand3
+demand3 = record {
+  opened = open-written;
+  places = places askedOn bytesLeft IsBytes bytes-left CutsAsked cuts-asked (encode fresh) (fresh-sound .0);
+  formed = λ qs i. stays askedOn bytesLeft Sound sound (encode fresh) qs i fresh-sound .1;
+  supported = λ qs i m rule u. stays-each askedOn bytesLeft (λ b. IsBytes b × Supported m (decode b)) (λ q. GivenBelow q m)
+      (λ b q below p. (bytes-left b q (p .0), call-under m rule b q below (p .0) (p .1))) (encode fresh) qs i u (fresh-sound .0, fresh-supported m) .1;
+}

@@ -8,8 +8,8 @@ use native.Mathlib.Omega.{arith}
 use borrow.Author.Tests.{eq-eqb, ne-eqb}
 use lib.Dec.{T, eqb, eqb→eq, T-not}
 use lib.ListN.{length}
-use lib.IntN.{ℤ, pos}
-use Rattle.rules.specs.Table.{TableRule, steps}
+use lib.IntN.{pos}
+use Rattle.rules.specs.Table.{TableRule}
 use Rattle.rules.specs.WellFormed.{WellFormed}
 use Rattle.rules.specs.Call.{Call, fresh}
 use Rattle.rules.specs.Refusal.{firstOf}
@@ -26,46 +26,52 @@ use Rattle.block.specs.WellFormed.{wellFormed}
 use Rattle.block.proofs.Encode.{bytes-encode}
 use Rattle.block.proofs.Form.{encode-formed}
 use Rattle.block.proofs.Held.{held-formed}
+use Rattle.steptable.specs.TableText.{ours, given}
+use Rattle.steptable.specs.declared.Given.{Given}
+use Rattle.steptable.proofs.Right.{given-keeps}
 use Rattle.refusals.specs.Early.{early}
 use Rattle.register.specs.CallOn.{Result, turned, written, callOn, openOn}
 use Rattle.demands.specs.Kept.{Kept, KeptOpen}
 use Rattle.register.proofs.Through.{accepted-through, accepted-step, accepted-left}
 
-module _ (t : List ℤ) (b : List ℕ) (c : Call) where
+module _ (g : Given) (b : List ℕ) (c : Call) where
   written-same : (o : Outcome) → o .refusal ≢ 0 → written b o .bytes ≡ b
   written-same o n = ap (λ (x : Bool). cond x (encode (o .left)) b) (ne-eqb (o .refusal) 0 n)
 
   -- a refused call changes no byte
-  refused-same : callOn t b c .refusal ≢ 0 → callOn t b c .bytes ≡ b
+  refused-same : callOn g b c .refusal ≢ 0 → callOn g b c .bytes ≡ b
   unfolding callOn
-  refused-same n = go (eqb (firstOf (early b c)) 0) n
+  refused-same n = go (eqb (firstOf (early (g .refusal) b c)) 0) n
     where
-      go : (x : Bool) → (let r : Result = elim x [ true ↦ written b (callStep t (decode b) c) | false ↦ turned (firstOf (early b c)) b ] in r .refusal ≢ 0)
-          → let r : Result = elim x [ true ↦ written b (callStep t (decode b) c) | false ↦ turned (firstOf (early b c)) b ] in r .bytes ≡ b
-      go true k = written-same (callStep t (decode b) c) k
+      go : (x : Bool) → (let r : Result = elim x [ true ↦ written b (callStep (g .steps) (decode b) c) | false ↦ turned (firstOf (early (g .refusal) b c)) b ] in r .refusal ≢ 0)
+          → let r : Result = elim x [ true ↦ written b (callStep (g .steps) (decode b) c) | false ↦ turned (firstOf (early (g .refusal) b c)) b ] in r .bytes ≡ b
+      go true k = written-same (callStep (g .steps) (decode b) c) k
       go false k = refl
 
-  pub kept : TableRule t → IsBytes b → Kept t b c
+  pub kept : TableRule (g .steps) → IsBytes b → Kept g b c
   kept rule bytes = record {
     refused = refused-same;
-    formed = λ e. ap wellFormed (accepted-left t b c e) ∙ T-true (wellFormed (encode (callStep t (decode b) c .left))) (encode-formed (callStep t (decode b) c .left) (left-formed e));
-    bytes = go (eqb (callOn t b c .refusal) 0) refl;
-    range = λ e. let (q, z) = accepted-step t b c e in subst (λ (r : Result). InRange c (r .first) (r .second) (r .third)) (sym q) (callStep-range t rule (decode b) c (found-formed e) z);
+    formed = λ e. ap wellFormed (accepted-left g b c e) ∙ T-true (wellFormed (encode (callStep (g .steps) (decode b) c .left))) (encode-formed (callStep (g .steps) (decode b) c .left) (left-formed e));
+    bytes = go (eqb (callOn g b c .refusal) 0) refl;
+    range = λ e. let (q, z) = accepted-step g b c e in subst (λ (r : Result). InRange c (r .first) (r .second) (r .third)) (sym q) (callStep-range (g .steps) rule (decode b) c (found-formed e) z);
   }
     where
-      found-formed : callOn t b c .refusal ≡ 0 → WellFormed (decode b)
-      found-formed e = held-formed b bytes (accepted-through t b c e .early .formed)
+      found-formed : callOn g b c .refusal ≡ 0 → WellFormed (decode b)
+      found-formed e = held-formed b bytes (accepted-through g b c e .early .formed)
 
-      left-formed : callOn t b c .refusal ≡ 0 → WellFormed (callStep t (decode b) c .left)
-      left-formed e = callStep-formed t (decode b) c (found-formed e)
+      left-formed : callOn g b c .refusal ≡ 0 → WellFormed (callStep (g .steps) (decode b) c .left)
+      left-formed e = callStep-formed (g .steps) (decode b) c (found-formed e)
 
-      go : (x : Bool) → eqb (callOn t b c .refusal) 0 ≡ x → IsBytes (callOn t b c .bytes)
-      go true q = let e = eqb→eq (callOn t b c .refusal) 0 (subst T (sym q) tt) in subst IsBytes (sym (accepted-left t b c e)) (bytes-encode (callStep t (decode b) c .left) (left-formed e))
-      go false q = subst IsBytes (sym (refused-same (λ e. absurd (T-not true (subst (λ (x : Bool). T (not x)) (sym (sym (eq-eqb (callOn t b c .refusal) 0 e) ∙ q)) tt) tt)))) bytes
+      go : (x : Bool) → eqb (callOn g b c .refusal) 0 ≡ x → IsBytes (callOn g b c .bytes)
+      go true q = let e = eqb→eq (callOn g b c .refusal) 0 (subst T (sym q) tt) in subst IsBytes (sym (accepted-left g b c e)) (bytes-encode (callStep (g .steps) (decode b) c .left) (left-formed e))
+      go false q = subst IsBytes (sym (refused-same (λ e. absurd (T-not true (subst (λ (x : Bool). T (not x)) (sym (sym (eq-eqb (callOn g b c .refusal) 0 e) ∙ q)) tt) tt)))) bytes
 
--- by document 01's own table
-pub kept-steps : (b : List ℕ) (c : Call) → IsBytes b → Kept steps b c
-kept-steps b c bytes = kept steps b c steps-rule bytes
+-- by the table of any text, and by document 01's own
+pub kept-given : (text b : List ℕ) (c : Call) → IsBytes b → Kept (given text) b c
+kept-given text b c bytes = kept (given text) b c (given-keeps text) bytes
+
+pub kept-ours : (b : List ℕ) (c : Call) → IsBytes b → Kept ours b c
+kept-ours b c bytes = kept ours b c steps-rule bytes
 
 -- ── open ──
 open-refused : (b : List ℕ) → openOn b .refusal ≢ 0 → openOn b .bytes ≡ b

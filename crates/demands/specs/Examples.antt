@@ -1,11 +1,10 @@
 -- P1 to P8 of document 01 on bytes: the calls on bytes followed down a list from the block that open writes. Assumes nothing.
-use mathlib.Core.List.{_++_, map}
+use mathlib.Core.List.{[], _++_, map}
 use lib.ListN.{length, take, drop}
-use Rattle.rules.specs.Table.{steps}
 use Rattle.rules.specs.Examples.{Line, line, Example, Shown}
 use Rattle.block.specs.Block.{decode}
 use Rattle.register.specs.CallOn.{Result}
-use Rattle.demands.specs.History.{traceOn, blockAt}
+use Rattle.demands.specs.History.{asks, traceOn, blockAt}
 
 -- a result as the program prints it: refusal and three answers
 abbrev pub lineOn : Result → Line
@@ -14,10 +13,10 @@ lineOn r = line (r .refusal) (r .first) (r .second) (r .third)
 -- what the calls on bytes make of an example; the delegations that stand afterwards are read from the last block
 abbrev pub computedOn : Example → Shown
 computedOn e =
-    let cs = e .given ++ e .calls in
-    let rs = traceOn steps cs in
+    let qs = map (asks []) (e .given ++ e .calls) in
+    let rs = traceOn qs in
     record {
       refusals = map (λ r. r .refusal) (take (length (e .given)) rs);
       printed = map lineOn (drop (length (e .given)) rs);
-      standing = decode (blockAt steps cs (length cs)) .delegations;
+      standing = decode (blockAt qs (length qs)) .delegations;
     }

@@ -1,8 +1,8 @@
--- The refusals of a call that come before those by what the register holds: 1, those by what was passed, 8; and the whole refusal. Assumes nothing.
+-- The refusals of a call that come before those by what the register holds: 1, those by what was passed, 7 and 17 by the step table's text, 8; and the whole refusal. Assumes nothing.
 use mathlib.Core.Path.{_≡_, refl, sym, ap, subst, _∙_}
 use mathlib.Core.Logic.{_≢_, _⊎_, inl, inr}
 use mathlib.Core.Bool.{Bool, true, false, not, cond}
-use mathlib.Core.List.{List, [], _∷_}
+use mathlib.Core.List.{List, [], _∷_, _++_}
 use Prim.Native.Nat.{ℕ}
 use native.Mathlib.Omega.{arith}
 use borrow.Author.Tests.{eq-eqb}
@@ -16,97 +16,111 @@ use Rattle.rules.proofs.Lists.{eqOr}
 use Rattle.block.specs.Layout.{blockSize}
 use Rattle.block.specs.Block.{decode}
 use Rattle.block.specs.WellFormed.{wellFormed}
-use Rattle.refusals.specs.Early.{wrongLength, notWellFormed, early, refusalOn}
+use Rattle.steptable.specs.TableText.{lent}
+use Rattle.steptable.specs.declared.Given.{Given}
+use Rattle.refusals.specs.Early.{wrongLength, textRefused, notWellFormed, early, refusalOn}
 use Rattle.refusals.specs.Checked.{InLimits, Checked}
 use Rattle.refusals.proofs.InLimits.{in-limits}
 
 -- none of them applies
-pub record Early (b : List ℕ) (c : Call) : Type 0 where
+pub record Early (n : ℕ) (b : List ℕ) (c : Call) : Type 0 where
   pub size : length b ≡ blockSize
   pub passed : firstOf (passed c) ≡ 0
+  pub text : firstOf (textRefused n) ≡ 0
   pub formed : wellFormed b ≡ true
 
-checked : {b : List ℕ} {c : Call} → Early b c → Checked b c
-checked {b} {c} h = record { formed = h .formed; numbers = in-limits c (h .passed) }
+checked : {n : ℕ} {b : List ℕ} {c : Call} → Early n b c → Checked b c
+checked {n} {b} {c} h = record { formed = h .formed; numbers = in-limits c (h .passed) }
+
+-- what follows those by what was passed
+abbrev later : ℕ → List ℕ → List (ℕ × Bool)
+later n b = textRefused n ++ (notWellFormed b ∷ [])
 
 -- as the code finds them: the refusal by what was passed is one number, or 0
-abbrev earlyOf : List ℕ → ℕ → List (ℕ × Bool)
-earlyOf b n = wrongLength b ∷ (n, not (eqb n 0)) ∷ notWellFormed b ∷ []
+abbrev earlyOf : ℕ → List ℕ → ℕ → List (ℕ × Bool)
+earlyOf n b p = wrongLength b ∷ (p, not (eqb p 0)) ∷ later n b
 
-module _ (b : List ℕ) (c : Call) where
+module _ (n : ℕ) (b : List ℕ) (c : Call) where
   -- the refusals by what was passed, as one number
-  pub early-one : firstOf (early b c) ≡ firstOf (earlyOf b (firstOf (passed c)))
+  pub early-one : firstOf (early n b c) ≡ firstOf (earlyOf n b (firstOf (passed c)))
   early-one =
-      ap (λ (n : ℕ). cond (not (eqb (length b) blockSize)) 1 n) (firstOf-append (passed c) (notWellFormed b ∷ []) (passed-numbered c) ∙ turn (eqb (firstOf (passed c)) 0) (cond (not (wellFormed b)) 8 0) (firstOf (passed c)))
+      ap (λ (m : ℕ). cond (not (eqb (length b) blockSize)) 1 m) (firstOf-append (passed c) (later n b) (passed-numbered c) ∙ turn (eqb (firstOf (passed c)) 0) (firstOf (later n b)) (firstOf (passed c)))
     where
-      turn : (x : Bool) (m n : ℕ) → cond x m n ≡ cond (not x) n m
-      turn true m n = refl
-      turn false m n = refl
+      turn : (x : Bool) (m k : ℕ) → cond x m k ≡ cond (not x) k m
+      turn true m k = refl
+      turn false m k = refl
 
-  pub early-none : firstOf (early b c) ≡ 0 → Early b c
-  early-none e = go (eqb (length b) blockSize) (eqb (firstOf (passed c)) 0) (wellFormed b) refl refl refl (sym early-one ∙ e)
+  pub early-none : firstOf (early n b c) ≡ 0 → Early n b c
+  early-none e = go (eqb (length b) blockSize) (eqb (firstOf (passed c)) 0) (eqb n 7) (eqb n 17) (wellFormed b) refl refl refl refl refl (sym early-one ∙ e)
     where
-      go : (x y z : Bool) → eqb (length b) blockSize ≡ x → eqb (firstOf (passed c)) 0 ≡ y → wellFormed b ≡ z → cond (not x) 1 (cond (not y) (firstOf (passed c)) (cond (not z) 8 0)) ≡ 0 → Early b c
-      go true true true p q f h = record { size = eqb→eq (length b) blockSize (subst T (sym p) tt); passed = eqb→eq (firstOf (passed c)) 0 (subst T (sym q) tt); formed = f }
-      go true true false p q f h = absurd (omega arith)
-      go true false z p q f h = absurd (subst T (sym (eq-eqb (firstOf (passed c)) 0 h) ∙ q) tt)
-      go false y z p q f h = absurd (omega arith)
+      go : (x y u v z : Bool) → eqb (length b) blockSize ≡ x → eqb (firstOf (passed c)) 0 ≡ y → eqb n 7 ≡ u → eqb n 17 ≡ v → wellFormed b ≡ z
+          → cond (not x) 1 (cond (not y) (firstOf (passed c)) (cond u 7 (cond v 17 (cond (not z) 8 0)))) ≡ 0 → Early n b c
+      go true true false false true p q s t f h =
+          record { size = eqb→eq (length b) blockSize (subst T (sym p) tt); passed = eqb→eq (firstOf (passed c)) 0 (subst T (sym q) tt); text = rw (s, t); formed = f }
+      go true true true v z p q s t f h = absurd (omega arith)
+      go true true false true z p q s t f h = absurd (omega arith)
+      go true true false false false p q s t f h = absurd (omega arith)
+      go true false u v z p q s t f h = absurd (subst T (sym (eq-eqb (firstOf (passed c)) 0 h) ∙ q) tt)
+      go false y u v z p q s t f h = absurd (omega arith)
 
-  pub none-early : Early b c → firstOf (early b c) ≡ 0
+  pub none-early : Early n b c → firstOf (early n b c) ≡ 0
   none-early h =
       let s = eq-eqb (length b) blockSize (h .size) in
       let p = eq-eqb (firstOf (passed c)) 0 (h .passed) in
-      early-one ∙ (λ j. cond (not (s j)) 1 (cond (not (p j)) (firstOf (passed c)) (cond (not (h .formed j)) 8 0)))
+      early-one ∙ (λ j. cond (not (s j)) 1 (cond (not (p j)) (firstOf (passed c)) (firstOf (later n b)))) ∙ firstOf-none (textRefused n) (notWellFormed b ∷ []) tt (h .text) ∙ (λ j. cond (not (h .formed j)) 8 0)
 
 -- ── the whole refusal ──
-early-numbered : (b : List ℕ) (c : Call) → T (numbered (early b c))
+early-numbered : (n : ℕ) (b : List ℕ) (c : Call) → T (numbered (early n b c))
 unfolding passed
-early-numbered b (enrol m) = tt
-early-numbered b (grant d) = tt
-early-numbered b (revoke y g r) = tt
-early-numbered b (downgrade y g r w) = tt
-early-numbered b (askReach g r) = tt
-early-numbered b (askUse r) = tt
+early-numbered n b (enrol m) = tt
+early-numbered n b (grant d) = tt
+early-numbered n b (revoke y g r) = tt
+early-numbered n b (downgrade y g r w) = tt
+early-numbered n b (askReach g r) = tt
+early-numbered n b (askUse r) = tt
 
 -- no refusal applies
-pub record Through (t : List ℤ) (b : List ℕ) (c : Call) : Type 0 where
-  pub early : Early b c
+pub record Through (g : Given) (b : List ℕ) (c : Call) : Type 0 where
+  pub early : Early (g .refusal) b c
   pub numbers : InLimits c
-  pub held : firstOf (held t (decode b) c) ≡ 0
+  pub held : firstOf (held (g .steps) (decode b) c) ≡ 0
 
-module _ (t : List ℤ) (b : List ℕ) (c : Call) where
-  pub refused-early : (n : ℕ) → firstOf (early b c) ≡ n → n ≢ 0 → n ≡ refusalOn t b c
+module _ (g : Given) (b : List ℕ) (c : Call) where
+  abbrev first : ℕ
+  first = firstOf (early (g .refusal) b c)
+
+  pub refused-early : (n : ℕ) → first ≡ n → n ≢ 0 → n ≡ refusalOn g b c
   unfolding refusalOn
-  refused-early n e k = sym (firstOf-some (early b c) (held t (decode b) c) n (early-numbered b c) e k)
+  refused-early n e k = sym (firstOf-some (early (g .refusal) b c) (held (g .steps) (decode b) c) n (early-numbered (g .refusal) b c) e k)
 
-  pub refused-held : Early b c → refusalOn t b c ≡ firstOf (held t (decode b) c)
+  pub refused-held : Early (g .refusal) b c → refusalOn g b c ≡ firstOf (held (g .steps) (decode b) c)
   unfolding refusalOn
-  refused-held h = firstOf-none (early b c) (held t (decode b) c) (early-numbered b c) (none-early b c h)
+  refused-held h = firstOf-none (early (g .refusal) b c) (held (g .steps) (decode b) c) (early-numbered (g .refusal) b c) (none-early (g .refusal) b c h)
 
-  pub through : refusalOn t b c ≡ 0 → Through t b c
-  through z = go (eqOr (firstOf (early b c)) 0)
+  pub through : refusalOn g b c ≡ 0 → Through g b c
+  through z = go (eqOr first 0)
     where
-      go : (firstOf (early b c) ≡ 0) ⊎ (firstOf (early b c) ≢ 0) → Through t b c
-      go (inl e) = let h = early-none b c e in record { early = h; numbers = checked h .numbers; held = sym (refused-held h) ∙ z }
-      go (inr k) = absurd (k (refused-early (firstOf (early b c)) refl k ∙ z))
+      go : (first ≡ 0) ⊎ (first ≢ 0) → Through g b c
+      go (inl e) = let h = early-none (g .refusal) b c e in record { early = h; numbers = checked h .numbers; held = sym (refused-held h) ∙ z }
+      go (inr k) = absurd (k (refused-early first refl k ∙ z))
 
 -- ── the whole refusal, as the code finds it ──
 
--- n is what the code finds before it looks at what the register holds
-pub record EarlyFound (b : List ℕ) (c : Call) (n : ℕ) : Type 0 where
-  pub first : firstOf (early b c) ≡ n
+-- n is what the code finds before it looks at what the register holds, where the table's text is refused with x
+pub record EarlyFound (x : ℕ) (b : List ℕ) (c : Call) (n : ℕ) : Type 0 where
+  pub first : firstOf (early x b c) ≡ n
   pub checked : n ≡ 0 → Checked b c
   -- the whole refusal: n where that is one, else h, which is what the code finds in the register
-  pub refused : n ≢ 0 → (t : List ℤ) → n ≡ refusalOn t b c
-  pub late : n ≡ 0 → (t : List ℤ) (h : ℕ) → h ≡ firstOf (held t (decode b) c) → h ≡ refusalOn t b c
+  pub refused : n ≢ 0 → (t : List ℤ) → n ≡ refusalOn (lent x t) b c
+  pub late : n ≡ 0 → (t : List ℤ) (h : ℕ) → h ≡ firstOf (held t (decode b) c) → h ≡ refusalOn (lent x t) b c
 
-pub early-found : {b : List ℕ} {c : Call} {p n : ℕ} → p ≡ firstOf (passed c) → n ≡ firstOf (earlyOf b p) → EarlyFound b c n
-early-found {b} {c} {p} {n} e q = record {
+pub early-found : {x : ℕ} {b : List ℕ} {c : Call} {p n : ℕ} → p ≡ firstOf (passed c) → n ≡ firstOf (earlyOf x b p) → EarlyFound x b c n
+early-found {x} {b} {c} {p} {n} e q = record {
   first = first;
-  checked = λ z. checked (early-none b c (first ∙ z));
-  refused = λ k t. refused-early t b c n first k;
-  late = λ z t h r. r ∙ sym (refused-held t b c (early-none b c (first ∙ z)));
+  checked = λ z. checked (early-none x b c (first ∙ z));
+  refused = λ k t. refused-early (lent x t) b c n first k;
+  late = λ z t h r. r ∙ sym (refused-held (lent x t) b c (early-none x b c (first ∙ z)));
 }
   where
-    first : firstOf (early b c) ≡ n
-    first = early-one b c ∙ ap (λ (m : ℕ). firstOf (earlyOf b m)) (sym e) ∙ sym q
+    first : firstOf (early x b c) ≡ n
+    first = early-one x b c ∙ ap (λ (m : ℕ). firstOf (earlyOf x b m)) (sym e) ∙ sym q

@@ -1,15 +1,15 @@
--- The refusals of a call on any list of bytes (document 01, 'Turned back by what was passed' and 'by what the register holds'). Assumes nothing.
+-- The refusals of a call on any list of bytes (document 01, 'Turned back by what was passed' and 'by what the register holds'; document 02, C-11). Assumes nothing.
 use mathlib.Core.Bool.{Bool, not}
 use mathlib.Core.List.{List, [], _∷_, _++_}
 use Prim.Native.Nat.{ℕ}
 use lib.Dec.{eqb}
 use lib.ListN.{length}
-use lib.IntN.{ℤ}
 use Rattle.rules.specs.Call.{Call}
 use Rattle.rules.specs.Refusal.{firstOf, passed, held}
 use Rattle.block.specs.Layout.{blockSize}
 use Rattle.block.specs.Block.{decode}
 use Rattle.block.specs.WellFormed.{wellFormed}
+use Rattle.steptable.specs.declared.Given.{Given}
 
 -- 1: the block is not 2,180 bytes
 abbrev pub wrongLength : List ℕ → ℕ × Bool
@@ -19,10 +19,14 @@ wrongLength b = (1, not (eqb (length b) blockSize))
 abbrev pub notWellFormed : List ℕ → ℕ × Bool
 notWellFormed b = (8, not (wellFormed b))
 
--- what comes before the refusals by what the register holds: 1, those by what was passed, 8
-abbrev pub early : List ℕ → Call → List (ℕ × Bool)
-early b c = wrongLength b ∷ (passed c ++ (notWellFormed b ∷ []))
+-- 7: the step table's text is of another form; 17: the table breaks a rule. n is the number with which the text is refused, 0 where it passes
+abbrev pub textRefused : ℕ → List (ℕ × Bool)
+textRefused n = (7, eqb n 7) ∷ (17, eqb n 17) ∷ []
+
+-- what comes before the refusals by what the register holds: 1, those by what was passed, 7 and 17 by the table's text, 8
+abbrev pub early : ℕ → List ℕ → Call → List (ℕ × Bool)
+early n b c = wrongLength b ∷ (passed c ++ (textRefused n ++ (notWellFormed b ∷ [])))
 
 -- the whole refusal of a call on a block: the first that applies of these and of those by what the register holds
-unfoldable pub refusalOn : List ℤ → List ℕ → Call → ℕ
-refusalOn t b c = firstOf (early b c ++ held t (decode b) c)
+unfoldable pub refusalOn : Given → List ℕ → Call → ℕ
+refusalOn g b c = firstOf (early (g .refusal) b c ++ held (g .steps) (decode b) c)

@@ -4,14 +4,15 @@ mod passed;
 
 ghost use mathlib.Core.Path.{_≡_};
 ghost use mathlib.Core.Bool.{not};
-ghost use mathlib.Core.List.{List, [], _∷_};
+ghost use mathlib.Core.List.{List, [], _∷_, _++_};
 ghost use lib.Dec.{eqb};
 ghost use lib.IntN.{ℤ};
 ghost use Rattle.rules.specs.Table.{TableRule};
 ghost use Rattle.rules.specs.Register.{granted};
 ghost use Rattle.rules.specs.Call.{enrol, grant, revoke, downgrade, askReach, askUse};
 ghost use Rattle.rules.specs.Refusal.{firstOf};
-ghost use Rattle.refusals.specs.Early.{wrongLength, notWellFormed, refusalOn};
+ghost use Rattle.steptable.specs.TableText.{lent, ours};
+ghost use Rattle.refusals.specs.Early.{wrongLength, textRefused, notWellFormed, refusalOn};
 ghost use Rattle.refusals.specs.Joined.{orElse};
 use block::layout;
 pub use held::both_enrolled;
@@ -31,9 +32,9 @@ fn tested(n: u32, number: u32, applies: bool) -> u32
     0
 }
 
-// The first that applies of 1, the refusal by what was passed, which is `number` or 0 where there is none, and 8; or 0.
-pub fn early(block: &[u8], number: u32) -> u32
-    ensures { λ r. ⌜ r ≡ firstOf (wrongLength (now (block .entry)) ∷ (number, not (eqb number 0)) ∷ notWellFormed (now (block .entry)) ∷ []) ⌝ }
+// The first that applies of 1, the refusal by what was passed, which is `number` or 0 where there is none, 7 and 17 by the step table's text, which is refused with `text` or passes where that is 0, and 8; or 0.
+pub fn early(block: &[u8], number: u32, text: u32) -> u32
+    ensures { λ r. ⌜ r ≡ firstOf (wrongLength (now (block .entry)) ∷ (number, not (eqb number 0)) ∷ (textRefused text ++ (notWellFormed (now (block .entry)) ∷ []))) ⌝ }
 {
     if block.len() != layout::BLOCK_SIZE {
         return refusal::WRONG_LENGTH;
@@ -41,17 +42,23 @@ pub fn early(block: &[u8], number: u32) -> u32
     if number != 0 {
         return number;
     }
+    if text == refusal::MALFORMED {
+        return text;
+    }
+    if text == refusal::BAD_TABLE {
+        return text;
+    }
     if !block::well_formed(block) {
         return refusal::NOT_WELL_FORMED;
     }
     0
 }
 
-// The whole refusal of an enrolment on a block of any length and content, without making it. Only a grant looks at the step table: the others promise theirs for every table.
+// The whole refusal of an enrolment on a block of any length and content, without making it. It is lent no step table.
 pub fn enrol_refusal(block: &[u8], marks: u32) -> u32
-    ensures { λ r. ⌜ ((t : List ℤ) → r ≡ refusalOn t (now (block .entry)) (enrol marks)) ⌝ }
+    ensures { λ r. ⌜ r ≡ refusalOn ours (now (block .entry)) (enrol marks) ⌝ }
 {
-    let n = early(block, passed::enrol_passed(marks));
+    let n = early(block, passed::enrol_passed(marks), 0);
     if n != 0 {
         return n;
     }
@@ -60,20 +67,20 @@ pub fn enrol_refusal(block: &[u8], marks: u32) -> u32
 
 // Of a use.
 pub fn use_refusal(block: &[u8], receiver: u32) -> u32
-    ensures { λ r. ⌜ ((t : List ℤ) → r ≡ refusalOn t (now (block .entry)) (askUse receiver)) ⌝ }
+    ensures { λ r. ⌜ r ≡ refusalOn ours (now (block .entry)) (askUse receiver) ⌝ }
 {
-    let n = early(block, passed::use_passed(receiver));
+    let n = early(block, passed::use_passed(receiver), 0);
     if n != 0 {
         return n;
     }
     held::not_enrolled(0, block, receiver)
 }
 
-// Of a reach.
-pub fn reach_refusal(block: &[u8], giver: u32, receiver: u32) -> u32
-    ensures { λ r. ⌜ ((t : List ℤ) → r ≡ refusalOn t (now (block .entry)) (askReach giver receiver)) ⌝ }
+// Of a reach, where the step table's text is refused with `text` or passes. Only a grant looks at the table: the others promise theirs for every table.
+pub fn reach_refusal(block: &[u8], text: u32, giver: u32, receiver: u32) -> u32
+    ensures { λ r. ⌜ ((t : List ℤ) → r ≡ refusalOn (lent text t) (now (block .entry)) (askReach giver receiver)) ⌝ }
 {
-    let n = early(block, passed::pair_passed(giver, receiver));
+    let n = early(block, passed::pair_passed(giver, receiver), text);
     if n != 0 {
         return n;
     }
@@ -84,6 +91,7 @@ pub fn reach_refusal(block: &[u8], giver: u32, receiver: u32) -> u32
 pub fn grant_refusal(
     block: &[u8],
     table: &[i16],
+    text: u32,
     giver: u32,
     receiver: u32,
     weight: u32,
@@ -91,11 +99,12 @@ pub fn grant_refusal(
     bar: u32,
 ) -> u32
     requires { ⌜ TableRule (now table) ⌝ }
-    ensures { λ r. ⌜ r ≡ refusalOn (now (table .entry)) (now (block .entry)) (grant (granted giver receiver weight need bar)) ⌝ }
+    ensures { λ r. ⌜ r ≡ refusalOn (lent text (now (table .entry))) (now (block .entry)) (grant (granted giver receiver weight need bar)) ⌝ }
 {
     let n = early(
         block,
         passed::grant_passed(giver, receiver, weight, need, bar),
+        text,
     );
     if n != 0 {
         return n;
@@ -104,10 +113,10 @@ pub fn grant_refusal(
 }
 
 // Of a revocation.
-pub fn revoke_refusal(block: &[u8], by: u32, giver: u32, receiver: u32) -> u32
-    ensures { λ r. ⌜ ((t : List ℤ) → r ≡ refusalOn t (now (block .entry)) (revoke by giver receiver)) ⌝ }
+pub fn revoke_refusal(block: &[u8], text: u32, by: u32, giver: u32, receiver: u32) -> u32
+    ensures { λ r. ⌜ ((t : List ℤ) → r ≡ refusalOn (lent text t) (now (block .entry)) (revoke by giver receiver)) ⌝ }
 {
-    let n = early(block, passed::revoke_passed(by, giver, receiver));
+    let n = early(block, passed::revoke_passed(by, giver, receiver), text);
     if n != 0 {
         return n;
     }
@@ -115,10 +124,21 @@ pub fn revoke_refusal(block: &[u8], by: u32, giver: u32, receiver: u32) -> u32
 }
 
 // Of a downgrade.
-pub fn downgrade_refusal(block: &[u8], by: u32, giver: u32, receiver: u32, weight: u32) -> u32
-    ensures { λ r. ⌜ ((t : List ℤ) → r ≡ refusalOn t (now (block .entry)) (downgrade by giver receiver weight)) ⌝ }
+pub fn downgrade_refusal(
+    block: &[u8],
+    text: u32,
+    by: u32,
+    giver: u32,
+    receiver: u32,
+    weight: u32,
+) -> u32
+    ensures { λ r. ⌜ ((t : List ℤ) → r ≡ refusalOn (lent text t) (now (block .entry)) (downgrade by giver receiver weight)) ⌝ }
 {
-    let n = early(block, passed::downgrade_passed(by, giver, receiver, weight));
+    let n = early(
+        block,
+        passed::downgrade_passed(by, giver, receiver, weight),
+        text,
+    );
     if n != 0 {
         return n;
     }

@@ -31,6 +31,7 @@ use Rattle.register.specs.CallOn.{Result, written, callOn}
 use Rattle.register.specs.Made.{refusedBy, answeredBy, result, Made}
 use Rattle.register.specs.Cuts.{onRegister, CutsLeft, CutMade}
 use Rattle.register.specs.declared.Answer.{Answer}
+use Rattle.steptable.specs.declared.Given.{Given}
 use Rattle.refusals.specs.Checked.{InLimits}
 use Rattle.refusals.specs.Early.{refusalOn}
 use Rattle.refusals.proofs.EarlyTests.{Through, through}
@@ -68,40 +69,40 @@ named-formed R y (removal g r) f p = removed-formed R g r f
 named-formed R y (lowering g r w) f p = lowered-formed R g r w (p .1) f
 
 -- an accepted call leaves, on every block, the register that the definitions leave
-register-left : (t : List ℤ) (b : List ℕ) → IsBytes b → (c : Call) → callOn t b c .refusal ≡ 0 → onRegister (callOn t b c) ≡ callStep t (decode b) c
-register-left t b bytes c e =
-    let o = callStep t (decode b) c in
-    let f = callStep-formed t (decode b) c (held-formed b bytes (accepted-through t b c e .early .formed)) in
-    let q = ap (λ (r : Result). onRegister r) (accepted-step t b c e .0) in
-    let l = ap decode (sym (ap (λ (r : Result). r .bytes) (accepted-step t b c e .0)) ∙ accepted-left t b c e) ∙ decode-encode (o .left) f in
+pub register-left : (g : Given) (b : List ℕ) → IsBytes b → (c : Call) → callOn g b c .refusal ≡ 0 → onRegister (callOn g b c) ≡ callStep (g .steps) (decode b) c
+register-left g b bytes c e =
+    let o = callStep (g .steps) (decode b) c in
+    let f = callStep-formed (g .steps) (decode b) c (held-formed b bytes (accepted-through g b c e .early .formed)) in
+    let q = ap (λ (r : Result). onRegister r) (accepted-step g b c e .0) in
+    let l = ap decode (sym (ap (λ (r : Result). r .bytes) (accepted-step g b c e .0)) ∙ accepted-left g b c e) ∙ decode-encode (o .left) f in
     q ∙ (λ i. record { refusal = o .refusal; first = o .first; second = o .second; third = o .third; left = l i })
 
 -- so an accepted cut leaves the best remainder
-pub cuts-left : (t : List ℤ) → TableRule t → (b : List ℕ) → IsBytes b → (c : Call) → CutsLeft t b c (callOn t b c)
-cuts-left t rule b bytes c k i e =
-    let q = register-left t b bytes c e in
-    subst (λ (o : Outcome). CutRight t (changed (decode b) k) o) (sym q) (callStep-cut t rule (decode b) c k i (sym (ap (λ (o : Outcome). o .refusal) q) ∙ e))
+pub cuts-left : (g : Given) → TableRule (g .steps) → (b : List ℕ) → IsBytes b → (c : Call) → CutsLeft (g .steps) b c (callOn g b c)
+cuts-left g rule b bytes c k i e =
+    let q = register-left g b bytes c e in
+    subst (λ (o : Outcome). CutRight (g .steps) (changed (decode b) k) o) (sym q) (callStep-cut (g .steps) rule (decode b) c k i (sym (ap (λ (o : Outcome). o .refusal) q) ∙ e))
 
 -- and every call that is made keeps what demand 3 claims
-pub cut-made : (t : List ℤ) → TableRule t → (c : Call) (b : List ℕ) → IsBytes b → (o : Answer) (after : List ℕ) → Made t c b o after → CutMade t c b o after
-cut-made t rule c b bytes o after q = record { outcome = q; cut = subst (λ (r : Result). CutsLeft t b c r) (sym q) (cuts-left t rule b bytes c) }
+pub cut-made : (g : Given) → TableRule (g .steps) → (c : Call) (b : List ℕ) → IsBytes b → (o : Answer) (after : List ℕ) → Made g c b o after → CutMade g c b o after
+cut-made g rule c b bytes o after q = record { outcome = q; cut = subst (λ (r : Result). CutsLeft (g .steps) b c r) (sym q) (cuts-left g rule b bytes c) }
 
 -- a refused cut leaves nothing to say of its remainder
-pub cut-refused : (t : List ℤ) (c : Call) (b : List ℕ) (n : ℕ) → n ≡ refusalOn t b c → n ≢ 0 → CutMade t c b (refusedBy n) b
-cut-refused t c b n e h = record { outcome = made-refused t c b n e h; cut = λ k i z. absurd (h z) }
+pub cut-refused : (g : Given) (c : Call) (b : List ℕ) (n : ℕ) → n ≡ refusalOn g b c → n ≢ 0 → CutMade g c b (refusedBy n) b
+cut-refused g c b n e h = record { outcome = made-refused g c b n e h; cut = λ k i z. absurd (h z) }
 
 -- ── a cut by y past its tests ──
-pub record CutThrough (t : List ℤ) (b : List ℕ) (y : ℕ) (k : Cut) : Type 0 where
-  pub rule : TableRule t
+pub record CutThrough (g : Given) (b : List ℕ) (y : ℕ) (k : Cut) : Type 0 where
+  pub rule : TableRule (g .steps)
   pub bytes : IsBytes b
-  pub through : Through t b (cutCall y k)
+  pub through : Through g b (cutCall y k)
 
 -- n is the refusal that the code finds
-pub cut-past : {t : List ℤ} {b : List ℕ} {y : ℕ} {k : Cut} {n : ℕ} → TableRule t → IsBytes b → n ≡ refusalOn t b (cutCall y k) → n ≡ 0 → CutThrough t b y k
-cut-past {t} {b} {y} {k} rule bytes e z = record { rule = rule; bytes = bytes; through = through t b (cutCall y k) (sym e ∙ z) }
+pub cut-past : {g : Given} {b : List ℕ} {y : ℕ} {k : Cut} {n : ℕ} → TableRule (g .steps) → IsBytes b → n ≡ refusalOn g b (cutCall y k) → n ≡ 0 → CutThrough g b y k
+cut-past {g} {b} {y} {k} rule bytes e z = record { rule = rule; bytes = bytes; through = through g b (cutCall y k) (sym e ∙ z) }
 
 -- d is the block after the named change
-module _ {t : List ℤ} {b : List ℕ} {y : ℕ} {k : Cut} (h : CutThrough t b y k) {d : List ℕ} (e : d ≡ encode (named (decode b) k)) where
+module _ {g : Given} {b : List ℕ} {y : ℕ} {k : Cut} (h : CutThrough g b y k) {d : List ℕ} (e : d ≡ encode (named (decode b) k)) where
   formed : WellFormed (named (decode b) k)
   formed = named-formed (decode b) y k (held-formed b (h .bytes) (h .through .early .formed)) (h .through .numbers)
 
@@ -109,9 +110,9 @@ module _ {t : List ℤ} {b : List ℕ} {y : ℕ} {k : Cut} (h : CutThrough t b y
   named-block = ap wellFormed e ∙ T-true (wellFormed (encode (named (decode b) k))) (encode-formed (named (decode b) k) formed)
 
   -- the rounds are made on it
-  pub cut-done : (o : Answer) (after : List ℕ) → result o after ≡ written d (cut t (decode d)) → CutMade t (cutCall y k) b o after
+  pub cut-done : (o : Answer) (after : List ℕ) → result o after ≡ written d (cut (g .steps) (decode d)) → CutMade g (cutCall y k) b o after
   cut-done o after q =
       let C = named (decode b) k in
-      cut-made t (h .rule) (cutCall y k) b (h .bytes) o after
-      (made-done t (cutCall y k) b (h .through .early) (h .through .held) o after
-      (q ∙ ap (λ (x : List ℕ). written x (cut t (decode x))) e ∙ ap (λ (D : Register). written (encode C) (cut t D)) (decode-encode C formed) ∙ written-cut t (encode C) b C ∙ ap (written b) (sym (accepted-cut t (decode b) y k))))
+      cut-made g (h .rule) (cutCall y k) b (h .bytes) o after
+      (made-done g (cutCall y k) b (h .through .early) (h .through .held) o after
+      (q ∙ ap (λ (x : List ℕ). written x (cut (g .steps) (decode x))) e ∙ ap (λ (D : Register). written (encode C) (cut (g .steps) D)) (decode-encode C formed) ∙ written-cut (g .steps) (encode C) b C ∙ ap (written b) (sym (accepted-cut (g .steps) (decode b) y k))))

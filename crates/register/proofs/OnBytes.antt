@@ -20,6 +20,7 @@ use Rattle.block.specs.Block.{decode, encode}
 use Rattle.block.specs.WellFormed.{wellFormed}
 use Rattle.block.proofs.Encode.{length-encode, decode-encode}
 use Rattle.block.proofs.Form.{encode-formed}
+use Rattle.steptable.specs.TableText.{passing}
 use Rattle.refusals.specs.Early.{early}
 use Rattle.register.specs.CallOn.{Result, turned, written, callOn}
 use Rattle.refusals.proofs.EarlyTests.{early-one}
@@ -42,8 +43,8 @@ written-onBytes t R c = callStep-cases t R c (λ (o : Outcome). written (encode 
     turned-back n = ap (λ (x : Bool). record { refusal = refusalOf t R c; first = pos 0; second = pos 0; third = pos 0; bytes = cond x (encode R) (encode R) }) (ne-eqb (refusalOf t R c) 0 n)
 
 module _ (t : List ℤ) (R : Register) (f : WellFormed R) (c : Call) where
-  early-encode : firstOf (early (encode R) c) ≡ firstOf (passed c)
-  early-encode = early-one (encode R) c ∙ rw (eq-eqb (length (encode R)) blockSize (length-encode R f), T-true (wellFormed (encode R)) (encode-formed R f)) (go (eqb (firstOf (passed c)) 0) refl)
+  early-encode : firstOf (early 0 (encode R) c) ≡ firstOf (passed c)
+  early-encode = early-one 0 (encode R) c ∙ rw (eq-eqb (length (encode R)) blockSize (length-encode R f), T-true (wellFormed (encode R)) (encode-formed R f)) (go (eqb (firstOf (passed c)) 0) refl)
     where
       go : (x : Bool) → eqb (firstOf (passed c)) 0 ≡ x → cond (not x) (firstOf (passed c)) 0 ≡ firstOf (passed c)
       go true q = sym (eqb→eq (firstOf (passed c)) 0 (subst T (sym q) tt))
@@ -53,14 +54,14 @@ module _ (t : List ℤ) (R : Register) (f : WellFormed R) (c : Call) where
   unfolding refusalOf
   refusal-of k = firstOf-some (passed c) (held t R c) (firstOf (passed c)) (passed-numbered c) refl k
 
-  -- on a well-formed register written, a call on bytes is the call on the register
-  pub callOn-encode : callOn t (encode R) c ≡ onBytes (callStep t R c)
+  -- on a well-formed register written, a call on bytes with a table that passes is the call on the register
+  pub callOn-encode : callOn (passing t) (encode R) c ≡ onBytes (callStep t R c)
   unfolding callOn
-  callOn-encode = go (eqb (firstOf (early (encode R) c)) 0) refl
+  callOn-encode = go (eqb (firstOf (early 0 (encode R) c)) 0) refl
     where
-      go : (b : Bool) → eqb (firstOf (early (encode R) c)) 0 ≡ b
-          → let r : Result = elim b [ true ↦ written (encode R) (callStep t (decode (encode R)) c) | false ↦ turned (firstOf (early (encode R) c)) (encode R) ] in r ≡ onBytes (callStep t R c)
+      go : (b : Bool) → eqb (firstOf (early 0 (encode R) c)) 0 ≡ b
+          → let r : Result = elim b [ true ↦ written (encode R) (callStep t (decode (encode R)) c) | false ↦ turned (firstOf (early 0 (encode R) c)) (encode R) ] in r ≡ onBytes (callStep t R c)
       go true e = ap (λ (S : Register). written (encode R) (callStep t S c)) (decode-encode R f) ∙ written-onBytes t R c
       go false e =
-          let n : firstOf (early (encode R) c) ≢ 0 = λ z. absurd (T-not true (subst (λ (x : Bool). T (not x)) (sym (sym (eq-eqb (firstOf (early (encode R) c)) 0 z) ∙ e)) tt) tt) in
-          sym (ap onBytes (callStep-refused t R c (firstOf (early (encode R) c)) (refusal-of (λ z. n (early-encode ∙ z)) ∙ sym early-encode) n))
+          let n : firstOf (early 0 (encode R) c) ≢ 0 = λ z. absurd (T-not true (subst (λ (x : Bool). T (not x)) (sym (sym (eq-eqb (firstOf (early 0 (encode R) c)) 0 z) ∙ e)) tt) tt) in
+          sym (ap onBytes (callStep-refused t R c (firstOf (early 0 (encode R) c)) (refusal-of (λ z. n (early-encode ∙ z)) ∙ sym early-encode) n))

@@ -4,7 +4,7 @@ use mathlib.Core.Bool.{Bool, cond, _||_}
 use mathlib.Core.List.{List}
 use Prim.Native.Nat.{ℕ}
 use lib.Dec.{eqb}
-use lib.IntN.{ℤ, pos}
+use lib.IntN.{pos}
 use Rattle.rules.specs.Pair.{receives}
 use Rattle.rules.specs.Call.{askUse}
 use Rattle.rules.specs.CallStep.{accepted}
@@ -12,16 +12,17 @@ use Rattle.block.specs.Bytes.{IsBytes}
 use Rattle.block.specs.Block.{countIn, decode}
 use Rattle.block.proofs.Held.{held-written, delegations-held}
 use Rattle.block.specs.Records.{delegationsTo}
+use Rattle.steptable.specs.declared.Given.{Given}
 use Rattle.register.specs.Made.{answeredBy, Made}
 use Rattle.refusals.proofs.EarlyTests.{Through}
 use Rattle.register.proofs.Made.{made-done}
 
 -- x: the receiver is the owner, or some delegation to it stands
-pub use-done : (t : List ℤ) (r : ℕ) (b : List ℕ) (bytes : IsBytes b) (h : Through t b (askUse r)) (x : Bool) → x ≡ (eqb r 0 || receives r (delegationsTo b (countIn b)))
-    → Made t (askUse r) b (answeredBy (pos (cond x 1 0)) (pos 0) (pos 0)) b
+pub use-done : (g : Given) (r : ℕ) (b : List ℕ) (bytes : IsBytes b) (h : Through g b (askUse r)) (x : Bool) → x ≡ (eqb r 0 || receives r (delegationsTo b (countIn b)))
+    → Made g (askUse r) b (answeredBy (pos (cond x 1 0)) (pos 0) (pos 0)) b
 unfolding accepted
-use-done t r b bytes h x e =
-    made-done t (askUse r) b (h .early) (h .held) (answeredBy (pos (cond x 1 0)) (pos 0) (pos 0)) b
+use-done g r b bytes h x e =
+    made-done g (askUse r) b (h .early) (h .held) (answeredBy (pos (cond x 1 0)) (pos 0) (pos 0)) b
     (λ j. record { refusal = 0; first = pos (cond (q j) 1 0); second = pos 0; third = pos 0; bytes = held-written b bytes (h .early .formed) j })
   where
     q : x ≡ (eqb r 0 || receives r (decode b .delegations))

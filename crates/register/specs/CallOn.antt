@@ -1,4 +1,4 @@
--- The calls on bytes (document 01, 'Calls' and the two lists of refusals): for every block of any length and content, what is returned and what is left. Assumes nothing.
+-- The calls on bytes (document 01, 'Calls' and the two lists of refusals; document 02, C-11): for every block of any length and content, what is returned and what is left. Assumes nothing.
 use mathlib.Core.Bool.{true, false, cond}
 use mathlib.Core.List.{List}
 use Prim.Native.Nat.{ℕ}
@@ -10,6 +10,7 @@ use Rattle.rules.specs.Refusal.{firstOf}
 use Rattle.rules.specs.CallStep.{Outcome, callStep}
 use Rattle.block.specs.Layout.{blockSize}
 use Rattle.block.specs.Block.{decode, encode}
+use Rattle.steptable.specs.declared.Given.{Given}
 use Rattle.refusals.specs.Early.{early}
 
 -- the refusal number, 0 when accepted; the three answers; the bytes afterwards
@@ -28,8 +29,9 @@ turned n b = record { refusal = n; first = pos 0; second = pos 0; third = pos 0;
 abbrev pub written : List ℕ → Outcome → Result
 written b o = record { refusal = o .refusal; first = o .first; second = o .second; third = o .third; bytes = cond (eqb (o .refusal) 0) (encode (o .left)) b }
 
-unfoldable pub callOn : List ℤ → List ℕ → Call → Result
-callOn t b c = let n = firstOf (early b c) in elim (eqb n 0) [ true ↦ written b (callStep t (decode b) c) | false ↦ turned n b ]
+-- with what is given with the text of a step table
+unfoldable pub callOn : Given → List ℕ → Call → Result
+callOn g b c = let n = firstOf (early (g .refusal) b c) in elim (eqb n 0) [ true ↦ written b (callStep (g .steps) (decode b) c) | false ↦ turned n b ]
 
 -- open overwrites any 2,180 bytes
 unfoldable pub openOn : List ℕ → Result

@@ -1,4 +1,4 @@
--- What the cuts promise (document 01, 'Calls'): an accepted one leaves the best remainder of its named change on the block that it was handed. Assumes nothing.
+-- What the cuts promise (document 01, 'Calls'; document 02, C-11): an accepted one leaves the best remainder of its named change on the block that it was handed, by the table that it was given. Assumes nothing.
 use mathlib.Core.List.{List}
 use Prim.Native.Nat.{ℕ}
 use lib.IntN.{ℤ}
@@ -7,6 +7,7 @@ use Rattle.rules.specs.CallStep.{Outcome}
 use Rattle.rules.specs.Trace.{PlaceRight}
 use Rattle.rules.specs.History.{CutsRight}
 use Rattle.block.specs.Block.{decode}
+use Rattle.steptable.specs.declared.Given.{Given}
 use Rattle.register.specs.CallOn.{Result, callOn}
 use Rattle.register.specs.Made.{result}
 use Rattle.register.specs.declared.Answer.{Answer}
@@ -20,5 +21,5 @@ abbrev pub CutsLeft : List ℤ → List ℕ → Call → Result → Type 0
 CutsLeft t b c r = CutsRight t (decode b) c (onRegister r)
 
 -- `Made`, and that: what demand 3 claims of a place, at the block that the call was handed
-abbrev pub CutMade : List ℤ → Call → List ℕ → Answer → List ℕ → Type 0
-CutMade t c before o after = PlaceRight (callOn t) (CutsLeft t) before c (result o after)
+abbrev pub CutMade : Given → Call → List ℕ → Answer → List ℕ → Type 0
+CutMade g c before o after = PlaceRight (callOn g) (CutsLeft (g .steps)) before c (result o after)

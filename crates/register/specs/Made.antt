@@ -1,9 +1,10 @@
--- What every public call promises: one relation of the call, the block before, what was returned and the block after. Assumes nothing.
+-- What every public call promises: one relation of what is given with the step table's text, the call, the block before, what was returned and the block after. Assumes nothing.
 use mathlib.Core.Path.{_≡_}
 use mathlib.Core.List.{List}
 use Prim.Native.Nat.{ℕ}
 use lib.IntN.{ℤ, pos}
 use Rattle.rules.specs.Call.{Call}
+use Rattle.steptable.specs.declared.Given.{Given}
 use Rattle.register.specs.CallOn.{Result, callOn, openOn}
 use Rattle.register.specs.declared.Answer.{Answer}
 
@@ -18,8 +19,8 @@ answeredBy a b c = record { refusal = 0; first = a; second = b; third = c }
 abbrev pub result : Answer → List ℕ → Result
 result o after = record { refusal = o .refusal; first = o .first; second = o .second; third = o .third; bytes = after }
 
-abbrev pub Made : List ℤ → Call → List ℕ → Answer → List ℕ → Type 0
-Made t c before o after = result o after ≡ callOn t before c
+abbrev pub Made : Given → Call → List ℕ → Answer → List ℕ → Type 0
+Made g c before o after = result o after ≡ callOn g before c
 
 abbrev pub MadeOpen : List ℕ → Answer → List ℕ → Type 0
 MadeOpen before o after = result o after ≡ openOn before

@@ -1,11 +1,11 @@
-// The public calls of the register, on plain numbers and a lent block of any length and content, by document 01's own step table.
+// The public calls of the register, on plain numbers and a lent block of any length and content, by document 01's own step table; those that reckon reach also by one that the host lends as text of any length and content.
 mod cutting;
 mod granting;
 
 ghost use mathlib.Core.Path.{_≡_};
-ghost use Rattle.rules.specs.Table.{steps};
 ghost use Rattle.rules.specs.Register.{granted};
 ghost use Rattle.rules.specs.Call.{enrol, grant, revoke, downgrade, askReach, askUse};
+ghost use Rattle.steptable.specs.TableText.{ours, given};
 ghost use Rattle.register.specs.Made.{refusedBy, answeredBy, Made, MadeOpen};
 ghost use Rattle.register.specs.Cuts.{CutMade};
 use block::layout;
@@ -54,7 +54,7 @@ pub fn open(block: &mut [u8]) -> Answer
 
 // Enrols a subject; answers its number.
 pub fn enrol(block: &mut [u8], marks: u32) -> Answer
-    ensures { λ r. ⌜ Made steps (enrol marks) (now (block .entry)) r (now (block .exit)) ⌝ }
+    ensures { λ r. ⌜ Made ours (enrol marks) (now (block .entry)) r (now (block .exit)) ⌝ }
 {
     let n = refusals::enrol_refusal(block, marks);
     if n != 0 {
@@ -67,7 +67,7 @@ pub fn enrol(block: &mut [u8], marks: u32) -> Answer
 
 // Document 01's call use: 1 if the receiver is the owner or some delegation to it stands, else 0.
 pub fn use_right(block: &[u8], receiver: u32) -> Answer
-    ensures { λ r. ⌜ Made steps (askUse receiver) (now (block .entry)) r (now (block .entry)) ⌝ }
+    ensures { λ r. ⌜ Made ours (askUse receiver) (now (block .entry)) r (now (block .entry)) ⌝ }
 {
     let n = refusals::use_refusal(block, receiver);
     if n != 0 {
@@ -84,10 +84,10 @@ pub fn use_right(block: &[u8], receiver: u32) -> Answer
 
 // Reach of a pair: -1 to 255, also for a standing pair.
 pub fn reach(block: &[u8], giver: u32, receiver: u32) -> Answer
-    ensures { λ r. ⌜ Made steps (askReach giver receiver) (now (block .entry)) r (now (block .entry)) ⌝ }
+    ensures { λ r. ⌜ Made ours (askReach giver receiver) (now (block .entry)) r (now (block .entry)) ⌝ }
 {
     let table = rules::steps();
-    granting::reach_by(block, &table, giver, receiver)
+    granting::reach_by(block, &table, 0, giver, receiver)
 }
 
 // Adds a delegation; answers the delegations now standing.
@@ -99,24 +99,77 @@ pub fn grant(
     need: u32,
     bar: u32,
 ) -> Answer
-    ensures { λ r. ⌜ Made steps (grant (granted giver receiver weight need bar)) (now (block .entry)) r (now (block .exit)) ⌝ }
+    ensures { λ r. ⌜ Made ours (grant (granted giver receiver weight need bar)) (now (block .entry)) r (now (block .exit)) ⌝ }
 {
     let table = rules::steps();
-    granting::grant_by(block, &table, giver, receiver, weight, need, bar)
+    granting::grant_by(block, &table, 0, giver, receiver, weight, need, bar)
 }
 
 // Removes a delegation, then lowers or removes what it no longer supports; answers dropped, lowered and rounds.
 pub fn revoke(block: &mut [u8], by: u32, giver: u32, receiver: u32) -> Answer
-    ensures { λ r. ⌜ CutMade steps (revoke by giver receiver) (now (block .entry)) r (now (block .exit)) ⌝ }
+    ensures { λ r. ⌜ CutMade ours (revoke by giver receiver) (now (block .entry)) r (now (block .exit)) ⌝ }
 {
     let table = rules::steps();
-    cutting::revoke_by(block, &table, by, giver, receiver)
+    cutting::revoke_by(block, &table, 0, by, giver, receiver)
 }
 
 // Sets a delegation to a smaller weight, then as revoke.
 pub fn downgrade(block: &mut [u8], by: u32, giver: u32, receiver: u32, weight: u32) -> Answer
-    ensures { λ r. ⌜ CutMade steps (downgrade by giver receiver weight) (now (block .entry)) r (now (block .exit)) ⌝ }
+    ensures { λ r. ⌜ CutMade ours (downgrade by giver receiver weight) (now (block .entry)) r (now (block .exit)) ⌝ }
 {
     let table = rules::steps();
-    cutting::downgrade_by(block, &table, by, giver, receiver, weight)
+    cutting::downgrade_by(block, &table, 0, by, giver, receiver, weight)
+}
+
+// Reach by the step table of a text, ours where it is empty.
+pub fn reach_table(block: &[u8], giver: u32, receiver: u32, table: &[u8]) -> Answer
+    ensures { λ r. ⌜ Made (given (now (table .entry))) (askReach giver receiver) (now (block .entry)) r (now (block .entry)) ⌝ }
+{
+    let g = steptable::read_table(table);
+    granting::reach_by(block, &g.steps, g.refusal, giver, receiver)
+}
+
+// Grant, so.
+pub fn grant_table(
+    block: &mut [u8],
+    giver: u32,
+    receiver: u32,
+    weight: u32,
+    need: u32,
+    bar: u32,
+    table: &[u8],
+) -> Answer
+    ensures { λ r. ⌜ Made (given (now (table .entry))) (grant (granted giver receiver weight need bar)) (now (block .entry)) r (now (block .exit)) ⌝ }
+{
+    let g = steptable::read_table(table);
+    granting::grant_by(block, &g.steps, g.refusal, giver, receiver, weight, need, bar)
+}
+
+// Revoke, so: what is kept is judged by this table.
+pub fn revoke_table(
+    block: &mut [u8],
+    by: u32,
+    giver: u32,
+    receiver: u32,
+    table: &[u8],
+) -> Answer
+    ensures { λ r. ⌜ CutMade (given (now (table .entry))) (revoke by giver receiver) (now (block .entry)) r (now (block .exit)) ⌝ }
+{
+    let g = steptable::read_table(table);
+    cutting::revoke_by(block, &g.steps, g.refusal, by, giver, receiver)
+}
+
+// Downgrade, so.
+pub fn downgrade_table(
+    block: &mut [u8],
+    by: u32,
+    giver: u32,
+    receiver: u32,
+    weight: u32,
+    table: &[u8],
+) -> Answer
+    ensures { λ r. ⌜ CutMade (given (now (table .entry))) (downgrade by giver receiver weight) (now (block .entry)) r (now (block .exit)) ⌝ }
+{
+    let g = steptable::read_table(table);
+    cutting::downgrade_by(block, &g.steps, g.refusal, by, giver, receiver, weight)
 }

@@ -1,16 +1,21 @@
 -- The one induction down a list of calls: at every place of every history the outcome is that of the definitions. Assumes nothing.
 use mathlib.Core.Path.{_≡_, refl, sym, ap, subst, _∙_}
-use mathlib.Core.List.{List, [], _∷_, map}
+use mathlib.Core.List.{List, [], _∷_, map, List·Memᴰ·head, List·Memᴰ·tail}
 use Prim.Native.Nat.{ℕ, zero, suc}
-use Rattle.rules.specs.List.{At}
+use lib.ListN.{take}
+use Rattle.rules.specs.List.{_∈_, At}
 use Rattle.rules.specs.Trace.{Entry, allAsked, traceFrom, stateFrom, History, AtEveryPlace, PlaceRight}
 
 module _ {S A O : Type 0} (step : S → A → O) (left : O → S) where
+  -- what each of the first i calls keeps holds of the state that they lead to
+  pub stays-each : (P : S → Type 0) (Q : A → Type 0) → ((s : S) (c : A) → Q c → P s → P (left (step s c))) → (s : S) (cs : List A) (i : ℕ) → ((c : A) → c ∈ take i cs → Q c) → P s → P (stateFrom step left s cs i)
+  stays-each P Q k s cs zero q p = p
+  stays-each P Q k s [] (suc i) q p = p
+  stays-each P Q k s (c ∷ cs) (suc i) q p = stays-each P Q k (left (step s c)) cs i (λ d m. q d (List·Memᴰ·tail m)) (k s c (q c (List·Memᴰ·head refl)) p)
+
   -- what every call keeps holds of every state that the definitions lead to
   pub stays : (P : S → Type 0) → ((s : S) (c : A) → P s → P (left (step s c))) → (s : S) (cs : List A) (i : ℕ) → P s → P (stateFrom step left s cs i)
-  stays P k s cs zero p = p
-  stays P k s [] (suc i) p = p
-  stays P k s (c ∷ cs) (suc i) p = stays P k (left (step s c)) cs i (k s c p)
+  stays P k s cs i p = stays-each P (λ c. Unit {0}) (λ s c q p. k s c p) s cs i (λ c m. tt) p
 
   followed : (s : S) → AtEveryPlace step left s (λ (r : S) (c : A) (o : O). o ≡ step r c)
   followed s [] h i e m = absurd m

@@ -1,4 +1,4 @@
-// The refusal numbers of document 01, in its order.
+// The refusal numbers of documents 01 and 02, in the order in which they apply.
 pub const WRONG_LENGTH: u32 = 1;
 
 pub const NO_SUBJECT: u32 = 2;
@@ -12,6 +12,8 @@ pub const EQUAL_PAIR: u32 = 5;
 pub const TO_OWNER: u32 = 6;
 
 pub const MALFORMED: u32 = 7;
+
+pub const BAD_TABLE: u32 = 17;
 
 pub const NOT_WELL_FORMED: u32 = 8;
 

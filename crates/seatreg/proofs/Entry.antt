@@ -13,6 +13,7 @@ use Rattle.rules.specs.Cut.{changed}
 use Rattle.rules.specs.Call.{Call}
 use Rattle.rules.specs.History.{CutRight}
 use Rattle.block.specs.Block.{decode}
+use Rattle.steptable.specs.declared.Given.{Given}
 use Rattle.register.specs.CallOn.{Result, callOn, openOn}
 use Rattle.register.specs.Made.{result, Made, MadeOpen}
 use Rattle.register.specs.Cuts.{onRegister, CutMade}
@@ -59,22 +60,22 @@ module _ (r : Result) (b a : List ℕ) where
 
 -- ── of the calls of a list, of the cuts and of open ──
 module _ (b a : List ℕ) where
-  module _ (t : List ℤ) (c : Call) where
-    pub short : length a ≢ 12 → EntryMade t c b a 1 b a
+  module _ (g : Given) (c : Call) where
+    pub short : length a ≢ 12 → EntryMade g c b a 1 b a
     unfolding entryOn
-    short n = short-of (callOn t b c) b a n
+    short n = short-of (callOn g b c) b a n
 
-    pub made : length a ≡ 12 → (o : Answer) (b' : List ℕ) → Made t c b o b' → (n : ℕ) (a' : List ℕ) → AnswersPut o a n a' → EntryMade t c b a n b' a'
+    pub made : length a ≡ 12 → (o : Answer) (b' : List ℕ) → Made g c b o b' → (n : ℕ) (a' : List ℕ) → AnswersPut o a n a' → EntryMade g c b a n b' a'
     unfolding entryOn
-    made l o b' e n a' h = made-of (callOn t b c) b a l o b' e n a' h
+    made l o b' e n a' h = made-of (callOn g b c) b a l o b' e n a' h
 
-    pub cut-short : length a ≢ 12 → EntryCutMade t c b a 1 b a
+    pub cut-short : length a ≢ 12 → EntryCutMade g c b a 1 b a
     cut-short n = record { outcome = short n; cut = λ k i z. absurd (omega arith) }
 
-    pub cut-made : length a ≡ 12 → (o : Answer) (b' : List ℕ) → CutMade t c b o b' → (n : ℕ) (a' : List ℕ) → AnswersPut o a n a' → EntryCutMade t c b a n b' a'
+    pub cut-made : length a ≡ 12 → (o : Answer) (b' : List ℕ) → CutMade g c b o b' → (n : ℕ) (a' : List ℕ) → AnswersPut o a n a' → EntryCutMade g c b a n b' a'
     cut-made l o b' m n a' h = record {
       outcome = made l o b' (m .outcome) n a' h;
-      cut = λ k i z. let y = sym (h .0) ∙ z in cut-left t (changed (decode b) k) o n b' a' y (m .cut k i y) (accepted-bytes o a n a' h z);
+      cut = λ k i z. let y = sym (h .0) ∙ z in cut-left (g .steps) (changed (decode b) k) o n b' a' y (m .cut k i y) (accepted-bytes o a n a' h z);
     }
 
   pub open-short : length a ≢ 12 → EntryOpened b a 1 b a

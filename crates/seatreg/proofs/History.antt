@@ -7,52 +7,63 @@ use Prim.Native.Nat.{ℕ}
 use native.Mathlib.Omega.{arith}
 use lib.Dec.{eqb}
 use lib.ListN.{length}
-use lib.IntN.{ℤ, pos}
-use Rattle.rules.specs.Table.{TableRule, steps}
-use Rattle.rules.specs.Call.{fresh}
+use lib.IntN.{pos}
+use Rattle.rules.specs.Table.{TableRule}
+use Rattle.rules.specs.Support.{Supported}
+use Rattle.rules.specs.Call.{Call, enrol, grant, revoke, downgrade, askReach, askUse, fresh}
 use Rattle.rules.specs.Trace.{PlaceRight}
-use Rattle.rules.proofs.Table.{steps-rule}
-use Rattle.rules.proofs.Calls.{fresh-formed}
 use Rattle.rules.proofs.Lists.{eqOr}
-use Rattle.rules.proofs.Trace.{places}
+use Rattle.rules.proofs.Trace.{stays-each, stays, places}
 use Rattle.block.specs.Layout.{blockSize}
 use Rattle.block.specs.Bytes.{IsBytes}
-use Rattle.block.specs.Block.{encode}
-use Rattle.block.proofs.Encode.{bytes-encode}
+use Rattle.block.specs.Block.{decode, encode}
+use Rattle.steptable.specs.TableText.{given}
+use Rattle.steptable.specs.declared.Given.{Given}
+use Rattle.steptable.proofs.Right.{given-keeps}
 use Rattle.register.specs.CallOn.{Result, turned, callOn, openOn}
 use Rattle.register.specs.declared.Answer.{Answer}
 use Rattle.register.proofs.CutWays.{cut-made}
-use Rattle.demands.proofs.Keeping.{kept}
+use Rattle.demands.specs.History.{Asked, asks, askedOn, GivenBelow}
+use Rattle.demands.proofs.History.{bytes-left, Sound, sound, fresh-sound, call-under, fresh-supported}
 use Rattle.seatreg.specs.Answers.{answersSize}
-use Rattle.seatreg.specs.Entry.{Returned, answersAfter, handedOut, wrongAnswers, entryOn, entryOpen, EntryOpened, EntryCall, entryStep, EntryCutsRight}
-use Rattle.seatreg.specs.History.{blockLeft, EntryDemand3}
+use Rattle.seatreg.specs.Entry.{Returned, answersAfter, handedOut, wrongAnswers, entryOf, entryOn, entryOpen, EntryOpened, EntryCutsRight}
+use Rattle.seatreg.specs.History.{EntryAsked, entryAskedOn, CutsRightBy, EntryCutsAsked, blockLeft, EntryDemand3}
 use Rattle.seatreg.proofs.Entry.{cut-short, cut-made as entry-made}
 
-module _ (t : List ℤ) (rule : TableRule t) where
-  -- the block stays one of bytes
-  bytes-after : (b : List ℕ) (e : EntryCall) → IsBytes b → IsBytes (entryStep t b e .block)
-  unfolding entryOn
-  bytes-after b e bytes = go (eqb (length (e .answers)) answersSize)
-    where
-      go : (x : Bool) → IsBytes (cond x (handedOut (callOn t b (e .call)) (e .answers)) (wrongAnswers b (e .answers)) .block)
-      go true = kept t b (e .call) rule bytes .bytes
-      go false = bytes
-
+-- ── one call ──
+module _ (b a : List ℕ) (bytes : IsBytes b) where
   -- an accepted cut leaves the best remainder
-  cuts-right : (b : List ℕ) (e : EntryCall) → IsBytes b → EntryCutsRight t b e (entryStep t b e)
-  cuts-right b e bytes = go (eqOr (length (e .answers)) answersSize)
+  cuts-right : (g : Given) → TableRule (g .steps) → (c : Call) → EntryCutsRight (g .steps) b c (entryOf (callOn g b c) b a)
+  unfolding entryOn
+  cuts-right g rule c = go (eqOr (length a) answersSize)
     where
-      right : (r : Returned) → PlaceRight (entryStep t) (EntryCutsRight t) b e r → EntryCutsRight t b e (entryStep t b e)
-      right r p = subst (λ (x : Returned). EntryCutsRight t b e x) (p .outcome) (p .cut)
+      right : (r : Returned) → PlaceRight (entryOn g a) (EntryCutsRight (g .steps)) b c r → EntryCutsRight (g .steps) b c (entryOn g a b c)
+      right r p = subst (λ (x : Returned). EntryCutsRight (g .steps) b c x) (p .outcome) (p .cut)
 
-      go : (length (e .answers) ≡ answersSize) ⊎ (length (e .answers) ≢ answersSize) → EntryCutsRight t b e (entryStep t b e)
+      go : (length a ≡ answersSize) ⊎ (length a ≢ answersSize) → EntryCutsRight (g .steps) b c (entryOn g a b c)
       go (inl l) =
-          let r : Result = callOn t b (e .call) in
+          let r : Result = callOn g b c in
           let o : Answer = record { refusal = r .refusal; first = r .first; second = r .second; third = r .third } in
-          let a' = answersAfter (o .refusal) (o .first) (o .second) (o .third) (e .answers) in
+          let a' = answersAfter (o .refusal) (o .first) (o .second) (o .third) a in
           right record { refusal = o .refusal; block = r .bytes; answers = a' }
-          (entry-made b (e .answers) t (e .call) l o (r .bytes) (cut-made t rule (e .call) b bytes o (r .bytes) refl) (o .refusal) a' (refl, refl))
-      go (inr n) = right (wrongAnswers b (e .answers)) (cut-short b (e .answers) t (e .call) n)
+          (entry-made b a g c l o (r .bytes) (cut-made g rule c b bytes o (r .bytes) refl) (o .refusal) a' (refl, refl))
+      go (inr n) = right (wrongAnswers b a) (cut-short b a g c n)
+
+  cuts-asked : (q : Asked) → CutsRightBy b q (entryOf (askedOn b q) b a)
+  cuts-asked (asks text (enrol m)) = λ k i. absurd i
+  cuts-asked (asks text (grant d)) = λ k i. absurd i
+  cuts-asked (asks text (revoke y g r)) = cuts-right (given text) (given-keeps text) (revoke y g r)
+  cuts-asked (asks text (downgrade y g r w)) = cuts-right (given text) (given-keeps text) (downgrade y g r w)
+  cuts-asked (asks text (askReach g r)) = λ k i. absurd i
+  cuts-asked (asks text (askUse r)) = λ k i. absurd i
+
+-- the block is left as the call leaves it, or as it was: what every call keeps is kept
+entry-keeps : (P : List ℕ → Type 0) (b : List ℕ) (e : EntryAsked) → P b → P (askedOn b (e .asked) .bytes) → P (entryAskedOn b e .block)
+entry-keeps P b e found left = go (eqb (length (e .answers)) answersSize)
+  where
+    go : (x : Bool) → P (cond x (handedOut (askedOn b (e .asked)) (e .answers)) (wrongAnswers b (e .answers)) .block)
+    go true = left
+    go false = found
 
 -- ── open ──
 opened : (b a b' a' : List ℕ) → EntryOpened b a 0 b' a' → b' ≡ encode fresh
@@ -68,11 +79,15 @@ opened b a b' a' made = go (eqb (length a) answersSize) (eqb (length b) blockSiz
     go false y q = let e : _≡_ {A = ℕ} 0 1 = ap (λ (r : Returned). r .refusal) q in absurd (omega arith)
 
 -- THE WHOLE LIST, over the entry points
-pub entry-demand3 : (t : List ℤ) → TableRule t → EntryDemand3 t
-entry-demand3 t rule = record {
+pub entry-demand3 : EntryDemand3
+entry-demand3 = record {
   opened = opened;
-  places = places (entryStep t) blockLeft IsBytes (bytes-after t rule) (EntryCutsRight t) (cuts-right t rule) (encode fresh) (bytes-encode fresh fresh-formed);
+  places = places entryAskedOn blockLeft IsBytes keeps-bytes EntryCutsAsked (λ b e bytes. cuts-asked b (e .answers) bytes (e .asked)) (encode fresh) (fresh-sound .0);
+  formed = λ es i. stays entryAskedOn blockLeft Sound (λ b e s. entry-keeps Sound b e s (sound b (e .asked) s)) (encode fresh) es i fresh-sound .1;
+  supported = λ es i m rule u. stays-each entryAskedOn blockLeft (λ b. IsBytes b × Supported m (decode b)) (λ e. GivenBelow (e .asked) m)
+      (λ b e below p. (keeps-bytes b e (p .0), entry-keeps (λ x. Supported m (decode x)) b e (p .1) (call-under m rule b (e .asked) below (p .0) (p .1))))
+      (encode fresh) es i u (fresh-sound .0, fresh-supported m) .1;
 }
-
-pub entry-demand3-steps : EntryDemand3 steps
-entry-demand3-steps = entry-demand3 steps steps-rule
+  where
+    keeps-bytes : (b : List ℕ) (e : EntryAsked) → IsBytes b → IsBytes (entryAskedOn b e .block)
+    keeps-bytes b e bytes = entry-keeps IsBytes b e bytes (bytes-left b (e .asked) bytes)

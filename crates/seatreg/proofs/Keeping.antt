@@ -10,7 +10,7 @@ use lib.Dec.{T, eqb, eqb→eq}
 use lib.ListN.{length}
 use lib.IntN.{ℤ, pos, negsuc}
 use Rattle.rules.specs.Limit.{_≼_, fromNone}
-use Rattle.rules.specs.Table.{TableRule, steps}
+use Rattle.rules.specs.Table.{TableRule}
 use Rattle.rules.specs.Call.{Call, enrol, grant, revoke, downgrade, askReach, askUse, fresh}
 use Rattle.rules.specs.Ranges.{FromTo, Unused, CutInRange, InRange}
 use Rattle.rules.proofs.Table.{steps-rule}
@@ -20,6 +20,9 @@ use Rattle.block.specs.Bytes.{IsBytes}
 use Rattle.block.specs.Block.{encode}
 use Rattle.block.specs.WellFormed.{wellFormed}
 use Rattle.block.proofs.Encode.{bytes-encode}
+use Rattle.steptable.specs.TableText.{ours, given}
+use Rattle.steptable.specs.declared.Given.{Given}
+use Rattle.steptable.proofs.Right.{given-keeps}
 use Rattle.register.specs.CallOn.{Result, turned, callOn, openOn}
 use Rattle.demands.proofs.Keeping.{kept, kept-open}
 use Rattle.seatreg.specs.Answers.{answerBytes, answerIn}
@@ -120,15 +123,15 @@ module _ (Range : ℤ → ℤ → ℤ → Type 0) (b a : List ℕ) (found : IsBy
       go true false q = refused-kept (apart (r .refusal) q)
 
 -- ── the calls of a list, and open ──
-pub entry-kept : (t : List ℤ) → TableRule t → (c : Call) (b a : List ℕ) → IsBytes b → IsBytes a → EntryKept t c b a
+pub entry-kept : (g : Given) → TableRule (g .steps) → (c : Call) (b a : List ℕ) → IsBytes b → IsBytes a → EntryKept g c b a
 unfolding entryOn
-entry-kept t rule c b a found lent =
-    let k = kept t b c rule found in
-    kept-of (InRange c) b a found lent (callOn t b c) record {
+entry-kept g rule c b a found lent =
+    let k = kept g b c rule found in
+    kept-of (InRange c) b a found lent (callOn g b c) record {
       refused = k .refused;
       formed = k .formed;
       range = k .range;
-      fits = λ e. all-fit c (callOn t b c .first) (callOn t b c .second) (callOn t b c .third) (k .range e);
+      fits = λ e. all-fit c (callOn g b c .first) (callOn g b c .second) (callOn g b c .third) (k .range e);
       bytes = k .bytes;
     }
 
@@ -140,9 +143,12 @@ open-bytes b found = go (eqb (length b) blockSize)
     go true = bytes-encode fresh fresh-formed
     go false = found
 
--- by document 01's own table
-pub entry-kept-steps : (c : Call) (b a : List ℕ) → IsBytes b → IsBytes a → EntryKept steps c b a
-entry-kept-steps c b a found lent = entry-kept steps steps-rule c b a found lent
+-- by the table of any text, and by document 01's own
+pub entry-kept-given : (text : List ℕ) (c : Call) (b a : List ℕ) → IsBytes b → IsBytes a → EntryKept (given text) c b a
+entry-kept-given text c b a found lent = entry-kept (given text) (given-keeps text) c b a found lent
+
+pub entry-kept-ours : (c : Call) (b a : List ℕ) → IsBytes b → IsBytes a → EntryKept ours c b a
+entry-kept-ours c b a found lent = entry-kept ours steps-rule c b a found lent
 
 pub entry-kept-open : (b a : List ℕ) → IsBytes b → IsBytes a → EntryKeptOpen b a
 unfolding entryOpen

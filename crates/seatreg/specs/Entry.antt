@@ -1,4 +1,4 @@
--- What every C entry point promises: one relation of the call, both buffers before, the number returned and both buffers after (document 01, 'Calls'). Assumes nothing.
+-- What every C entry point promises: one relation of what is given with the step table's text, the call, both buffers before, the number returned and both buffers after (document 01, 'Calls'; document 02, C-11). Assumes nothing.
 use mathlib.Core.Path.{_≡_}
 use mathlib.Core.Bool.{cond}
 use mathlib.Core.List.{List}
@@ -13,6 +13,7 @@ use Rattle.rules.specs.CallStep.{answered}
 use Rattle.rules.specs.Trace.{PlaceRight}
 use Rattle.rules.specs.History.{CutRight}
 use Rattle.block.specs.Block.{decode}
+use Rattle.steptable.specs.declared.Given.{Given}
 use Rattle.register.specs.CallOn.{Result, callOn, openOn}
 use Rattle.register.specs.declared.Answer.{Answer}
 use Rattle.seatreg.specs.Answers.{answersSize, answerBytes}
@@ -40,8 +41,8 @@ abbrev pub entryOf : Result → List ℕ → List ℕ → Returned
 entryOf r b a = cond (eqb (length a) answersSize) (handedOut r a) (wrongAnswers b a)
 
 -- the calls of a list on any block and any answers buffer, and open
-unfoldable pub entryOn : List ℤ → List ℕ → List ℕ → Call → Returned
-entryOn t b a c = entryOf (callOn t b c) b a
+unfoldable pub entryOn : Given → (answers block : List ℕ) → Call → Returned
+entryOn g a b c = entryOf (callOn g b c) b a
 
 unfoldable pub entryOpen : List ℕ → List ℕ → Returned
 entryOpen b a = entryOf (openOn b) b a
@@ -49,8 +50,8 @@ entryOpen b a = entryOf (openOn b) b a
 -- ── what is promised ──
 
 -- n was returned; the buffers held b and a, and hold b' and a'
-abbrev pub EntryMade : List ℤ → Call → List ℕ → List ℕ → ℕ → List ℕ → List ℕ → Type 0
-EntryMade t c b a n b' a' = record { refusal = n; block = b'; answers = a' } ≡ entryOn t b a c
+abbrev pub EntryMade : Given → Call → List ℕ → List ℕ → ℕ → List ℕ → List ℕ → Type 0
+EntryMade g c b a n b' a' = record { refusal = n; block = b'; answers = a' } ≡ entryOn g a b c
 
 abbrev pub EntryOpened : List ℕ → List ℕ → ℕ → List ℕ → List ℕ → Type 0
 EntryOpened b a n b' a' = record { refusal = n; block = b'; answers = a' } ≡ entryOpen b a
@@ -63,21 +64,13 @@ pub record EntryCutRight (t : List ℤ) (C : Register) (r : Returned) : Type 0 w
   pub bytes : r .answers ≡ answerBytes first second third
   pub right : CutRight t C (answered first second third (decode (r .block)))
 
--- what an entry point is passed besides the block: its call, and the answers buffer
-pub record EntryCall : Type 0 where
-  pub call : Call
-  pub answers : List ℕ
-
-abbrev pub entryStep : List ℤ → List ℕ → EntryCall → Returned
-entryStep t b e = entryOn t b (e .answers) (e .call)
-
 -- of a call on the block b: where it makes a change and is accepted, both buffers are right for that change of the register that b holds
-abbrev pub EntryCutsRight : List ℤ → List ℕ → EntryCall → Returned → Type 0
-EntryCutsRight t b e r = (k : Change) → Makes (e .call) k → r .refusal ≡ 0 → EntryCutRight t (changed (decode b) k) r
+abbrev pub EntryCutsRight : List ℤ → List ℕ → Call → Returned → Type 0
+EntryCutsRight t b c r = (k : Change) → Makes c k → r .refusal ≡ 0 → EntryCutRight t (changed (decode b) k) r
 
 -- `EntryMade`, and that: what demand 3 claims of a place, at the block that the call was handed
-abbrev pub EntryCutMade : List ℤ → Call → List ℕ → List ℕ → ℕ → List ℕ → List ℕ → Type 0
-EntryCutMade t c b a n b' a' = PlaceRight (entryStep t) (EntryCutsRight t) b record { call = c; answers = a } record { refusal = n; block = b'; answers = a' }
+abbrev pub EntryCutMade : Given → Call → List ℕ → List ℕ → ℕ → List ℕ → List ℕ → Type 0
+EntryCutMade g c b a n b' a' = PlaceRight (entryOn g a) (EntryCutsRight (g .steps)) b c record { refusal = n; block = b'; answers = a' }
 
 -- what the function that hands out an answer promises: its number is returned, its answers are put into the buffer when it is accepted
 abbrev pub AnswersPut : Answer → List ℕ → ℕ → List ℕ → Type 0

@@ -1,18 +1,47 @@
--- Demand 3 for the entry points: one claim about a whole list of calls, each with an answers buffer of any length and content (document 01, 'Calls'). Assumes nothing.
+-- Demand 3 for the entry points: one claim about a whole list of calls, each with a step table's text and an answers buffer of any length and content (document 01, 'Calls'; document 02, C-11).
+-- Assumes nothing.
 use mathlib.Core.Path.{_≡_}
+use mathlib.Core.Bool.{true}
 use mathlib.Core.List.{List}
 use Prim.Native.Nat.{ℕ}
+use lib.ListN.{take}
 use lib.IntN.{ℤ}
+use Rattle.rules.specs.List.{_∈_}
+use Rattle.rules.specs.Table.{TableRule}
+use Rattle.rules.specs.Support.{Supported}
 use Rattle.rules.specs.Call.{fresh}
-use Rattle.rules.specs.Trace.{AtEveryPlace, PlaceRight}
-use Rattle.block.specs.Block.{encode}
-use Rattle.seatreg.specs.Entry.{Returned, EntryOpened, entryStep, EntryCutsRight}
+use Rattle.rules.specs.Trace.{stateFrom, AtEveryPlace, PlaceRight}
+use Rattle.block.specs.Block.{decode, encode}
+use Rattle.block.specs.WellFormed.{wellFormed}
+use Rattle.steptable.specs.TableText.{given}
+use Rattle.demands.specs.History.{Asked, asks, askedOn, GivenBelow}
+use Rattle.seatreg.specs.Entry.{Returned, entryOf, EntryOpened, EntryCutsRight}
+
+-- what an entry point is passed besides the block: a call with the text that it is lent, and the answers buffer
+pub record EntryAsked : Type 0 where
+  pub asked : Asked
+  pub answers : List ℕ
+
+abbrev pub entryAskedOn : List ℕ → EntryAsked → Returned
+entryAskedOn b e = entryOf (askedOn b (e .asked)) b (e .answers)
+
+-- where a call makes a change and is accepted, both buffers are right for that change by the table that its own text gives
+abbrev pub CutsRightBy : List ℕ → Asked → Returned → Type 0
+CutsRightBy b (asks text c) r = EntryCutsRight (given text .steps) b c r
+
+abbrev pub EntryCutsAsked : List ℕ → EntryAsked → Returned → Type 0
+EntryCutsAsked b e r = CutsRightBy b (e .asked) r
 
 abbrev pub blockLeft : Returned → List ℕ
 blockLeft r = r .block
 
-pub record EntryDemand3 (t : List ℤ) : Type 0 where
+-- the block before call i, by what the calls were passed alone, never by a block that the module left
+abbrev pub entryBlockAt : List EntryAsked → ℕ → List ℕ
+entryBlockAt es i = stateFrom entryAskedOn blockLeft (encode fresh) es i
+
+pub record EntryDemand3 : Type 0 where
   -- what an accepted open writes
   pub opened : (b a b' a' : List ℕ) → EntryOpened b a 0 b' a' → b' ≡ encode fresh
-  -- the definitions are followed by the calls and their answers buffers alone, never by a block that the module left
-  pub places : AtEveryPlace (entryStep t) blockLeft (encode fresh) (PlaceRight (entryStep t) (EntryCutsRight t))
+  pub places : AtEveryPlace entryAskedOn blockLeft (encode fresh) (PlaceRight entryAskedOn EntryCutsAsked)
+  pub formed : (es : List EntryAsked) (i : ℕ) → wellFormed (entryBlockAt es i) ≡ true
+  pub supported : (es : List EntryAsked) (i : ℕ) (m : List ℤ) → TableRule m → ((e : EntryAsked) → e ∈ take i es → GivenBelow (e .asked) m) → Supported m (decode (entryBlockAt es i))

@@ -10,6 +10,7 @@ use Rattle.rules.specs.Call.{Call}
 use Rattle.rules.specs.Ranges.{Unused, InRange}
 use Rattle.block.specs.Bytes.{IsBytes}
 use Rattle.block.specs.WellFormed.{wellFormed}
+use Rattle.steptable.specs.declared.Given.{Given}
 use Rattle.seatreg.specs.Answers.{answersSize, answerBytes, answerIn}
 use Rattle.seatreg.specs.Entry.{Returned, entryOn, entryOpen}
 
@@ -22,8 +23,8 @@ pub record BuffersKept (Range : ℤ → ℤ → ℤ → Type 0) (b a : List ℕ)
   pub range : r .refusal ≡ 0 → Range (answerIn (r .answers) 0) (answerIn (r .answers) 1) (answerIn (r .answers) 2)
   pub bytes : IsBytes (r .block) × IsBytes (r .answers)
 
-abbrev pub EntryKept : List ℤ → Call → List ℕ → List ℕ → Type 0
-EntryKept t c b a = BuffersKept (InRange c) b a (entryOn t b a c)
+abbrev pub EntryKept : Given → Call → List ℕ → List ℕ → Type 0
+EntryKept g c b a = BuffersKept (InRange c) b a (entryOn g a b c)
 
 -- open answers 0
 abbrev pub EntryKeptOpen : List ℕ → List ℕ → Type 0

@@ -1,9 +1,9 @@
-// The C entry points of the register: the calls on plain numbers, a lent block and twelve lent bytes for the answers, both of any length and content.
+// The C entry points of the register: the calls on plain numbers, a lent block and twelve lent bytes for the answers, both of any length and content; those that reckon reach also with the text of a step table.
 mod answers;
 
-ghost use Rattle.rules.specs.Table.{steps};
 ghost use Rattle.rules.specs.Register.{granted};
 ghost use Rattle.rules.specs.Call.{enrol, grant, revoke, downgrade, askReach, askUse};
+ghost use Rattle.steptable.specs.TableText.{ours, given};
 ghost use Rattle.seatreg.specs.Entry.{EntryMade, EntryOpened, EntryCutMade};
 use rules::refusal;
 
@@ -22,7 +22,7 @@ pub extern "C" fn seatreg_open(block: &mut [u8], answers: &mut [u8]) -> u32
 // Enrols a subject; answers its number.
 #[no_mangle]
 pub extern "C" fn seatreg_enrol(block: &mut [u8], marks: u32, answers: &mut [u8]) -> u32
-    ensures { λ r. ⌜ EntryMade steps (enrol marks) (now (block .entry)) (now (answers .entry)) r (now (block .exit)) (now (answers .exit)) ⌝ }
+    ensures { λ r. ⌜ EntryMade ours (enrol marks) (now (block .entry)) (now (answers .entry)) r (now (block .exit)) (now (answers .exit)) ⌝ }
 {
     if answers.len() != answers::ANSWERS_SIZE {
         return refusal::WRONG_LENGTH;
@@ -42,7 +42,7 @@ pub extern "C" fn seatreg_grant(
     bar: u32,
     answers: &mut [u8],
 ) -> u32
-    ensures { λ r. ⌜ EntryMade steps (grant (granted giver receiver weight need bar)) (now (block .entry)) (now (answers .entry)) r (now (block .exit)) (now (answers .exit)) ⌝ }
+    ensures { λ r. ⌜ EntryMade ours (grant (granted giver receiver weight need bar)) (now (block .entry)) (now (answers .entry)) r (now (block .exit)) (now (answers .exit)) ⌝ }
 {
     if answers.len() != answers::ANSWERS_SIZE {
         return refusal::WRONG_LENGTH;
@@ -60,7 +60,7 @@ pub extern "C" fn seatreg_revoke(
     receiver: u32,
     answers: &mut [u8],
 ) -> u32
-    ensures { λ r. ⌜ EntryCutMade steps (revoke by giver receiver) (now (block .entry)) (now (answers .entry)) r (now (block .exit)) (now (answers .exit)) ⌝ }
+    ensures { λ r. ⌜ EntryCutMade ours (revoke by giver receiver) (now (block .entry)) (now (answers .entry)) r (now (block .exit)) (now (answers .exit)) ⌝ }
 {
     if answers.len() != answers::ANSWERS_SIZE {
         return refusal::WRONG_LENGTH;
@@ -79,7 +79,7 @@ pub extern "C" fn seatreg_downgrade(
     weight: u32,
     answers: &mut [u8],
 ) -> u32
-    ensures { λ r. ⌜ EntryCutMade steps (downgrade by giver receiver weight) (now (block .entry)) (now (answers .entry)) r (now (block .exit)) (now (answers .exit)) ⌝ }
+    ensures { λ r. ⌜ EntryCutMade ours (downgrade by giver receiver weight) (now (block .entry)) (now (answers .entry)) r (now (block .exit)) (now (answers .exit)) ⌝ }
 {
     if answers.len() != answers::ANSWERS_SIZE {
         return refusal::WRONG_LENGTH;
@@ -91,7 +91,7 @@ pub extern "C" fn seatreg_downgrade(
 // Reach of a pair: -1 to 255, also for a standing pair.
 #[no_mangle]
 pub extern "C" fn seatreg_reach(block: &[u8], giver: u32, receiver: u32, answers: &mut [u8]) -> u32
-    ensures { λ r. ⌜ EntryMade steps (askReach giver receiver) (now (block .entry)) (now (answers .entry)) r (now (block .entry)) (now (answers .exit)) ⌝ }
+    ensures { λ r. ⌜ EntryMade ours (askReach giver receiver) (now (block .entry)) (now (answers .entry)) r (now (block .entry)) (now (answers .exit)) ⌝ }
 {
     if answers.len() != answers::ANSWERS_SIZE {
         return refusal::WRONG_LENGTH;
@@ -103,11 +103,89 @@ pub extern "C" fn seatreg_reach(block: &[u8], giver: u32, receiver: u32, answers
 // 1 if the receiver is the owner or some delegation to it stands, else 0.
 #[no_mangle]
 pub extern "C" fn seatreg_use(block: &[u8], receiver: u32, answers: &mut [u8]) -> u32
-    ensures { λ r. ⌜ EntryMade steps (askUse receiver) (now (block .entry)) (now (answers .entry)) r (now (block .entry)) (now (answers .exit)) ⌝ }
+    ensures { λ r. ⌜ EntryMade ours (askUse receiver) (now (block .entry)) (now (answers .entry)) r (now (block .entry)) (now (answers .exit)) ⌝ }
 {
     if answers.len() != answers::ANSWERS_SIZE {
         return refusal::WRONG_LENGTH;
     }
     let o = register::use_right(block, receiver);
+    answers::hand_out(o, answers)
+}
+
+// Grant by the step table of a text, ours where it is empty.
+#[no_mangle]
+pub extern "C" fn seatreg_grant_table(
+    block: &mut [u8],
+    giver: u32,
+    receiver: u32,
+    weight: u32,
+    need: u32,
+    bar: u32,
+    table: &[u8],
+    answers: &mut [u8],
+) -> u32
+    ensures { λ r. ⌜ EntryMade (given (now (table .entry))) (grant (granted giver receiver weight need bar)) (now (block .entry)) (now (answers .entry)) r (now (block .exit)) (now (answers .exit)) ⌝ }
+{
+    if answers.len() != answers::ANSWERS_SIZE {
+        return refusal::WRONG_LENGTH;
+    }
+    let o = register::grant_table(block, giver, receiver, weight, need, bar, table);
+    answers::hand_out(o, answers)
+}
+
+// Reach, so.
+#[no_mangle]
+pub extern "C" fn seatreg_reach_table(
+    block: &[u8],
+    giver: u32,
+    receiver: u32,
+    table: &[u8],
+    answers: &mut [u8],
+) -> u32
+    ensures { λ r. ⌜ EntryMade (given (now (table .entry))) (askReach giver receiver) (now (block .entry)) (now (answers .entry)) r (now (block .entry)) (now (answers .exit)) ⌝ }
+{
+    if answers.len() != answers::ANSWERS_SIZE {
+        return refusal::WRONG_LENGTH;
+    }
+    let o = register::reach_table(block, giver, receiver, table);
+    answers::hand_out(o, answers)
+}
+
+// Revoke, so.
+#[no_mangle]
+pub extern "C" fn seatreg_revoke_table(
+    block: &mut [u8],
+    by: u32,
+    giver: u32,
+    receiver: u32,
+    table: &[u8],
+    answers: &mut [u8],
+) -> u32
+    ensures { λ r. ⌜ EntryCutMade (given (now (table .entry))) (revoke by giver receiver) (now (block .entry)) (now (answers .entry)) r (now (block .exit)) (now (answers .exit)) ⌝ }
+{
+    if answers.len() != answers::ANSWERS_SIZE {
+        return refusal::WRONG_LENGTH;
+    }
+    let o = register::revoke_table(block, by, giver, receiver, table);
+    answers::hand_out(o, answers)
+}
+
+// Downgrade, so.
+#[no_mangle]
+pub extern "C" fn seatreg_downgrade_table(
+    block: &mut [u8],
+    by: u32,
+    giver: u32,
+    receiver: u32,
+    weight: u32,
+    table: &[u8],
+    answers: &mut [u8],
+) -> u32
+    ensures { λ r. ⌜ EntryCutMade (given (now (table .entry))) (downgrade by giver receiver weight) (now (block .entry)) (now (answers .entry)) r (now (block .exit)) (now (answers .exit)) ⌝ }
+{
+    if answers.len() != answers::ANSWERS_SIZE {
+        return refusal::WRONG_LENGTH;
+    }
+    let o = register::downgrade_table(block, by, giver, receiver, weight, table);
     answers::hand_out(o, answers)
 }

@@ -1,6 +1,6 @@
 -- What is given with a text is fixed by the texts of tables alone, and always keeps the rule. Assumes nothing.
 use mathlib.Core.Path.{_≡_, refl, sym, ap, subst, _∙_}
-use mathlib.Core.Logic.{_≢_}
+use mathlib.Core.Logic.{_≢_, _⊎_, inl, inr}
 use mathlib.Core.Bool.{Bool, true, false, _&&_}
 use mathlib.Core.List.{List, [], _∷_, _++_, map}
 use Prim.Native.Nat.{ℕ, zero, suc, _+_}
@@ -135,3 +135,14 @@ pub given-keeps : (text : List ℕ) → TableRule (given text .steps)
 unfolding given
 given-keeps [] = steps-rule
 given-keeps (b ∷ s) = kept (nextsOf (b ∷ s)) (holds (b ∷ s) (nextsOf (b ∷ s))) (tableTest (nextsOf (b ∷ s))) refl
+
+-- a text passes, or is refused with 7 or with 17
+numbered : (t : List ℤ) (h r : Bool) → let n = verdict h r t .refusal in (n ≡ 0) ⊎ ((n ≡ 7) ⊎ (n ≡ 17))
+numbered t false r = inr (inl refl)
+numbered t true false = inr (inr refl)
+numbered t true true = inl refl
+
+pub given-number : (text : List ℕ) → (given text .refusal ≡ 0) ⊎ ((given text .refusal ≡ 7) ⊎ (given text .refusal ≡ 17))
+unfolding given
+given-number [] = inl refl
+given-number (b ∷ s) = numbered (nextsOf (b ∷ s)) (holds (b ∷ s) (nextsOf (b ∷ s))) (tableTest (nextsOf (b ∷ s)))

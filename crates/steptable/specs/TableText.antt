@@ -47,8 +47,12 @@ pub record Holds (text : List ℕ) (t : List ℤ) : Type 0 where
 
 -- ── what is given with a text ──
 
+-- the text is refused with n, 0 where it passes; the table is t
+abbrev pub lent : ℕ → List ℤ → Given
+lent n t = record { refusal = n; steps = t }
+
 abbrev pub passing : List ℤ → Given
-passing t = record { refusal = 0; steps = t }
+passing t = lent 0 t
 
 -- document 01's own table
 abbrev pub ours : Given
@@ -56,7 +60,7 @@ ours = passing steps
 
 -- no refused call looks at the table
 abbrev pub refusedText : ℕ → Given
-refusedText n = record { refusal = n; steps = steps }
+refusedText n = lent n steps
 
 -- the second value of each line after the first
 unfoldable pub nextsOf : List ℕ → List ℤ

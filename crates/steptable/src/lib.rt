@@ -17,9 +17,6 @@ pub struct Given {
 // The line of names.
 const NAMES_SIZE: usize = 12;
 
-// A table that breaks a rule on its entries. No call refuses with it yet.
-const BAD_TABLE: u32 = 17;
-
 fn no_entry() -> text::Value
     ensures { λ r. ⌜ r ≡ noValue ⌝ }
 {
@@ -126,7 +123,7 @@ pub fn read_table(text: &[u8]) -> Given
     }
     let mut steps = [0i16; 256];
     if !table_of(&entries, &mut steps) {
-        return with_ours(BAD_TABLE);
+        return with_ours(refusal::BAD_TABLE);
     }
     Given { refusal: 0, steps }
 }

@@ -3,7 +3,7 @@ use borrow.Author.Needs.{needs}
 use mathlib.Core.Path.{refl, sym}
 use native.Mathlib.Omega.{arith}
 use lib.Seq.{length-take-le}
-use Rattle.rules.specs.Table.{steps}
+use Rattle.steptable.specs.TableText.{ours}
 use Rattle.chain.proofs.ChainWays.{front-fits, front-made}
 use Rattle.chain.proofs.chain.Statement.{statement}
 use Rattle.chain.proofs.chain.Tie as tie
@@ -18,7 +18,7 @@ mul-end c =
     let b = a .block .now in
     let at-good = c .before .before .before .before .before .before .before .good in
     let at-write-chain = c .before .before .before .write-chain in
-    omega (arith, front-fits steps b (a .giver) (a .receiver) (a .buf .now) (at-write-chain .result) (at-write-chain .last .1 .1 .1 .0) (at-write-chain .ensures), at-write-chain .kept .1 .1 .1 .0, at-good .1 .1 .1 .1 .0 .0)
+    omega (arith, front-fits ours b (a .giver) (a .receiver) (a .buf .now) (at-write-chain .result) (at-write-chain .last .1 .1 .1 .0) (at-write-chain .ensures), at-write-chain .kept .1 .1 .1 .0, at-good .1 .1 .1 .1 .0 .0)
 
 slice-aggregate-result : tie.Need-slice-aggregate-result
 slice-aggregate-result c =
@@ -26,7 +26,7 @@ slice-aggregate-result c =
     let a = s .args in
     let b = a .block .now in
     let at-write-chain = c .before .before .before .before .write-chain in
-    sym (length-take-le _ _ (front-fits steps b (a .giver) (a .receiver) (a .buf .now) (at-write-chain .result) (at-write-chain .last .1 .1 .1 .0) (at-write-chain .ensures)))
+    sym (length-take-le _ _ (front-fits ours b (a .giver) (a .receiver) (a .buf .now) (at-write-chain .result) (at-write-chain .last .1 .1 .1 .0) (at-write-chain .ensures)))
 
 returns : tie.Need-returns
 returns c =
@@ -34,7 +34,7 @@ returns c =
     let a = s .args in
     let b = a .block .now in
     let at-write-chain = c .before .before .before .before .write-chain in
-    (front-made steps b (a .giver) (a .receiver) (a .buf .now) (at-write-chain .result) (at-write-chain .last .1 .1 .1 .0) (at-write-chain .ensures), refl)
+    (front-made ours b (a .giver) (a .receiver) (a .buf .now) (at-write-chain .result) (at-write-chain .last .1 .1 .1 .0) (at-write-chain .ensures), refl)
 
 pub chain-spec : {M : Type 1} → statement M
 chain-spec = tie.close (tie.spec write-chain-requires mul-end slice-aggregate-result returns)

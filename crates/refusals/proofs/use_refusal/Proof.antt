@@ -1,5 +1,6 @@
 -- `refusals::use_refusal` is the whole refusal of the call. Assumes nothing.
 use borrow.Author.Needs.{needs}
+use Rattle.rules.specs.Table.{steps}
 use Rattle.rules.specs.Call.{Call, askUse}
 use Rattle.rules.specs.Refusal.{held}
 use Rattle.refusals.proofs.EarlyTests.{EarlyFound, early-found}
@@ -9,7 +10,7 @@ use Rattle.refusals.proofs.use_refusal.Tie as tie
 abbrev call : tie.Start → Call
 call s = askUse (s .args .receiver)
 
-found : (c : tie.After-early) → let s = c .before .before .before in EarlyFound (s .args .block .now) (call s) (c .early .result)
+found : (c : tie.After-early) → let s = c .before .before .before in EarlyFound 0 (s .args .block .now) (call s) (c .early .result)
 found c = early-found (c .before .use-passed .ensures) (c .early .ensures)
 
 use-passed-requires : tie.Need-use-passed-requires
@@ -19,14 +20,14 @@ early-requires : tie.Need-early-requires
 early-requires c κs = search needs
 
 returns : tie.Need-returns
-returns c t = found (c .before) .refused (c .if1 .taken) t
+returns c = found (c .before) .refused (c .if1 .taken) steps
 
 not-enrolled-requires : tie.Need-not-enrolled-requires
 not-enrolled-requires c κs = found (c .before) .checked (c .if1 .left) .formed
 
 returns-2 : tie.Need-returns-2
 unfolding held
-returns-2 c t = let e = c .before in found (e .before) .late (e .if1 .left) t _ (c .not-enrolled .ensures)
+returns-2 c = let e = c .before in found (e .before) .late (e .if1 .left) steps _ (c .not-enrolled .ensures)
 
 pub use-refusal-spec : {M : Type 1} → statement M
 use-refusal-spec = tie.close (tie.spec use-passed-requires early-requires returns not-enrolled-requires returns-2)

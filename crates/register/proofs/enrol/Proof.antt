@@ -5,9 +5,9 @@ use mir.Facts.{toZ-pos}
 use mir.Syntax.{w32}
 use native.Mathlib.Omega.{arith}
 use Rattle.rules.specs.Call.{Call, enrol}
-use Rattle.rules.specs.Table.{steps}
 use Rattle.block.specs.Bytes.{IsBytes}
 use Rattle.block.proofs.Bytes.{fits-bytes}
+use Rattle.steptable.specs.TableText.{ours}
 use Rattle.refusals.proofs.EarlyTests.{Through, through}
 use Rattle.register.proofs.Enrolling.{enrol-done, enrol-room}
 use Rattle.register.proofs.Made.{made-refused}
@@ -24,8 +24,8 @@ start c = c .before .before .before .before
 bytes : (c : tie.Else1) → IsBytes (start c .args .block .now)
 bytes c = fits-bytes (start c .args .block .now) (c .before .before .before .slice-known .given)
 
-past : (c : tie.Else1) → Through steps (start c .args .block .now) (call (start c))
-past c = through steps (start c .args .block .now) (call (start c)) (sym (c .before .enrol-refusal .ensures steps) ∙ c .if1 .left)
+past : (c : tie.Else1) → Through ours (start c .args .block .now) (call (start c))
+past c = through ours (start c .args .block .now) (call (start c)) (sym (c .before .enrol-refusal .ensures) ∙ c .if1 .left)
 
 -- ── the needs ──
 enrol-refusal-requires : tie.Need-enrol-refusal-requires
@@ -40,7 +40,7 @@ same-length c = search needs
 returns : tie.Need-returns
 returns c =
     let s = c .before .before .before .before .before in
-    rw (c .refused .ensures) (made-refused steps (call s) (s .args .block .now) (c .before .before .enrol-refusal .result) (c .before .before .enrol-refusal .ensures steps) (c .before .if1 .taken))
+    rw (c .refused .ensures) (made-refused ours (call s) (s .args .block .now) (c .before .before .enrol-refusal .result) (c .before .before .enrol-refusal .ensures) (c .before .if1 .taken))
 
 subjects-requires : tie.Need-subjects-requires
 subjects-requires c κs = omega (arith, past (c .before) .early .size)
@@ -52,7 +52,7 @@ add-subject-requires : tie.Need-add-subject-requires
 add-subject-requires c κs =
     let e = c .before .before .before in
     let a = start e .args in
-    (past e .early .formed, enrol-room steps (a .marks) (a .block .now) (bytes e) (past e))
+    (past e .early .formed, enrol-room ours (a .marks) (a .block .now) (bytes e) (past e))
 
 cast-answered : tie.Need-cast-answered
 cast-answered c = search needs
@@ -69,7 +69,7 @@ returns-2 c =
     let k = c .before .before .before .before .before in
     let e = k .before .before in
     let a = start e .args in
-    rw (c .answered .ensures, toZ-pos w32 {n = k .subjects .result} (omega arith), k .subjects .ensures) (enrol-done steps (a .marks) (a .block .now) (bytes e) (past e) (i .last .0) (i .ensures))
+    rw (c .answered .ensures, toZ-pos w32 {n = k .subjects .result} (omega arith), k .subjects .ensures) (enrol-done ours (a .marks) (a .block .now) (bytes e) (past e) (i .last .0) (i .ensures))
 
 pub enrol-spec : {M : Type 1} → statement M
 enrol-spec =

@@ -8,12 +8,12 @@ use mathlib.Core.Path.{_≡_, sym, _∙_}
 use native.Mathlib.Omega.{arith}
 use Rattle.rules.specs.Call.{Call, askUse}
 use Rattle.rules.specs.Pair.{receives}
-use Rattle.rules.specs.Table.{steps}
 use Rattle.block.specs.Block.{countIn}
 use Rattle.block.specs.Bytes.{IsBytes}
 use Rattle.block.specs.Records.{delegationsTo}
 use Rattle.block.proofs.Bytes.{fits-bytes}
 use Rattle.block.proofs.Held.{count-most}
+use Rattle.steptable.specs.TableText.{ours}
 use Rattle.refusals.proofs.EarlyTests.{Through, through}
 use Rattle.register.proofs.Made.{made-refused}
 use Rattle.register.proofs.Using.{use-done}
@@ -31,13 +31,13 @@ start c = c .before .before .before
 bytes : (c : tie.Else1) → IsBytes (start c .args .block .now)
 bytes c = fits-bytes (start c .args .block .now) (c .before .before .shared-slice-known .given)
 
-past : (c : tie.Else1) → Through steps (start c .args .block .now) (call (start c))
-past c = through steps (start c .args .block .now) (call (start c)) (sym (c .before .use-refusal .ensures steps) ∙ c .if1 .left)
+past : (c : tie.Else1) → Through ours (start c .args .block .now) (call (start c))
+past c = through ours (start c .args .block .now) (call (start c)) (sym (c .before .use-refusal .ensures) ∙ c .if1 .left)
 
 -- x answers whether the receiver may use the right
 done : (c : tie.Else1) (x : Bool) → let a = start c .args in x ≡ (eqb (a .receiver) 0 || receives (a .receiver) (delegationsTo (a .block .now) (countIn (a .block .now))))
-    → Made steps (askUse (a .receiver)) (a .block .now) (answeredBy (pos (cond x 1 0)) (pos 0) (pos 0)) (a .block .now)
-done c x q = use-done steps (start c .args .receiver) (start c .args .block .now) (bytes c) (past c) x q
+    → Made ours (askUse (a .receiver)) (a .block .now) (answeredBy (pos (cond x 1 0)) (pos 0) (pos 0)) (a .block .now)
+done c x q = use-done ours (start c .args .receiver) (start c .args .block .now) (bytes c) (past c) x q
 
 -- ── the needs ──
 use-refusal-requires : tie.Need-use-refusal-requires
@@ -49,7 +49,7 @@ refused-requires c κs = search needs
 returns : tie.Need-returns
 returns c =
     let s = c .before .before .before .before in
-    rw (c .refused .ensures) (made-refused steps (call s) (s .args .block .now) (c .before .before .use-refusal .result) (c .before .before .use-refusal .ensures steps) (c .before .if1 .taken))
+    rw (c .refused .ensures) (made-refused ours (call s) (s .args .block .now) (c .before .before .use-refusal .result) (c .before .before .use-refusal .ensures) (c .before .if1 .taken))
 
 answered-requires : tie.Need-answered-requires
 answered-requires c κs = search needs

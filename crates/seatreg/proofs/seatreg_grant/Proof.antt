@@ -1,8 +1,8 @@
 -- `seatreg::seatreg_grant` grants, or refuses, and hands out. Assumes nothing.
 use borrow.Author.Needs.{needs}
-use Rattle.rules.specs.Table.{steps}
 use Rattle.rules.specs.Register.{granted}
 use Rattle.rules.specs.Call.{grant}
+use Rattle.steptable.specs.TableText.{ours}
 use Rattle.seatreg.proofs.Entry.{short, made}
 use Rattle.seatreg.proofs.seatreg_grant.Statement.{statement}
 use Rattle.seatreg.proofs.seatreg_grant.Tie as tie
@@ -10,7 +10,7 @@ use Rattle.seatreg.proofs.seatreg_grant.Tie as tie
 returns : tie.Need-returns
 returns c =
     let a = c .before .before .before .args in
-    short (a .block .now) (a .answers .now) steps (grant (granted (a .giver) (a .receiver) (a .weight) (a .need) (a .bar))) (c .if1 .taken)
+    short (a .block .now) (a .answers .now) ours (grant (granted (a .giver) (a .receiver) (a .weight) (a .need) (a .bar))) (c .if1 .taken)
 
 grant-requires : tie.Need-grant-requires
 grant-requires c κs = search needs
@@ -30,7 +30,7 @@ returns-2 c =
     let m = c .before .before .before .before .before .before in
     let test = m .before .before in
     let a = test .before .before .before .args in
-    made (a .block .now) (a .answers .now) steps (grant (granted (a .giver) (a .receiver) (a .weight) (a .need) (a .bar)))
+    made (a .block .now) (a .answers .now) ours (grant (granted (a .giver) (a .receiver) (a .weight) (a .need) (a .bar)))
     (test .if1 .left) (m .grant .result) (m .grant .last .0) (m .grant .ensures) (h .result) (h .last .1 .0) (h .ensures)
 
 pub seatreg-grant-spec : {M : Type 1} → statement M

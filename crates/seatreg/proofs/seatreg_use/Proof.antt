@@ -1,7 +1,7 @@
 -- `seatreg::seatreg_use` answers whether the right is held, or refuses, and hands out. Assumes nothing.
 use borrow.Author.Needs.{needs}
-use Rattle.rules.specs.Table.{steps}
 use Rattle.rules.specs.Call.{askUse}
+use Rattle.steptable.specs.TableText.{ours}
 use Rattle.seatreg.proofs.Entry.{short, made}
 use Rattle.seatreg.proofs.seatreg_use.Statement.{statement}
 use Rattle.seatreg.proofs.seatreg_use.Tie as tie
@@ -9,7 +9,7 @@ use Rattle.seatreg.proofs.seatreg_use.Tie as tie
 returns : tie.Need-returns
 returns c =
     let a = c .before .before .before .args in
-    short (a .block .now) (a .answers .now) steps (askUse (a .receiver)) (c .if1 .taken)
+    short (a .block .now) (a .answers .now) ours (askUse (a .receiver)) (c .if1 .taken)
 
 use-right-requires : tie.Need-use-right-requires
 use-right-requires c κs = search needs
@@ -26,7 +26,7 @@ returns-2 c =
     let m = c .before .before .before .before in
     let test = m .before in
     let a = test .before .before .before .args in
-    made (a .block .now) (a .answers .now) steps (askUse (a .receiver))
+    made (a .block .now) (a .answers .now) ours (askUse (a .receiver))
     (test .if1 .left) (m .use-right .result) (a .block .now) (m .use-right .ensures) (h .result) (h .last .1 .0) (h .ensures)
 
 pub seatreg-use-spec : {M : Type 1} → statement M
