@@ -29,7 +29,7 @@ alone() {
 }
 
 # The refusals in order and the constants are the second implementation's, the
-# names of the refusals are those of the code.
+# names of the refusals and their order are those of the code.
 header() {
     awk '/Refusals in order:/ { sub(/.*: /, ""); sub(/\..*/, ""); gsub(/,/, ""); order = $0 }
          /^SEATREG_CALL uint32_t seatreg_/ { sub(/.* seatreg_/, ""); sub(/\(.*/, ""); print $0 ": " order; order = "none" }
@@ -37,8 +37,8 @@ header() {
          /^#define SEATREG_[A-Z_]+ / { sub(/SEATREG_/, ""); constants = constants $2 " " $3 "\n" }
          END { printf "%s", constants }' include/seatreg.h >"$out/header" &&
         "$out/compare" header | diff - "$out/header" &&
-        sed -nE 's/^pub const ([A-Z_]+): u32 = ([0-9]+);$/\2 \1/p' crates/rules/src/refusal.rt | sort -n >"$out/refusals" &&
-        sed -nE '/ACCEPTED/d; s/^    SEATREG_([A-Z_]+) = ([0-9]+).*/\2 \1/p' include/seatreg.h | sort -n | diff "$out/refusals" - &&
+        sed -nE 's/^pub const ([A-Z_]+): u32 = ([0-9]+);$/\1 \2/p' crates/rules/src/refusal.rt >"$out/refusals" &&
+        sed -nE '/ACCEPTED/d; s/^    SEATREG_([A-Z_]+) = ([0-9]+).*/\1 \2/p' include/seatreg.h | diff "$out/refusals" - &&
         test -s "$out/refusals"
 }
 

@@ -84,11 +84,20 @@ impl Tables {
 
 /// A table that passes.
 fn passing(random: &mut Random) -> Table {
-    if random.chance(50) {
-        return random_table(random);
+    match random.below(10) {
+        0..=3 => random_table(random),
+        4..=6 => slow(random),
+        _ => falling(random.pick(&[1, 2, 2, 2, 3, 5, 16, 100, 256]), random.chance(75)),
     }
-    let fall = random.pick(&[1, 2, 2, 2, 3, 5, 16, 100, 256]);
-    falling(fall, random.chance(75))
+}
+
+/// Every weight falls by one or two, but 255 keeps 255: cuts take many rounds.
+fn slow(random: &mut Random) -> Table {
+    let mut next = OURS.next;
+    for weight in 1..255 {
+        next[weight] = next[weight - 1].max(weight as i16 - 1 - random.below(2) as i16);
+    }
+    Table { next }
 }
 
 /// Every weight falls by this much, but 255 may keep 255.
