@@ -252,7 +252,8 @@ fn print(row: &Row, a: u64, b: u64) {
 
 /// What the text costs: the call without it, and how much less that takes.
 fn print_difference(with: u64, without: u64) {
-    println!("{:<44} {:>9} ns {:>12} {:>7.2}", "  without the text; ratio of with to without", without, "", with as f64 / without as f64);
+    let (what, ratio) = ("  without the text; ratio of with to without", with as f64 / without as f64);
+    println!("{what:<44} {without:>9} ns {:>12} {ratio:>7.2}", "");
     println!("{:<44} {:>9} ns", "  the difference", with.saturating_sub(without));
 }
 

@@ -117,7 +117,8 @@ impl Report {
 
     fn show(&self, case: &Case) {
         println!("case {}: {:?} differ: {:?}", self.cases, case.differs, case.passed);
-        println!("  block of {} bytes, answers of {}, table: {:?}", case.block_length, case.due_answers.len(), case.text.kind);
+        println!("  block of {} bytes, answers of {}", case.block_length, case.due_answers.len());
+        println!("  the table's text: {:?}", case.text.kind);
         println!("  the entry point returned {}, due {}", case.number, case.due);
     }
 
@@ -145,7 +146,8 @@ impl Report {
         println!("        {broken} that break a rule, {malformed} of another form");
         for (table, cuts) in ["our table", "others"].iter().zip(self.cuts) {
             let Cuts { dropped, lowered, rounds, most } = cuts;
-            println!("cuts under {table}: {dropped} dropped, {lowered} lowered, {rounds} had 3 rounds or more, {most} the most");
+            let counts = format!("{dropped} dropped, {lowered} lowered, {rounds} had 3 rounds or more, {most} the most");
+            println!("cuts under {table}: {counts}");
         }
         println!("wrong lengths: {} of the block, {} of the answers", self.block_lengths, self.answers_lengths);
         match self.missing()[..] {

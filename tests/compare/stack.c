@@ -146,7 +146,11 @@ static void revoke_first(void) { returned = seatreg_revoke(BLOCK, 0, 0, 1, ANSWE
 static void revoke_deep(void) { returned = seatreg_revoke(BLOCK, 0, 1, 12, ANSWERS); }
 static void downgrade_first(void) { returned = seatreg_downgrade(BLOCK, 0, 0, 1, 0, ANSWERS); }
 static void downgrade_deep(void) { returned = seatreg_downgrade(BLOCK, 0, 1, 12, 0, ANSWERS); }
-static void grant_last_table(void) { returned = seatreg_grant_table(BLOCK, 4, 8, SEATREG_UNLIMITED, 0, 0, TABLE, ANSWERS); }
+static void grant_last_table(void)
+{
+    returned = seatreg_grant_table(BLOCK, 4, 8, SEATREG_UNLIMITED, 0, 0, TABLE, ANSWERS);
+}
+
 static void reach_last_table(void) { returned = seatreg_reach_table(BLOCK, 63, 62, TABLE, ANSWERS); }
 static void revoke_first_table(void) { returned = seatreg_revoke_table(BLOCK, 0, 0, 1, TABLE, ANSWERS); }
 static void revoke_deep_table(void) { returned = seatreg_revoke_table(BLOCK, 0, 1, 12, TABLE, ANSWERS); }

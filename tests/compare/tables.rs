@@ -1,6 +1,7 @@
 //! Random step tables as texts: those that pass, that break a rule on their
 //! entries, and that have another form.
 
+use second::callfile::lines;
 use second::random::{random_table, Random};
 use second::refusal::BAD_TABLE;
 use second::table::{table_text, Table, OURS, WEIGHTS};
@@ -109,7 +110,7 @@ fn falling(fall: i16, keeps: bool) -> Table {
     Table { next }
 }
 
-/// Numbers that no weight may fall to, some of them small when cut down to 8, 16 or 32 bits.
+/// Numbers that no weight below 255 may fall to, some of them small when cut down to 8, 16 or 32 bits.
 const TOO_LARGE: [i64; 8] = [255, 256, 32_767, 32_768, 65_535, 65_536, 0x8000_0000, 0xFFFF_FFFF];
 
 /// A text of the form whose entries break a rule.
@@ -175,7 +176,7 @@ const ODD: [&str; 17] = [
 
 /// The text with one of its lines changed.
 fn with_odd_line(random: &mut Random, text: &[u8]) -> Vec<u8> {
-    let mut lines: Vec<String> = text.split_inclusive(|&b| b == b'\n').map(|l| String::from_utf8_lossy(l).into()).collect();
+    let mut lines: Vec<String> = lines(text).map(|line| String::from_utf8_lossy(line).into()).collect();
     let at = random.below(lines.len() as u32) as usize;
     let (odd, line) = (random.pick(&ODD), lines[at].trim_end().to_string());
     let (weight, next) = line.split_once(' ').unwrap_or_default();
