@@ -30,7 +30,7 @@ archive := target/staticlib/libseatreg.a
 program := target/bin/seatcalls
 header := include/seatreg.h
 # The crates below both the archive and the program.
-below := rules block change queue runs search reckoning rounds refusals register demands
+below := text rules steptable block change queue runs search reckoning rounds refusals register demands
 sources = $(shell find $(addprefix crates/,$(1)) -name '*.rt' -o -name '*.antt')
 second := target/second/libsecond.rlib
 generate := target/second/libgenerate.rlib
@@ -59,7 +59,7 @@ run: $(program)
 	@$(program) < examples/listing.calls
 
 # The toolchain links a program only when it proves it, which it does again only without its stamp.
-$(program): crates.txt $(call sources,$(below) text replay callfile seatcalls)
+$(program): crates.txt $(call sources,$(below) replay callfile seatcalls)
 	rm -f target/stamp/seatcalls
 	$(RT) check seatcalls
 
@@ -143,7 +143,7 @@ install: $(archive) $(program)
 	$(INSTALL) -m 644 $(header) "$$dest/include/seatreg.h"; \
 	$(INSTALL) -m 644 $(archive) "$$dest/lib/libseatreg.a"; \
 	$(INSTALL) -m 755 $(program) "$$dest/bin/seatcalls"; \
-	$(INSTALL) -m 644 README.md CHANGELOG.md docs/01-scope.md "$$doc"; \
+	$(INSTALL) -m 644 README.md CHANGELOG.md docs/01-scope.md docs/02-change-requests.md "$$doc"; \
 	printf '%s\n' "prefix=$$(printf '%s' "$$prefix" | sed 's/ /\\ /g')" "$$pc" > "$$dest/lib/pkgconfig/seatreg.pc"; \
 	chmod 644 "$$dest/lib/pkgconfig/seatreg.pc"
 
@@ -151,7 +151,7 @@ install: $(archive) $(program)
 uninstall:
 	@$(paths); set -ex; \
 	rm -f "$$dest/include/seatreg.h" "$$dest/lib/libseatreg.a" "$$dest/lib/pkgconfig/seatreg.pc" "$$dest/bin/seatcalls"; \
-	rm -f "$$doc/README.md" "$$doc/CHANGELOG.md" "$$doc/01-scope.md"; \
+	rm -f "$$doc/README.md" "$$doc/CHANGELOG.md" "$$doc/01-scope.md" "$$doc/02-change-requests.md"; \
 	if [ -d "$$doc" ]; then rmdir --ignore-fail-on-non-empty "$$doc"; fi
 
 # The same bytes from the same commit, whoever makes it, when and in which folder. Where git can't

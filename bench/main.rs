@@ -1,26 +1,31 @@
 //! The archive and the second implementation, measured side by side in one
-//! run: nanoseconds a call, and their ratio.
+//! run: nanoseconds a call, and their ratio. A call that is lent a table's text
+//! is also measured beside the same call without it.
 
 #[path = "../tests/compare/entry.rs"]
 mod entry;
 #[path = "../tests/compare/lent.rs"]
 mod lent;
 
-use entry::entry_call;
+use entry::{entry_call, entry_call_table};
 use generate::{examples, register, rounds, slow, Grant};
 use lent::Lent;
-use second::block::{encode, Delegation, Register, MOST_DELEGATIONS};
+use second::block::{encode, Delegation, Register, BLOCK_LEN, MOST_DELEGATIONS};
 use second::engine::FAST;
-use second::host::host_call;
-use second::refusal::{Call, Passed};
+use second::host::{host_call, host_call_table};
+use second::refusal::{Call, Passed, NOT_WELL_FORMED};
+use second::table::OURS;
 use std::time::Instant;
 
-/// A row: what is measured, the block, the call, and how many rounds it takes.
+/// A row: what is measured, the block, the call, what it returns, how many
+/// rounds it takes, and the table's text that it is lent.
 struct Row {
     what: &'static str,
     block: Vec<u8>,
     call: Passed,
+    refusal: u32,
     rounds: u32,
+    text: Option<Vec<u8>>,
 }
 
 fn main() {
@@ -36,6 +41,7 @@ fn rows() -> Vec<Row> {
     let mut before_last = full.clone();
     let last = before_last.delegations.pop().expect("256 delegations");
     let deep = deep_block();
+    let small = encode(&eight());
     vec![
         row("open", &block, passed(Call::Open, 0, 0, 0, 0), 0),
         row("use, full register", &block, passed(Call::Use, 0, 0, 63, 0), 0),
@@ -46,16 +52,29 @@ fn rows() -> Vec<Row> {
         row("  all limits distinct, one round", &encode(&descending()), passed(Call::Revoke, 0, 0, 5, 0), 1),
         row("  64 delegations, distinct marks", &encode(&ring()), passed(Call::Revoke, 0, 63, 1, 0), 1),
         row("  a star of 63 delegations", &encode(&star()), passed(Call::Revoke, 0, 0, 63, 0), 1),
-        row("  8 subjects, weights 9 and 5", &encode(&eight()), passed(Call::Revoke, 0, 0, 7, 0), 2),
+        row("  8 subjects, weights 9 and 5", &small, passed(Call::Revoke, 0, 0, 7, 0), 2),
         row("downgrade of the example P5", &encode(&p5()), passed(Call::Downgrade, 0, 0, 2, 2), 3),
         row("revoke of 256 rounds, 6 delegations", &encode(&countdown()), passed(Call::Revoke, 0, 0, 3, 0), 256),
         row("revoke of 485 rounds", &deep, rounds::FIRST_CUT, 485),
         row("the slowest cut recorded", slow::SLOW[0].block(), slow::SLOW[0].cut(), slow::SLOW[0].rounds),
+        with_text(row("reach, full register, our text", &block, passed(Call::Reach, 0, 63, 62, 0), 0)),
+        with_text(row("reach, 8 subjects, our text", &small, passed(Call::Reach, 0, 7, 6, 0), 0)),
+        with_text(row("revoke, full register, our text", &block, revoke_of(&last), 1)),
+        with_text(row("revoke, 8 subjects, our text", &small, passed(Call::Revoke, 0, 0, 7, 0), 2)),
+        Row {
+            refusal: NOT_WELL_FORMED,
+            ..with_text(row("reach, refused with 8, our text", &[0; BLOCK_LEN], passed(Call::Reach, 0, 0, 1, 0), 0))
+        },
     ]
 }
 
 fn row(what: &'static str, block: &[u8], call: Passed, rounds: u32) -> Row {
-    Row { what, block: block.to_vec(), call, rounds }
+    Row { what, block: block.to_vec(), call, refusal: 0, rounds, text: None }
+}
+
+/// The same with our table's text.
+fn with_text(row: Row) -> Row {
+    Row { text: Some(OURS.text()), ..row }
 }
 
 fn passed(call: Call, by: u32, giver: u32, receiver: u32, weight: u32) -> Passed {
@@ -163,38 +182,79 @@ fn lent_bytes(content: &[u8]) -> Lent {
 
 const BATCH: usize = 32;
 
-/// The median of many batches, each batch first with the one, then with the
-/// other; both must leave the same bytes and answers.
+/// What a batch of calls took, in nanoseconds a call, and what the first left.
+struct Batch {
+    time: u64,
+    /// The block and the answers.
+    left: (Vec<u8>, Vec<u8>),
+}
+
+/// Through the archive, with the table's text or without one.
+fn archive_batch(row: &Row, size: usize, text: Option<&[u8]>) -> Batch {
+    let mut lent: Vec<Lent> = (0..size).map(|_| lent_bytes(&row.block)).collect();
+    let (mut table, mut answers) = (lent_bytes(text.unwrap_or_default()), lent_bytes(&[0; 12]));
+    let start = Instant::now();
+    for block in &mut lent {
+        let refusal = match text {
+            Some(_) => entry_call_table(&row.call, block, &mut table, &mut answers),
+            None => entry_call(&row.call, block, &mut answers),
+        };
+        assert_eq!(refusal, row.refusal);
+    }
+    let time = start.elapsed().as_nanos() as u64 / size as u64;
+    Batch { time, left: (lent[0].content().to_vec(), answers.content().to_vec()) }
+}
+
+/// By the second implementation.
+fn second_batch(row: &Row, size: usize) -> Batch {
+    let mut blocks = vec![row.block.clone(); size];
+    let (text, mut answers) = (row.text.as_deref().unwrap_or_default(), vec![0; 12]);
+    let start = Instant::now();
+    for block in &mut blocks {
+        assert_eq!(host_call_table(&FAST, &row.call, text, block, &mut answers), row.refusal);
+    }
+    let time = start.elapsed().as_nanos() as u64 / size as u64;
+    Batch { time, left: (blocks.swap_remove(0), answers) }
+}
+
+/// The medians of many batches, each batch first with the one, then with the
+/// other, then, where a text is lent, without it; all must leave the same bytes
+/// and answers.
 fn measure(row: &Row) {
-    let long = row.rounds > 3;
     let repeats = if row.rounds > 256 { 9 } else { 301 };
-    let batch = if long { 1 } else { BATCH };
-    let (mut ours, mut theirs) = (Vec::new(), Vec::new());
+    let size = if row.rounds > 3 { 1 } else { BATCH };
+    let (mut ours, mut theirs, mut without) = (Vec::new(), Vec::new(), Vec::new());
     for _ in 0..repeats {
-        let mut lent: Vec<Lent> = (0..batch).map(|_| lent_bytes(&row.block)).collect();
-        let mut answers = lent_bytes(&[0; 12]);
-        let start = Instant::now();
-        for block in &mut lent {
-            assert_eq!(entry_call(&row.call, block, &mut answers), 0);
-        }
-        ours.push(start.elapsed().as_nanos() as u64 / batch as u64);
-        let mut blocks = vec![row.block.clone(); batch];
-        let mut other = [0; 12];
-        let start = Instant::now();
-        for block in &mut blocks {
-            assert_eq!(host_call(&FAST, &row.call, block, &mut other), 0);
-        }
-        theirs.push(start.elapsed().as_nanos() as u64 / batch as u64);
-        assert_eq!((lent[0].content(), answers.content()), (&blocks[0][..], &other[..]));
-        if row.rounds > 0 {
-            assert_eq!(other[8..], row.rounds.to_le_bytes());
+        let (one, other) = (archive_batch(row, size, row.text.as_deref()), second_batch(row, size));
+        assert_eq!(one.left, other.left);
+        assert!(row.rounds == 0 || one.left.1[8..] == row.rounds.to_le_bytes());
+        ours.push(one.time);
+        theirs.push(other.time);
+        if row.text.is_some() {
+            let plain = archive_batch(row, size, None);
+            assert_eq!(one.left, plain.left);
+            without.push(plain.time);
         }
     }
-    let (a, b) = (median(ours), median(theirs));
+    let time = median(ours);
+    print(row, time, median(theirs));
+    if row.text.is_some() {
+        print_difference(time, median(without));
+    }
+}
+
+fn print(row: &Row, a: u64, b: u64) {
     println!("{:<44} {:>9} ns {:>9} ns {:>7.2}", row.what, a, b, a as f64 / b as f64);
-    if long {
+    if row.rounds > 3 {
         println!("{:<44} {:>9} ns {:>9} ns", "  a round", a / row.rounds as u64, b / row.rounds as u64);
     }
+}
+
+/// What the text costs: the call without it, and how much less that takes.
+fn print_difference(with: u64, without: u64) {
+    let (what, ratio) = ("  without the text; ratio of with to without", with as f64 / without as f64);
+    println!("{what:<44} {without:>9} ns {:>12} {ratio:>7.2}", "");
+    println!("{:<44} {:>9} ns", "  the difference", with.saturating_sub(without));
 }
 
 fn median(mut times: Vec<u64>) -> u64 {

@@ -19,16 +19,33 @@
  * passed may be any 32-bit number: one that is too large is refused and never cut down. The block
  * may hold any bytes: all calls but open refuse one that is not well formed.
  *
+ * THE STEP TABLE has a next for each weight: what a limit falls to at one step, -1 where nothing may
+ * follow. In ours 0 gives -1, each other weight one less, and 255 keeps 255. The calls whose names end
+ * in _table are lent another one, as text; all others use ours.
+ *   - Its form: the line "weight next", then a line of a weight and its next for each of the weights 0
+ *     to 255, in order. Numbers are decimal and at most 4,294,967,295, one space between, no leading
+ *     zero, no sign but that of -1, which only a next may be. Every line ends with byte 10, the last
+ *     one too, and nothing follows it. A text of another form is refused with 7.
+ *   - Its rules: each next is at least -1, not below the next before it, and below its weight, but 255
+ *     may keep 255. A text of this form whose entries break a rule is refused with 17.
+ *   - An empty text, of length 0, stands for our table; the pointer is not null even then.
+ *   - The length is that of the text alone, without a 0 byte that ends a string. It has no limit.
+ *   - The text is only read, and nothing of it is kept.
+ * A register doesn't know its table: lend the same text with every call on it. A cut lowers or drops
+ * all that its own table doesn't support, even what the named delegation didn't hold up.
+ *
  * WHAT THE HOST MUST SEE TO. Nothing can check these, and what a call does without them is undefined.
  *   - Each pointer is valid for the length passed with it until the call returns: `answers` for
- *     reading and writing, `block` too, but for reach and use, which only read it. No alignment is
- *     needed.
- *   - The two buffers of one call lie apart: they share no byte.
+ *     reading and writing, `block` too, but for reach and use, which only read it, `table` for
+ *     reading. No alignment is needed.
+ *   - The buffers of one call, two or three, lie apart: they share no byte.
  *   - No pointer is null, not even with a length of 0. With a length of 0 it need not point to
- *     anything: nothing is read or written through it, and the call returns 1.
+ *     anything: nothing is read or written through it. For a block or answers of length 0 the call
+ *     returns 1; a table's text may have length 0.
  *   - While a call runs, no other thread writes the bytes lent to it, nor reads bytes that it may
  *     write: no two calls at the same time on one block or with one answers buffer. Reach and use
  *     only read the block, so several of these may run on one block, each with answers of its own.
+ *     One table's text may be lent to any number of calls.
  *   - The thread that calls has enough stack: a call needs at most 32 KiB of stack on x86-64. This
  *     is measured; the proofs know of no stack.
  *
@@ -46,8 +63,8 @@
 /* The version of this header and of the archive that comes with it, as text and as a number: 10,000
  * times the first part, plus 100 times the second, plus the third. README.md, 'Versions', says which
  * changes raise which part. */
-#define SEATREG_VERSION "1.0.0"
-#define SEATREG_VERSION_NUMBER 10000
+#define SEATREG_VERSION "1.1.0"
+#define SEATREG_VERSION_NUMBER 10100
 
 /* Where the compiler has such attributes, it warns of a host that doesn't look at what a call
  * returns, and of a pointer that it can see to be null. */
@@ -61,7 +78,7 @@
 extern "C" {
 #endif
 
-/* Lengths of the two buffers: pass these and nothing else. */
+/* Lengths of the block and the answers: pass these and nothing else. */
 #define SEATREG_BLOCK_SIZE 2180
 #define SEATREG_ANSWERS_SIZE 12
 
@@ -80,8 +97,8 @@ extern "C" {
 /* What reach answers where there is no chain. */
 #define SEATREG_NO_REACH (-1)
 
-/* What a call returns; seatreg_refusal_text says each in words. 7 is for the lines of a call file;
- * no function here returns it. */
+/* What a call returns; seatreg_refusal_text says each in words. They are listed in the order in which
+ * they apply. 7 is also for the lines of a call file. */
 enum seatreg_refusal {
     SEATREG_ACCEPTED = 0,
     /* by what was passed */
@@ -92,6 +109,7 @@ enum seatreg_refusal {
     SEATREG_EQUAL_PAIR = 5,
     SEATREG_TO_OWNER = 6,
     SEATREG_MALFORMED = 7,
+    SEATREG_BAD_TABLE = 17,
     /* by what the register holds */
     SEATREG_NOT_WELL_FORMED = 8,
     SEATREG_NOT_ENROLLED = 9,
@@ -104,7 +122,7 @@ enum seatreg_refusal {
     SEATREG_OVERWEIGHT = 16
 };
 
-/* A short text for what a call returned, never null; for a number above 16, "no such refusal". */
+/* A short text for what a call returned, never null; for a number above 17, "no such refusal". */
 static inline const char *seatreg_refusal_text(uint32_t refusal)
 {
     static const char *const texts[] = {
@@ -115,7 +133,7 @@ static inline const char *seatreg_refusal_text(uint32_t refusal)
         "marks, need or bar above 65,535, or need and bar share a mark",
         "giver and receiver are equal",
         "the receiver is the owner",
-        "a line of a call file is malformed",
+        "a table's text is of another form, or a line of a call file is malformed",
         "the block is not well formed",
         "a named subject, by included, isn't enrolled",
         "64 subjects are enrolled",
@@ -124,7 +142,8 @@ static inline const char *seatreg_refusal_text(uint32_t refusal)
         "no delegation for this pair stands",
         "by is neither the giver nor the owner",
         "the new weight isn't below the present one",
-        "no chain from the owner carries the weight"
+        "no chain from the owner carries the weight",
+        "an entry of the step table breaks a rule"
     };
     return refusal < sizeof texts / sizeof texts[0] ? texts[refusal] : "no such refusal";
 }
@@ -194,6 +213,52 @@ SEATREG_CALL uint32_t seatreg_revoke(uint8_t *block, size_t block_len,
 SEATREG_CALL uint32_t seatreg_downgrade(uint8_t *block, size_t block_len,
                                         uint32_t by, uint32_t giver, uint32_t receiver, uint32_t weight,
                                         uint8_t *answers, size_t answers_len);
+
+/* THE CALLS UNDER A STEP TABLE do what those above do, with every chain judged by the lent table.
+ *   table: its text, as THE STEP TABLE says; only read. With table_len 0 it is ours, and the call does
+ *     what the one without a table does. */
+
+/* Grants under a table.
+ *   giver, receiver, weight, need, bar: as for seatreg_grant.
+ *   Refusals in order: 1, 2, 3, 4, 5, 6, 7, 17, 8, 9, 11, 12, 16.
+ *   Answers: how many delegations stand now, 0, 0.
+ *   Block: the delegation is added. */
+SEATREG_CALL uint32_t seatreg_grant_table(uint8_t *block, size_t block_len,
+                                          uint32_t giver, uint32_t receiver, uint32_t weight, uint32_t need, uint32_t bar,
+                                          const uint8_t *table, size_t table_len,
+                                          uint8_t *answers, size_t answers_len);
+
+/* Reach under a table.
+ *   giver, receiver: as for seatreg_reach.
+ *   Refusals in order: 1, 2, 5, 6, 7, 17, 8, 9.
+ *   Answers: 0 to 255, or -1 (SEATREG_NO_REACH) where there is no chain; 0, 0.
+ *   Block: only read. */
+SEATREG_CALL uint32_t seatreg_reach_table(const uint8_t *block, size_t block_len,
+                                          uint32_t giver, uint32_t receiver,
+                                          const uint8_t *table, size_t table_len,
+                                          uint8_t *answers, size_t answers_len);
+
+/* Revoke under a table, a cut.
+ *   by, giver, receiver: as for seatreg_revoke.
+ *   Refusals in order: 1, 2, 5, 6, 7, 17, 8, 9, 13, 14.
+ *   Answers: dropped, lowered, rounds, as for seatreg_revoke. What the table doesn't support is
+ *     counted too, whichever table it was granted under.
+ *   Block: the best remainder under this table. */
+SEATREG_CALL uint32_t seatreg_revoke_table(uint8_t *block, size_t block_len,
+                                           uint32_t by, uint32_t giver, uint32_t receiver,
+                                           const uint8_t *table, size_t table_len,
+                                           uint8_t *answers, size_t answers_len);
+
+/* Downgrade under a table, a cut.
+ *   by, giver, receiver, weight: as for seatreg_downgrade.
+ *   Refusals in order: 1, 2, 3, 5, 6, 7, 17, 8, 9, 13, 14, 15.
+ *   Answers: dropped, lowered, rounds, as for seatreg_downgrade. What the table doesn't support is
+ *     counted too, whichever table it was granted under.
+ *   Block: the best remainder under this table. */
+SEATREG_CALL uint32_t seatreg_downgrade_table(uint8_t *block, size_t block_len,
+                                              uint32_t by, uint32_t giver, uint32_t receiver, uint32_t weight,
+                                              const uint8_t *table, size_t table_len,
+                                              uint8_t *answers, size_t answers_len);
 
 /* One of the three answers: i is 0, 1 or 2. Only after an accepted call do the bytes hold answers. */
 SEATREG_CALL static inline int32_t seatreg_answer(const uint8_t *answers, size_t i)

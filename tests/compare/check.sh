@@ -17,17 +17,19 @@ strict=(-Wall -Wextra -Wpedantic -Wconversion -Werror)
 archive="target/staticlib/libseatreg.a"
 version="$(sed -n 's/^#define SEATREG_VERSION "\(.*\)"$/\1/p' include/seatreg.h)"
 
-# The archive asks for nothing but C's memcpy and memset, and has no data that
-# is written: a call keeps nothing.
+# The archive has the header's functions and no others, asks for nothing but C's
+# memcpy and memset, and has no data that is written: a call keeps nothing.
 alone() {
     nm "$archive" >"$out/symbols" &&
-        grep -q ' T seatreg_open$' "$out/symbols" &&
+        sed -nE 's/^SEATREG_CALL uint32_t (seatreg_[a-z_]+)\(.*/\1/p' include/seatreg.h | sort >"$out/functions" &&
+        sed -nE 's/.* T (seatreg_.*)/\1/p' "$out/symbols" | sort | diff "$out/functions" - &&
+        test "$(wc -l <"$out/functions")" -eq 11 &&
         ! grep -E ' [bBdDsSgGcC] ' "$out/symbols" &&
         ! grep ' U ' "$out/symbols" | grep -vwE 'memcpy|memset'
 }
 
 # The refusals in order and the constants are the second implementation's, the
-# names of the refusals are those of the code.
+# names of the refusals and their order are those of the code.
 header() {
     awk '/Refusals in order:/ { sub(/.*: /, ""); sub(/\..*/, ""); gsub(/,/, ""); order = $0 }
          /^SEATREG_CALL uint32_t seatreg_/ { sub(/.* seatreg_/, ""); sub(/\(.*/, ""); print $0 ": " order; order = "none" }
@@ -60,7 +62,8 @@ helped() {
     done
 }
 
-# The refusals of README.md's table, with their names and texts, are the header's.
+# The refusals of README.md's table, with their names and texts, are the header's,
+# and are in its order.
 texts() {
     cat >"$out/texts.c" <<'END' &&
 #include <stdio.h>
@@ -68,9 +71,9 @@ texts() {
 #include "seatreg.h"
 int main(void)
 {
-    for (uint32_t n = 0; n <= SEATREG_OVERWEIGHT; n++)
+    for (uint32_t n = 0; n <= SEATREG_BAD_TABLE; n++)
         printf("%u %s\n", (unsigned)n, seatreg_refusal_text(n));
-    return strcmp(seatreg_refusal_text(17), "no such refusal") != 0 ||
+    return strcmp(seatreg_refusal_text(SEATREG_BAD_TABLE + 1), "no such refusal") != 0 ||
            strcmp(seatreg_refusal_text(UINT32_MAX), "no such refusal") != 0;
 }
 END
@@ -79,7 +82,7 @@ END
         awk -F ' *[|] *' -v names="$out/readme.names" -v texts="$out/readme.texts" '
             $2 ~ /^[0-9]+$/ { gsub(/[`*]/, ""); print $2, $3 > names; print $2, $4 > texts }' README.md &&
         diff "$out/header.names" "$out/readme.names" &&
-        diff "$out/header.texts" "$out/readme.texts"
+        sort -n "$out/readme.texts" | diff "$out/header.texts" -
 }
 
 # A translation unit whose one function, USER, calls all that the header has.
@@ -87,6 +90,7 @@ user() {
     cat <<'END'
 #include "seatreg.h"
 #include "seatreg.h"
+#define NO_TEXT (const uint8_t *)"", 0
 extern uint32_t USER(uint8_t *block, uint8_t *answers);
 uint32_t USER(uint8_t *block, uint8_t *answers)
 {
@@ -102,6 +106,10 @@ uint32_t USER(uint8_t *block, uint8_t *answers)
     if (d.giver != 0 || d.receiver != 1 || d.weight != 8 || d.need != 1 || d.bar != 2)
         return 2;
     sum += seatreg_revoke(block, SEATREG_BLOCK_SIZE, SEATREG_OWNER, SEATREG_OWNER, 1, answers, SEATREG_ANSWERS_SIZE);
+    sum += seatreg_grant_table(block, SEATREG_BLOCK_SIZE, SEATREG_OWNER, 1, 9, 1, 2, NO_TEXT, answers, SEATREG_ANSWERS_SIZE);
+    sum += seatreg_reach_table(block, SEATREG_BLOCK_SIZE, SEATREG_OWNER, 1, NO_TEXT, answers, SEATREG_ANSWERS_SIZE);
+    sum += seatreg_downgrade_table(block, SEATREG_BLOCK_SIZE, SEATREG_OWNER, SEATREG_OWNER, 1, 8, NO_TEXT, answers, SEATREG_ANSWERS_SIZE);
+    sum += seatreg_revoke_table(block, SEATREG_BLOCK_SIZE, SEATREG_OWNER, SEATREG_OWNER, 1, NO_TEXT, answers, SEATREG_ANSWERS_SIZE);
     return sum + (uint32_t)seatreg_answer(answers, 0) + (uint32_t)(seatreg_refusal_text(sum)[0] != 'a');
 }
 END
@@ -150,16 +158,17 @@ void ignored(uint8_t *block, uint8_t *answers)
 END
         cat >"$out/null.c" <<'END' &&
 #include "seatreg.h"
-uint32_t null(uint8_t *block);
-uint32_t null(uint8_t *block)
+uint32_t null(uint8_t *block, uint8_t *answers);
+uint32_t null(uint8_t *block, uint8_t *answers)
 {
-    return seatreg_open(block, SEATREG_BLOCK_SIZE, 0, 0);
+    return seatreg_open(block, SEATREG_BLOCK_SIZE, 0, 0) +
+           seatreg_reach_table(block, SEATREG_BLOCK_SIZE, 0, 1, 0, 0, answers, SEATREG_ANSWERS_SIZE);
 }
 END
         ! gcc -std=c99 "${strict[@]}" -Iinclude -c "$out/ignored.c" -o "$out/ignored.o" 2>"$out/ignored" &&
         grep -q 'unused-result' "$out/ignored" &&
         ! gcc -std=c99 "${strict[@]}" -Iinclude -c "$out/null.c" -o "$out/null.o" 2>"$out/null" &&
-        grep -q 'nonnull' "$out/null" &&
+        test "$(grep -c 'Werror=nonnull' "$out/null")" -eq 2 &&
         gcc -std=c99 -U__GNUC__ -Iinclude -E "$out/ignored.c" >"$out/plain" &&
         ! grep -E '__attribute__|SEATREG_CALL' "$out/plain" &&
         gcc -std=c99 -U__GNUC__ "${strict[@]}" -Iinclude -c "$out/ignored.c" -o "$out/ignored.o"
@@ -201,18 +210,22 @@ readme() {
         "$out/readme" | diff "$out/readme.expected" -
 }
 
-# Builds and runs an example with what lies under a prefix; the flags come from
+hosts=(host list table)
+
+# Builds and runs the examples with what lies under a prefix; the flags come from
 # pkg-config where there is one, and are those of this version.
-# example NAME PREFIX
-example() {
-    local flags=("-I$2/include" "-L$2/lib" -lseatreg)
+# examples PREFIX
+examples() {
+    local flags=("-I$1/include" "-L$1/lib" -lseatreg)
     if command -v pkg-config; then
-        local -x PKG_CONFIG_PATH="$2/lib/pkgconfig"
+        local -x PKG_CONFIG_PATH="$1/lib/pkgconfig"
         test "$(pkg-config --modversion seatreg)" = "$version" || return 1
         eval "flags=($(pkg-config --cflags --libs seatreg))" || return 1
     fi
-    gcc -std=c99 "${strict[@]}" "examples/$1.c" "${flags[@]}" -o "$out/example" &&
-        "$out/example" | diff "examples/$1.expected" -
+    for host in "${hosts[@]}"; do
+        gcc -std=c99 "${strict[@]}" "examples/$host.c" "${flags[@]}" -o "$out/example" &&
+            "$out/example" | diff "examples/$host.expected" - || return 1
+    done
 }
 
 # What is installed, under a name with spaces, is enough to build the examples;
@@ -220,9 +233,10 @@ example() {
 installed() {
     local folder="$out/what is installed" doc
     rm -rf "$folder" && make -s install PREFIX="$folder/a b" &&
-        example host "$PWD/$folder/a b" && example list "$PWD/$folder/a b" &&
+        examples "$PWD/$folder/a b" &&
         "$folder/a b/bin/seatcalls" <examples/listing.calls | diff <(target/bin/seatcalls <examples/listing.calls) - &&
         doc="$folder/a b/share/doc/seatreg" && cmp README.md "$doc/README.md" && cmp docs/01-scope.md "$doc/01-scope.md" &&
+        cmp docs/02-change-requests.md "$doc/02-change-requests.md" &&
         make -s install PREFIX="/c d" DESTDIR="$PWD/$folder/e f" && test -f "$folder/e f/c d/lib/libseatreg.a" &&
         grep -qxF 'prefix=/c\ d' "$folder/e f/c d/lib/pkgconfig/seatreg.pc" &&
         make -s uninstall PREFIX="$folder/a b" && make -s uninstall PREFIX="/c d" DESTDIR="$PWD/$folder/e f" &&
@@ -239,12 +253,12 @@ tarred() {
         rm -rf "$out/unpacked" && mkdir -p "$out/unpacked" && tar -xf "$out/first.tar" -C "$out/unpacked" &&
         (cd "$out/unpacked/$name" && sha256sum -c SHA256SUMS && test "$(find . -type f | wc -l)" -eq "$(($(wc -l <SHA256SUMS) + 1))") &&
         ! grep -rF "$PWD" "$out/unpacked" &&
-        example host "$PWD/$out/unpacked/$name" && example list "$PWD/$out/unpacked/$name"
+        examples "$PWD/$out/unpacked/$name"
 }
 
 # The hosts in a stack of 64 KiB: no proof bounds the stack of a call.
 small_stack() {
-    for host in host list; do
+    for host in "${hosts[@]}"; do
         (ulimit -s 64 && exec env -i "target/host/$host") | diff "examples/$host.expected" - || return 1
     done
 }
@@ -275,6 +289,7 @@ if command -v g++ >/dev/null; then
     step "header in three units of C++" units c++ g++ -std=c++98
 fi
 if command -v valgrind >/dev/null; then
-    step "host under valgrind" valgrind -q --error-exitcode=1 target/host/host
-    step "host that lists, under valgrind" valgrind -q --error-exitcode=1 target/host/list
+    for host in "${hosts[@]}"; do
+        step "$host.c under valgrind" valgrind -q --error-exitcode=1 "target/host/$host"
+    done
 fi

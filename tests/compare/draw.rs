@@ -1,11 +1,13 @@
 //! Random lists of calls, most of them plausible, on blocks of several kinds.
 
+use crate::tables::{Tables, Text};
 use second::block::*;
 use second::call::blank;
 use second::callfile::{from_values, used_columns, values_of};
 use second::random::{random_masks, random_register, Random, Shape};
-use second::refusal::{Call, Passed};
-use second::search;
+use second::refusal::{takes_table, Call, Passed};
+use second::search::reach_table;
+use second::table::Table;
 
 /// What the calls of a list are made on.
 #[derive(Clone, Copy, Debug, PartialEq, Eq)]
@@ -23,10 +25,18 @@ pub enum Kind {
 pub const KINDS: [Kind; 4] = [Kind::Fresh, Kind::Formed, Kind::Spoiled, Kind::Noise];
 
 const WEIGHTS: [u8; 16] = [0, 1, 1, 2, 2, 3, 3, 4, 5, 9, 100, 200, 254, 255, 255, 255];
+/// With many of these and of conditions, a cut takes many rounds.
+const HEAVY: [u8; 8] = [100, 200, 254, 255, 255, 255, 255, 255];
 /// Marks and masks are made of these bits.
 const MARKS: u16 = 0x8007;
 const NEAR_LENGTHS: [usize; 12] = [0, 1, 3, 4, 131, 132, 2172, 2178, 2179, 2181, 2188, 4360];
 const EDGES: [u32; 12] = [0, 1, 62, 63, 64, 254, 255, 256, 65_535, 65_536, 0x8000_0000, 0xFFFF_FFFF];
+
+/// A call, and the table's text that it is lent.
+pub struct Drawn {
+    pub passed: Passed,
+    pub text: Text,
+}
 
 /// A list of calls while it is drawn.
 pub struct List {
@@ -38,7 +48,10 @@ pub struct List {
     left: u32,
     /// Nearly all calls are grants, until 256 delegations stand.
     fills: bool,
+    /// Most calls are cuts.
+    cuts: bool,
     conditions: u32,
+    tables: Tables,
     /// The register of the last well-formed block.
     register: Register,
 }
@@ -47,11 +60,12 @@ impl List {
     pub fn draw(random: &mut Random) -> List {
         let conditions = random.pick(&[0, 20, 50, 80]);
         match random.below(100) {
-            0..=24 => List::fresh(random, conditions, (2, 8), (20, 90)),
-            25..=34 => List::fresh(random, conditions, (9, 30), (80, 250)),
-            35..=36 => List { fills: true, ..List::fresh(random, conditions, (40, 66), (330, 420)) },
-            37..=81 => List { left: random.range(2, 10), ..List::on_register(random, conditions, Kind::Formed) },
-            82..=96 => List { left: random.range(10, 40), ..List::on_register(random, conditions, Kind::Spoiled) },
+            0..=12 => List::fresh(random, conditions, (2, 8), (20, 90)),
+            13..=17 => List::fresh(random, conditions, (9, 30), (80, 250)),
+            18..=19 => List { fills: true, ..List::fresh(random, conditions, (40, 66), (380, 480)) },
+            20..=59 => List { left: random.range(2, 10), ..List::on_register(random, conditions, Kind::Formed) },
+            60..=79 => List { left: random.range(2, 10), cuts: true, ..List::on_dense(random) },
+            80..=96 => List { left: random.range(10, 40), ..List::on_register(random, conditions, Kind::Spoiled) },
             _ => List { kind: Kind::Noise, opens: false, ..List::fresh(random, conditions, (0, 0), (5, 20)) },
         }
     }
@@ -64,7 +78,9 @@ impl List {
             enrolments: random.range(enrolments.0, enrolments.1),
             left: random.range(calls.0, calls.1),
             fills: false,
+            cuts: false,
             conditions,
+            tables: Tables::draw(random),
             register: Register::fresh(),
         }
     }
@@ -72,9 +88,19 @@ impl List {
     fn on_register(random: &mut Random, conditions: u32, kind: Kind) -> List {
         let subjects = random.pick(&[2, 3, 5, 8, 8, 13, 24, 64]);
         let delegations = random.range(1, (subjects * 4).min(256));
-        let shape = Shape { subjects, delegations, weights: &WEIGHTS, marks: MARKS, conditions };
-        let register = random_register(random, &shape);
-        let list = List::fresh(random, conditions, (0, 0), (1, 1));
+        List::on_shape(random, kind, &Shape { subjects, delegations, weights: &WEIGHTS, marks: MARKS, conditions })
+    }
+
+    /// On a well-formed register in which most pairs stand.
+    fn on_dense(random: &mut Random) -> List {
+        let (subjects, conditions) = (random.pick(&[6, 8, 13]), random.pick(&[80, 100]));
+        let shape = Shape { subjects, delegations: subjects * 6, weights: &HEAVY, marks: MARKS, conditions };
+        List::on_shape(random, Kind::Formed, &shape)
+    }
+
+    fn on_shape(random: &mut Random, kind: Kind, shape: &Shape) -> List {
+        let register = random_register(random, shape);
+        let list = List::fresh(random, shape.conditions, (0, 0), (1, 1));
         List { kind, first: encode(&register), opens: false, register, ..list }
     }
 
@@ -85,10 +111,10 @@ impl List {
 
     /// The next call, or nothing at the end of the list. It gets `block`, which is as the call
     /// before left it.
-    pub fn next(&mut self, random: &mut Random, block: &mut Vec<u8>) -> Option<Passed> {
+    pub fn next(&mut self, random: &mut Random, block: &mut Vec<u8>) -> Option<Drawn> {
         if self.opens {
             self.opens = false;
-            return Some(blank(Call::Open));
+            return Some(Drawn { passed: blank(Call::Open), text: Text::without() });
         }
         if self.left == 0 {
             return None;
@@ -99,8 +125,10 @@ impl List {
             Kind::Noise => *block = any_bytes(random),
         }
         let call = self.call(random);
-        let n = plausible(random, call, &self.register, self.conditions);
-        Some(if random.chance(5) { with_odd_number(random, &n) } else { n })
+        let text = if takes_table(call) { self.tables.next(random) } else { Text::without() };
+        let n = plausible(random, call, &self.register, self.conditions, &text.table);
+        let passed = if random.chance(5) { with_odd_number(random, &n) } else { n };
+        Some(Drawn { passed, text })
     }
 
     fn call(&mut self, random: &mut Random) -> Call {
@@ -112,6 +140,9 @@ impl List {
         let filling = self.fills && self.register.delegations.len() < MOST_DELEGATIONS;
         if filling && random.chance(98) {
             return Call::Grant;
+        }
+        if self.cuts && random.chance(70) {
+            return random.pick(&[Call::Revoke, Call::Downgrade]);
         }
         match random.below(200) {
             0..=79 => Call::Grant,
@@ -176,8 +207,8 @@ pub fn answers_length(random: &mut Random) -> usize {
     second::host::ANSWERS_LEN
 }
 
-/// A call that is likely to be accepted.
-fn plausible(random: &mut Random, call: Call, register: &Register, conditions: u32) -> Passed {
+/// A call that is likely to be accepted under this table.
+fn plausible(random: &mut Random, call: Call, register: &Register, conditions: u32, table: &Table) -> Passed {
     let count = register.marks.len() as u32;
     let (giver, receiver) = match call {
         Call::Grant => open_pair(random, register),
@@ -191,7 +222,8 @@ fn plausible(random: &mut Random, call: Call, register: &Register, conditions: u
         Call::Enrol => Passed { need: random.next() as u32 & MARKS as u32, ..n },
         Call::Grant => {
             let (need, bar) = if random.chance(conditions) { random_masks(random, MARKS) } else { (0, 0) };
-            let weight = grant_weight(random, register, giver, receiver);
+            let reach = reach_table(table, register, giver, receiver);
+            let weight = grant_weight(random, reach.max(0) as u32);
             Passed { giver, receiver, weight, need: need as u32, bar: bar as u32, ..n }
         }
         Call::Revoke => Passed { by, giver, receiver, ..n },
@@ -204,7 +236,7 @@ fn plausible(random: &mut Random, call: Call, register: &Register, conditions: u
 
 /// Any two subjects, the receiver rarely the owner.
 fn any_pair(random: &mut Random, count: u32) -> (u32, u32) {
-    let least = if random.chance(4) { 0 } else { 1 };
+    let least = if random.chance(15) { 0 } else { 1 };
     (random.below(count), random.range(least, count.max(2) - 1))
 }
 
@@ -232,8 +264,7 @@ fn open_pair(random: &mut Random, register: &Register) -> (u32, u32) {
 }
 
 /// Most grants are within the reach, some exactly, some just above it.
-fn grant_weight(random: &mut Random, register: &Register, giver: u32, receiver: u32) -> u32 {
-    let reach = search::reach(register, giver, receiver).max(0) as u32;
+fn grant_weight(random: &mut Random, reach: u32) -> u32 {
     match random.below(10) {
         0 => random.below(256),
         1 => (reach + 1).min(255),

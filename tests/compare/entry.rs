@@ -26,11 +26,53 @@ extern "C" {
         block: *const u8, block_len: usize, receiver: u32,
         answers: *mut u8, answers_len: usize,
     ) -> u32;
+    fn seatreg_grant_table(
+        block: *mut u8, block_len: usize, giver: u32, receiver: u32, weight: u32, need: u32, bar: u32,
+        table: *const u8, table_len: usize, answers: *mut u8, answers_len: usize,
+    ) -> u32;
+    fn seatreg_reach_table(
+        block: *const u8, block_len: usize, giver: u32, receiver: u32,
+        table: *const u8, table_len: usize, answers: *mut u8, answers_len: usize,
+    ) -> u32;
+    fn seatreg_revoke_table(
+        block: *mut u8, block_len: usize, by: u32, giver: u32, receiver: u32,
+        table: *const u8, table_len: usize, answers: *mut u8, answers_len: usize,
+    ) -> u32;
+    fn seatreg_downgrade_table(
+        block: *mut u8, block_len: usize, by: u32, giver: u32, receiver: u32, weight: u32,
+        table: *const u8, table_len: usize, answers: *mut u8, answers_len: usize,
+    ) -> u32;
 }
 
-/// The calls that have an entry point.
-pub const CALLS: [Call; 7] =
-    [Call::Open, Call::Enrol, Call::Grant, Call::Reach, Call::Use, Call::Revoke, Call::Downgrade];
+/// An entry point: a call, lent a table's text or not.
+#[derive(Clone, Copy, PartialEq, Eq)]
+pub struct Entry {
+    pub call: Call,
+    pub table: bool,
+}
+
+/// All of them, in the header's order.
+pub const ENTRIES: [Entry; 11] = [
+    without_table(Call::Open),
+    without_table(Call::Enrol),
+    without_table(Call::Grant),
+    without_table(Call::Reach),
+    without_table(Call::Use),
+    without_table(Call::Revoke),
+    without_table(Call::Downgrade),
+    with_table(Call::Grant),
+    with_table(Call::Reach),
+    with_table(Call::Revoke),
+    with_table(Call::Downgrade),
+];
+
+const fn without_table(call: Call) -> Entry {
+    Entry { call, table: false }
+}
+
+const fn with_table(call: Call) -> Entry {
+    Entry { call, table: true }
+}
 
 /// Makes a call on two lent buffers; answers the number returned.
 pub fn entry_call(n: &Passed, block: &mut Lent, answers: &mut Lent) -> u32 {
@@ -46,6 +88,26 @@ pub fn entry_call(n: &Passed, block: &mut Lent, answers: &mut Lent) -> u32 {
             Call::Reach => seatreg_reach(b, b_len, n.giver, n.receiver, a, a_len),
             Call::Use => seatreg_use(b, b_len, n.receiver, a, a_len),
             Call::Chain => unreachable!("the chain call has no entry point"),
+        }
+    }
+}
+
+/// Makes a call that is lent a table's text; answers the number returned.
+pub fn entry_call_table(n: &Passed, block: &mut Lent, table: &mut Lent, answers: &mut Lent) -> u32 {
+    let (b, b_len, a, a_len) = (block.pointer(), block.len(), answers.pointer(), answers.len());
+    let (t, t_len) = (table.pointer(), table.len());
+    // Each pointer is valid for its length, and the three buffers lie apart.
+    unsafe {
+        match n.call {
+            Call::Grant => {
+                seatreg_grant_table(b, b_len, n.giver, n.receiver, n.weight, n.need, n.bar, t, t_len, a, a_len)
+            }
+            Call::Reach => seatreg_reach_table(b, b_len, n.giver, n.receiver, t, t_len, a, a_len),
+            Call::Revoke => seatreg_revoke_table(b, b_len, n.by, n.giver, n.receiver, t, t_len, a, a_len),
+            Call::Downgrade => {
+                seatreg_downgrade_table(b, b_len, n.by, n.giver, n.receiver, n.weight, t, t_len, a, a_len)
+            }
+            _ => unreachable!("the call takes no table"),
         }
     }
 }

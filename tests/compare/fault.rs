@@ -1,7 +1,7 @@
 //! Faults put in on purpose, on the side of the entry points, to see that the
 //! comparison finds them.
 
-use crate::lent::Lent;
+use crate::buffers::Buffers;
 use crate::readers::{Delegation, Listed};
 use crate::report::{Part, Report};
 use second::refusal::Passed;
@@ -11,8 +11,10 @@ pub struct Fault {
     pub name: &'static str,
     /// What is passed in place of the call.
     pub before: fn(&Passed) -> Passed,
-    /// What happens to the lent block and answers after a call that returned a number.
-    pub after: fn(u32, &mut Lent, &mut Lent),
+    /// What is lent in place of a table's text; nothing calls the entry point that takes none.
+    pub text: fn(&[u8]) -> Option<&[u8]>,
+    /// What happens to the lent buffers after a call that returned a number.
+    pub after: fn(u32, &mut Buffers),
     /// What happens to what the header's readers gave.
     pub listed: fn(&mut Listed),
     /// The parts in which differences are due; no other part has any.
@@ -20,9 +22,16 @@ pub struct Fault {
 }
 
 /// A fault that changes nothing, for those that differ from it.
-const NONE: Fault = Fault { name: "none", before: |n| *n, after: |_, _, _| (), listed: |_| (), parts: &[] };
+pub const NONE: Fault = Fault {
+    name: "none",
+    before: |n| *n,
+    text: |text| Some(text),
+    after: |_, _| (),
+    listed: |_| (),
+    parts: &[],
+};
 
-pub const FAULTS: [Fault; 14] = [
+pub const FAULTS: [Fault; 18] = [
     Fault {
         name: "giver and receiver exchanged",
         before: |n| Passed { giver: n.receiver, receiver: n.giver, ..*n },
@@ -37,25 +46,49 @@ pub const FAULTS: [Fault; 14] = [
     },
     Fault {
         name: "the answers' last byte changed where the call is accepted",
-        after: |number, _, answers| if number == 0 { answers.change_last() },
+        after: |number, lent| if number == 0 { lent.answers.change_last() },
         parts: &[Part::Answers],
         ..NONE
     },
     Fault {
         name: "the answers' last byte changed where the call is refused",
-        after: |number, _, answers| if number != 0 { answers.change_last() },
+        after: |number, lent| if number != 0 { lent.answers.change_last() },
         parts: &[Part::Answers],
         ..NONE
     },
     Fault {
         name: "the block's last byte changed where the call is refused with 1",
-        after: |number, block, _| if number == 1 { block.change_last() },
+        after: |number, lent| if number == 1 { lent.block.change_last() },
         parts: &[Part::Block],
         ..NONE
     },
     Fault {
         name: "a byte written past the answers",
-        after: |_, _, answers| answers.break_guard(),
+        after: |_, lent| lent.answers.break_guard(),
+        parts: &[Part::Guards],
+        ..NONE
+    },
+    Fault {
+        name: "the table's text left out",
+        text: |_| None,
+        parts: &[Part::Number, Part::Block, Part::Answers],
+        ..NONE
+    },
+    Fault {
+        name: "the table's text lent without its last byte",
+        text: |text| Some(&text[..text.len().max(1) - 1]),
+        parts: &[Part::Number, Part::Block, Part::Answers],
+        ..NONE
+    },
+    Fault {
+        name: "the table's last byte changed",
+        after: |_, lent| lent.table.change_last(),
+        parts: &[Part::Table],
+        ..NONE
+    },
+    Fault {
+        name: "a byte written past the table's text",
+        after: |_, lent| lent.table.break_guard(),
         parts: &[Part::Guards],
         ..NONE
     },

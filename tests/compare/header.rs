@@ -1,16 +1,16 @@
 //! What include/seatreg.h has to say, by the second implementation.
 
-use crate::entry::CALLS;
+use crate::entry::ENTRIES;
 use crate::report::{name, refusals};
 use second::block::{BLOCK_LEN, MOST_DELEGATIONS, MOST_SUBJECTS};
 use second::callfile::joined;
 use second::chain::{NONE, START};
 use second::host::ANSWERS_LEN;
 
-/// The refusals of each call in their order, then the constants.
+/// The refusals of each entry point in their order, then the constants.
 pub fn print() -> bool {
-    for call in CALLS {
-        println!("{}: {}", name(call), joined(&refusals(call)));
+    for entry in ENTRIES {
+        println!("{}: {}", name(entry), joined(&refusals(entry)));
     }
     println!("BLOCK_SIZE {BLOCK_LEN}");
     println!("ANSWERS_SIZE {ANSWERS_LEN}");

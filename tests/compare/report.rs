@@ -1,10 +1,11 @@
 //! What a comparison counts and prints.
 
 use crate::draw::{Kind, KINDS};
-use crate::entry::CALLS;
+use crate::entry::{Entry, ENTRIES};
+use crate::tables::{Text, TextKind, TEXT_KINDS};
 use second::block::BLOCK_LEN;
 use second::host::ANSWERS_LEN;
-use second::refusal::{tests, Call, Passed, NOT_WELL_FORMED, WRONG_LENGTH};
+use second::refusal::{takes_table, tests, Call, Passed, NOT_WELL_FORMED, WRONG_LENGTH};
 use std::collections::BTreeMap;
 
 /// How many differences are printed.
@@ -16,15 +17,17 @@ pub enum Part {
     Number,
     Block,
     Answers,
+    Table,
     Guards,
     Listed,
 }
 
-pub const PARTS: [Part; 5] = [Part::Number, Part::Block, Part::Answers, Part::Guards, Part::Listed];
+pub const PARTS: [Part; 6] = [Part::Number, Part::Block, Part::Answers, Part::Table, Part::Guards, Part::Listed];
 
 /// A call that was made on both sides.
 pub struct Case {
     pub passed: Passed,
+    pub text: Text,
     pub block_length: usize,
     /// What the entry point returned, and what the second implementation did.
     pub number: u32,
@@ -41,14 +44,17 @@ pub struct Report {
     of_kind: [u64; KINDS.len()],
     block_lengths: u64,
     answers_lengths: u64,
-    cuts: Cuts,
-    /// How often a call, by its place in `CALLS`, returned a number.
+    /// What the calls that take a table were lent.
+    of_text: [u64; TEXT_KINDS.len()],
+    /// Under our table, and under others.
+    cuts: [Cuts; 2],
+    /// How often an entry point, by its place in `ENTRIES`, returned a number.
     returned: BTreeMap<(usize, u32), u64>,
     shows: bool,
 }
 
 /// What the accepted cuts did.
-#[derive(Default)]
+#[derive(Clone, Copy, Default)]
 struct Cuts {
     /// How many dropped something, lowered something, had three rounds or more.
     dropped: u64,
@@ -76,9 +82,10 @@ impl Report {
             different: 0,
             in_part: [0; PARTS.len()],
             of_kind: [0; KINDS.len()],
-            cuts: Cuts::default(),
             block_lengths: 0,
             answers_lengths: 0,
+            of_text: [0; TEXT_KINDS.len()],
+            cuts: [Cuts::default(); 2],
             returned: BTreeMap::new(),
             shows,
         }
@@ -89,11 +96,14 @@ impl Report {
         self.of_kind[kind as usize] += 1;
         self.block_lengths += (case.block_length != BLOCK_LEN) as u64;
         self.answers_lengths += (case.due_answers.len() != ANSWERS_LEN) as u64;
-        if let Some(place) = CALLS.iter().position(|&call| call == case.passed.call) {
+        let (call, text) = (case.passed.call, case.text.kind);
+        self.of_text[text as usize] += takes_table(call) as u64;
+        let entry = Entry { call, table: text != TextKind::Without };
+        if let Some(place) = ENTRIES.iter().position(|&other| other == entry) {
             *self.returned.entry((place, case.due)).or_insert(0) += 1;
         }
-        if matches!(case.passed.call, Call::Revoke | Call::Downgrade) && case.due == 0 {
-            self.cuts.add(&case.due_answers);
+        if matches!(call, Call::Revoke | Call::Downgrade) && case.due == 0 {
+            self.cuts[(text == TextKind::Other) as usize].add(&case.due_answers);
         }
         if case.differs.is_empty() {
             return;
@@ -108,6 +118,7 @@ impl Report {
     fn show(&self, case: &Case) {
         println!("case {}: {:?} differ: {:?}", self.cases, case.differs, case.passed);
         println!("  block of {} bytes, answers of {}", case.block_length, case.due_answers.len());
+        println!("  the table's text: {:?}", case.text.kind);
         println!("  the entry point returned {}, due {}", case.number, case.due);
     }
 
@@ -123,15 +134,21 @@ impl Report {
 
     pub fn print(&self, seed: u64) {
         println!("call, and how often it returned which number:");
-        for (place, call) in CALLS.iter().enumerate() {
-            let of_call = self.returned.range((place, 0)..(place + 1, 0));
-            let counts: Vec<String> = of_call.map(|((_, number), count)| format!("{number}: {count}")).collect();
-            println!("  {:9}  {}", name(*call), counts.join(", "));
+        for (place, entry) in ENTRIES.iter().enumerate() {
+            let of_entry = self.returned.range((place, 0)..(place + 1, 0));
+            let counts: Vec<String> = of_entry.map(|((_, number), count)| format!("{number}: {count}")).collect();
+            println!("  {:15}  {}", name(*entry), counts.join(", "));
         }
         let [fresh, formed, spoiled, noise] = self.of_kind;
         println!("blocks: {fresh} grown from fresh, {formed} well formed, {spoiled} spoiled, {noise} of any bytes");
-        let Cuts { dropped, lowered, rounds, most } = self.cuts;
-        println!("cuts: {dropped} dropped, {lowered} lowered, {rounds} had 3 rounds or more, {most} the most");
+        let [without, empty, ours, other, broken, malformed] = self.of_text;
+        println!("tables: {without} without a text, {empty} empty, {ours} ours, {other} others that pass");
+        println!("        {broken} that break a rule, {malformed} of another form");
+        for (table, cuts) in ["our table", "others"].iter().zip(self.cuts) {
+            let Cuts { dropped, lowered, rounds, most } = cuts;
+            let counts = format!("{dropped} dropped, {lowered} lowered, {rounds} had 3 rounds or more, {most} the most");
+            println!("cuts under {table}: {counts}");
+        }
         println!("wrong lengths: {} of the block, {} of the answers", self.block_lengths, self.answers_lengths);
         match self.missing()[..] {
             [] => println!("every refusal that a call can return was returned"),
@@ -143,26 +160,30 @@ impl Report {
     /// The numbers that a call can return and did not.
     fn missing(&self) -> Vec<String> {
         let mut missing = Vec::new();
-        for (place, &call) in CALLS.iter().enumerate() {
-            let mut numbers = refusals(call);
+        for (place, &entry) in ENTRIES.iter().enumerate() {
+            let mut numbers = refusals(entry);
             numbers.push(0);
             numbers.retain(|&number| !self.returned.contains_key(&(place, number)));
-            missing.extend(numbers.iter().map(|number| format!("{} {number}", name(call))));
+            missing.extend(numbers.iter().map(|number| format!("{} {number}", name(entry))));
         }
         missing
     }
 }
 
-pub fn name(call: Call) -> String {
-    format!("{call:?}").to_lowercase()
+pub fn name(entry: Entry) -> String {
+    let call = format!("{:?}", entry.call).to_lowercase();
+    if entry.table { call + "_table" } else { call }
 }
 
-/// The refusals of a call, in their order.
-pub fn refusals(call: Call) -> Vec<u32> {
-    let tests = tests(call);
+/// The refusals of an entry point, in their order.
+pub fn refusals(entry: Entry) -> Vec<u32> {
+    let tests = tests(entry.call);
     let mut numbers = vec![WRONG_LENGTH];
     numbers.extend(tests.passed.iter().map(|(number, _)| *number));
-    if call != Call::Open {
+    if entry.table {
+        numbers.extend(tests.table);
+    }
+    if entry.call != Call::Open {
         numbers.push(NOT_WELL_FORMED);
     }
     numbers.extend(tests.held.iter().map(|(number, _)| *number));

@@ -21,7 +21,10 @@ enum { ROOM = 16 * 1024, STACK = 128 * 1024, PAGE = 4096 };
 
 static uint8_t block[SEATREG_BLOCK_SIZE];
 static uint8_t answers[SEATREG_ANSWERS_SIZE];
+static char table[12 + 256 * 8 + 1]; /* our table's text, lent to the calls that take one */
+static size_t table_len;
 #define BLOCK block, sizeof block
+#define TABLE (const uint8_t *)table, table_len
 #define ANSWERS answers, sizeof answers
 
 /* Ends the program unless this is so. */
@@ -31,6 +34,19 @@ static void check(int holds, const char *what, const char *problem)
         return;
     fprintf(stderr, "stack: %s: %s\n", what, problem);
     exit(EXIT_FAILURE);
+}
+
+static void add_line(int weight, int next)
+{
+    table_len += (size_t)snprintf(table + table_len, sizeof table - table_len, "%d %d\n", weight, next);
+}
+
+static void write_table(void)
+{
+    table_len = (size_t)snprintf(table, sizeof table, "weight next\n");
+    for (int weight = 0; weight < SEATREG_UNLIMITED; weight++)
+        add_line(weight, weight - 1);
+    add_line(SEATREG_UNLIMITED, SEATREG_UNLIMITED);
 }
 
 static void open_register(void)
@@ -130,25 +146,47 @@ static void revoke_first(void) { returned = seatreg_revoke(BLOCK, 0, 0, 1, ANSWE
 static void revoke_deep(void) { returned = seatreg_revoke(BLOCK, 0, 1, 12, ANSWERS); }
 static void downgrade_first(void) { returned = seatreg_downgrade(BLOCK, 0, 0, 1, 0, ANSWERS); }
 static void downgrade_deep(void) { returned = seatreg_downgrade(BLOCK, 0, 1, 12, 0, ANSWERS); }
+static void grant_last_table(void)
+{
+    returned = seatreg_grant_table(BLOCK, 4, 8, SEATREG_UNLIMITED, 0, 0, TABLE, ANSWERS);
+}
 
-/* A row: the register, the call, and the rounds it must answer, 0 if it is no cut. */
+static void reach_last_table(void) { returned = seatreg_reach_table(BLOCK, 63, 62, TABLE, ANSWERS); }
+static void revoke_first_table(void) { returned = seatreg_revoke_table(BLOCK, 0, 0, 1, TABLE, ANSWERS); }
+static void revoke_deep_table(void) { returned = seatreg_revoke_table(BLOCK, 0, 1, 12, TABLE, ANSWERS); }
+static void downgrade_first_table(void) { returned = seatreg_downgrade_table(BLOCK, 0, 0, 1, 0, TABLE, ANSWERS); }
+static void downgrade_deep_table(void) { returned = seatreg_downgrade_table(BLOCK, 0, 1, 12, 0, TABLE, ANSWERS); }
+
+/* A row: the register, the call, the rounds it must answer, 0 if it is no cut, and what it must return:
+ * for 7 the table's text is lent without its last byte. */
 struct row {
     const char *what;
     void (*build)(void);
     void (*make)(void);
     int32_t rounds;
+    uint32_t refusal;
 };
 
 static const struct row rows[] = {
-    {"open", build_full, open_anew, 0},
-    {"enrol, the 64th subject", build_before_last_subject, enrol_last, 0},
-    {"grant, the 256th delegation", build_before_last_grant, grant_last, 0},
-    {"reach, full register", build_full, reach_last, 0},
-    {"use, full register", build_full, use_last, 0},
-    {"revoke, full register", build_full, revoke_first, 1},
-    {"revoke, 485 rounds", build_deep, revoke_deep, 485},
-    {"downgrade, full register", build_full, downgrade_first, 1},
-    {"downgrade, 485 rounds", build_deep, downgrade_deep, 485},
+    {"open", build_full, open_anew, 0, 0},
+    {"enrol, the 64th subject", build_before_last_subject, enrol_last, 0, 0},
+    {"grant, the 256th delegation", build_before_last_grant, grant_last, 0, 0},
+    {"reach, full register", build_full, reach_last, 0, 0},
+    {"use, full register", build_full, use_last, 0, 0},
+    {"revoke, full register", build_full, revoke_first, 1, 0},
+    {"revoke, 485 rounds", build_deep, revoke_deep, 485, 0},
+    {"downgrade, full register", build_full, downgrade_first, 1, 0},
+    {"downgrade, 485 rounds", build_deep, downgrade_deep, 485, 0},
+    {"grant with a table", build_before_last_grant, grant_last_table, 0, 0},
+    {"  refused with 7", build_before_last_grant, grant_last_table, 0, SEATREG_MALFORMED},
+    {"reach with a table", build_full, reach_last_table, 0, 0},
+    {"  refused with 7", build_full, reach_last_table, 0, SEATREG_MALFORMED},
+    {"revoke with a table", build_full, revoke_first_table, 1, 0},
+    {"  485 rounds", build_deep, revoke_deep_table, 485, 0},
+    {"  refused with 7", build_full, revoke_first_table, 0, SEATREG_MALFORMED},
+    {"downgrade with a table", build_full, downgrade_first_table, 1, 0},
+    {"  485 rounds", build_deep, downgrade_deep_table, 485, 0},
+    {"  refused with 7", build_full, downgrade_first_table, 0, SEATREG_MALFORMED},
 };
 
 /* The thread: makes a call below ROOM bytes of its own. */
@@ -173,12 +211,13 @@ static size_t depth(const struct row *row, int value)
     check(stack != NULL || posix_memalign(&stack, PAGE, STACK) == 0, "posix_memalign", "failed");
     memset(stack, value, STACK);
     row->build();
+    table_len = strlen(table) - (row->refusal == SEATREG_MALFORMED);
     check(pthread_attr_init(&attributes) == 0, "pthread_attr_init", "failed");
     check(pthread_attr_setstack(&attributes, stack, STACK) == 0, "pthread_attr_setstack", "failed");
     check(pthread_create(&id, &attributes, thread, (void *)row) == 0, "pthread_create", "failed");
     check(pthread_join(id, NULL) == 0, "pthread_join", "failed");
     pthread_attr_destroy(&attributes);
-    check(returned == SEATREG_ACCEPTED, row->what, "refused");
+    check(returned == row->refusal, row->what, "another refusal than expected");
     check(row->rounds == 0 || seatreg_answer(answers, 2) == row->rounds, row->what, "other rounds than expected");
     while (free_bytes < STACK && ((uint8_t *)stack)[free_bytes] == value)
         free_bytes++;
@@ -195,9 +234,10 @@ static size_t deepest(const struct row *row)
 
 int main(void)
 {
-    const struct row none = {"nothing", open_register, nothing, 0};
+    const struct row none = {"nothing", open_register, nothing, 0, 0};
     size_t empty = deepest(&none);
 
+    write_table();
     check(empty < 2 * ROOM, none.what, "the thread needs more than its room");
     printf("%-32s %s\n", "call", "bytes of stack");
     for (size_t i = 0; i < sizeof rows / sizeof rows[0]; i++) {
