@@ -9,11 +9,14 @@ use lib.ListN.{length}
 use mir.Syntax.{w32, w64}
 use mir.Val.{SFits, ofZ, toZ}
 use mir.Facts.{toZ-ofZ, toZ-pos, sfits-widen}
-use Rattle.rules.specs.Table.{steps}
 use Rattle.rules.specs.Call.{Call}
-use Rattle.register.specs.CallOn.{Result}
+use Rattle.steptable.specs.TableText.{ours}
+use Rattle.steptable.specs.declared.Given.{Given}
+use Rattle.register.specs.CallOn.{Result, callOn}
 use Rattle.register.specs.Made.{Made}
 use Rattle.register.specs.declared.Answer.{Answer}
+use Rattle.demands.specs.History.{lentTo}
+use Rattle.demands.proofs.History.{lent-ours}
 use Rattle.text.specs.Text.{line, most, Allowed, AllAllowed}
 use Rattle.text.specs.Write.{Room, Written}
 use Rattle.text.proofs.Sizes.{line-short}
@@ -51,8 +54,9 @@ module _ (o : Answer) (a : o .refusal ≤ most) (f : SFits w32 (o .first)) (g : 
   pub answer-room : (at : ℕ) (out : List ℕ) → at + 48 ≤ length out → AllAllowed true (machine o) × Room at (line (machine o)) out
   answer-room at out l = subst (λ (s : List ℤ). AllAllowed true s × Room at (line s) out) (sym machine-is) (given-allowed, line-room at (given o) out given-allowed (omega arith))
 
-  pub answered : (c : Call) (b out : List ℕ) (at n : ℕ) (b′ out′ : List ℕ) → Made steps c b o b′ → Written at (line (machine o)) out n out′ → Answered c b out at n b′ out′
-  answered c b out at n b′ out′ m w =
+  pub answered : (c : Call) (b out : List ℕ) (at n : ℕ) (b′ out′ : List ℕ) → Made (lentTo c []) c b o b′ → Written at (line (machine o)) out n out′ → Answered c b out at n b′ out′
+  answered c b out at n b′ out′ lent w =
+      let m : Made ours c b o b′ = lent ∙ ap (λ (g : Given). callOn g b c) (lent-ours c) in
       let v : Written at (line (given o)) out n out′ = subst (λ (s : List ℤ). Written at (line s) out n out′) machine-is w in
       record {
         block = ap (λ (x : Result). x .bytes) m;

@@ -8,15 +8,17 @@ use native.Mathlib.Omega.{arith}
 use lib.Dec.{T, leb, leb→le, lit≤}
 use lib.IntN.{ℤ, pos, negsuc}
 use lib.ListN.{length, length-append}
-use Rattle.rules.specs.Table.{steps}
 use Rattle.rules.specs.Call.{fresh}
 use Rattle.rules.specs.Trace.{traceFrom}
 use Rattle.rules.specs.Examples.{Line, Shown, P1}
 use Rattle.rules.proofs.Lists.{T-left, T-right}
 use Rattle.block.specs.Block.{encode}
+use Rattle.steptable.specs.TableText.{ours}
+use Rattle.steptable.specs.declared.Given.{Given}
 use Rattle.register.specs.CallOn.{callOn}
-use Rattle.demands.specs.History.{bytesLeft}
+use Rattle.demands.specs.History.{asks, askedOn, bytesLeft}
 use Rattle.demands.specs.Examples.{lineOn}
+use Rattle.demands.proofs.History.{lent-ours}
 use Rattle.demands.proofs.ByteExamples.{examples-on-bytes}
 use Rattle.text.specs.Text.{digits, line, most, AllAllowed}
 use Rattle.text.proofs.Injective.{line-inj}
@@ -33,10 +35,16 @@ shown : List Line → List ℕ
 shown [] = []
 shown (l ∷ ls) = line (pos (l .refusal) ∷ l .first ∷ l .second ∷ l .third ∷ []) ++ shown ls
 
-answers-shown : (b : List ℕ) (cs : List FileCall) → answerLines b cs ≡ shown (map lineOn (traceFrom (callOn steps) bytesLeft b (map meant cs)))
+-- a file's calls are lent no text
+abbrev traced : List ℕ → List FileCall → List Line
+traced b cs = map lineOn (traceFrom askedOn bytesLeft b (map (asks []) (map meant cs)))
+
+answers-shown : (b : List ℕ) (cs : List FileCall) → answerLines b cs ≡ shown (traced b cs)
 unfolding shown
 answers-shown b [] = refl
-answers-shown b (c ∷ cs) = ap (λ (s : List ℕ). answerLine (callOn steps b (meant c)) ++ s) (answers-shown (callOn steps b (meant c) .bytes) cs)
+answers-shown b (c ∷ cs) =
+    ap (λ (s : List ℕ). answerLine (callOn ours b (meant c)) ++ s) (answers-shown (callOn ours b (meant c) .bytes) cs)
+    ∙ ap (λ (g : Given). answerLine (callOn g b (meant c)) ++ shown (traced (callOn g b (meant c) .bytes) cs)) (sym (lent-ours (meant c)))
 
 firstPrinted : List Shown → List Line
 firstPrinted [] = []

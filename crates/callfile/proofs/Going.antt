@@ -9,8 +9,8 @@ use lib.IntN.{pos}
 use lib.ListN.{length, drop, length-append, length-drop, drop-of-length-le}
 use lib.Seq.{drop-cons}
 use borrow.Author.Tests.{ltb-true, ltb-false}
-use Rattle.rules.specs.Table.{steps}
 use Rattle.rules.specs.Call.{Call}
+use Rattle.steptable.specs.TableText.{ours}
 use Rattle.register.specs.CallOn.{callOn}
 use Rattle.text.specs.Text.{line, AllAllowed}
 use Rattle.text.specs.Write.{Room, Written}
@@ -26,22 +26,22 @@ use Rattle.callfile.proofs.Lines.{seven-values}
 -- the block that calls leave
 abbrev leftBy : List ℕ → List FileCall → List ℕ
 leftBy b [] = b
-leftBy b (c ∷ cs) = leftBy (callOn steps b (meant c) .bytes) cs
+leftBy b (c ∷ cs) = leftBy (callOn ours b (meant c) .bytes) cs
 
 -- ── one call more ──
 lines-join : (cs : List FileCall) (c : FileCall) → callLines (cs ++ (c ∷ [])) ≡ callLines cs ++ callLine c
 lines-join [] c = append-nil (callLine c)
 lines-join (d ∷ cs) c = ap (λ (s : List ℕ). callLine d ++ s) (lines-join cs c) ∙ sym (append-assoc (callLine d) (callLines cs) (callLine c))
 
-left-join : (b : List ℕ) (cs : List FileCall) (c : FileCall) → leftBy b (cs ++ (c ∷ [])) ≡ callOn steps (leftBy b cs) (meant c) .bytes
+left-join : (b : List ℕ) (cs : List FileCall) (c : FileCall) → leftBy b (cs ++ (c ∷ [])) ≡ callOn ours (leftBy b cs) (meant c) .bytes
 left-join b [] c = refl
-left-join b (d ∷ cs) c = left-join (callOn steps b (meant d) .bytes) cs c
+left-join b (d ∷ cs) c = left-join (callOn ours b (meant d) .bytes) cs c
 
-answers-join : (b : List ℕ) (cs : List FileCall) (c : FileCall) → answerLines b (cs ++ (c ∷ [])) ≡ answerLines b cs ++ answerLine (callOn steps (leftBy b cs) (meant c))
-answers-join b [] c = append-nil (answerLine (callOn steps b (meant c)))
+answers-join : (b : List ℕ) (cs : List FileCall) (c : FileCall) → answerLines b (cs ++ (c ∷ [])) ≡ answerLines b cs ++ answerLine (callOn ours (leftBy b cs) (meant c))
+answers-join b [] c = append-nil (answerLine (callOn ours b (meant c)))
 answers-join b (d ∷ cs) c =
-    ap (λ (s : List ℕ). answerLine (callOn steps b (meant d)) ++ s) (answers-join (callOn steps b (meant d) .bytes) cs c)
-    ∙ sym (append-assoc (answerLine (callOn steps b (meant d))) (answerLines (callOn steps b (meant d) .bytes) cs) (answerLine (callOn steps (leftBy (callOn steps b (meant d) .bytes) cs) (meant c))))
+    ap (λ (s : List ℕ). answerLine (callOn ours b (meant d)) ++ s) (answers-join (callOn ours b (meant d) .bytes) cs c)
+    ∙ sym (append-assoc (answerLine (callOn ours b (meant d))) (answerLines (callOn ours b (meant d) .bytes) cs) (answerLine (callOn ours (leftBy (callOn ours b (meant d) .bytes) cs) (meant c))))
 
 ranges-join : (cs : List FileCall) (c : FileCall) → AllWritable cs → Writable c → AllWritable (cs ++ (c ∷ []))
 ranges-join [] c a h = (h, tt)
@@ -121,16 +121,16 @@ module _ (text : List ℕ) (at : ℕ) (b out : List ℕ) (to : ℕ) (h : Asked t
           let d = callOfRow r in
           let w = subst (λ (k : Call). Answered k b′ out′ end n b″ out″) (sym (c .known f .1)) made in
           let q = c .read f in
-          let v : Written end (answerLine (callOn steps (leftBy b (g .calls)) (meant d))) out′ n out″ = subst (λ (s : List ℕ). Written end (answerLine (callOn steps s (meant d))) out′ n out″) (g .block) (w .line) in
-          let m : Room to (answerLines b (g .calls) ++ answerLine (callOn steps (leftBy b (g .calls)) (meant d))) out =
-          omega (arith, length-append (answerLines b (g .calls)) (answerLine (callOn steps (leftBy b (g .calls)) (meant d))), g .answers .next, v .next, w .short, g .room, h .2, h .4, line-inside .0, line-inside .1) in
+          let v : Written end (answerLine (callOn ours (leftBy b (g .calls)) (meant d))) out′ n out″ = subst (λ (s : List ℕ). Written end (answerLine (callOn ours s (meant d))) out′ n out″) (g .block) (w .line) in
+          let m : Room to (answerLines b (g .calls) ++ answerLine (callOn ours (leftBy b (g .calls)) (meant d))) out =
+          omega (arith, length-append (answerLines b (g .calls)) (answerLine (callOn ours (leftBy b (g .calls)) (meant d))), g .answers .next, v .next, w .short, g .room, h .2, h .4, line-inside .0, line-inside .1) in
           record {
             calls = g .calls ++ (d ∷ []);
             ranges = ranges-join (g .calls) d (g .ranges) (q .0);
             lines = g .lines ∙ ap (λ (s : List ℕ). callLines (g .calls) ++ s) (q .2) ∙ sym (append-assoc (callLines (g .calls)) (callLine d) (drop (r .next) text)) ∙ ap (λ (s : List ℕ). s ++ drop (r .next) text) (sym (lines-join (g .calls) d));
             count = omega (arith, g .count, length-append (g .calls) (d ∷ []));
-            block = w .block ∙ ap (λ (s : List ℕ). callOn steps s (meant d) .bytes) (g .block) ∙ sym (left-join b (g .calls) d);
-            answers = subst (λ (s : List ℕ). Written to s out n out″) (sym (answers-join b (g .calls) d)) (then-written to (answerLines b (g .calls)) (answerLine (callOn steps (leftBy b (g .calls)) (meant d))) out end out′ n out″ m (g .answers) v);
+            block = w .block ∙ ap (λ (s : List ℕ). callOn ours s (meant d) .bytes) (g .block) ∙ sym (left-join b (g .calls) d);
+            answers = subst (λ (s : List ℕ). Written to s out n out″) (sym (answers-join b (g .calls) d)) (then-written to (answerLines b (g .calls)) (answerLine (callOn ours (leftBy b (g .calls)) (meant d))) out end out′ n out″ m (g .answers) v);
             within = line-inside .1;
             room = omega (arith, w .short, g .room, line-inside .0);
             few = omega (arith, g .few, line-inside .0);

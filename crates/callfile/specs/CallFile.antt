@@ -7,11 +7,11 @@ use Prim.Native.Nat.{ℕ, _+_, _≤_, _<_}
 use lib.IntN.{ℤ, pos}
 use lib.ListN.{length, drop}
 use Rattle.rules.specs.List.{concatMap}
-use Rattle.rules.specs.Table.{steps}
 use Rattle.rules.specs.Register.{granted}
 use Rattle.rules.specs.Call.{Call, enrol, grant, revoke, downgrade, askReach, askUse, fresh}
 use Rattle.rules.specs.Trace.{traceFrom}
 use Rattle.block.specs.Block.{encode}
+use Rattle.steptable.specs.TableText.{ours}
 use Rattle.register.specs.CallOn.{Result, callOn}
 use Rattle.demands.specs.History.{bytesLeft}
 use Rattle.text.specs.Text.{line, AllAllowed}
@@ -78,7 +78,7 @@ abbrev pub answerLine : Result → List ℕ
 answerLine o = line (pos (o .refusal) ∷ o .first ∷ o .second ∷ o .third ∷ [])
 
 abbrev pub answerLines : List ℕ → List FileCall → List ℕ
-answerLines b cs = concatMap answerLine (traceFrom (callOn steps) bytesLeft b (map meant cs))
+answerLines b cs = concatMap answerLine (traceFrom (callOn ours) bytesLeft b (map meant cs))
 
 -- ── the whole ──
 

@@ -7,7 +7,7 @@ use lib.Dec.{T, eqb, ltb}
 use lib.IntN.{ℤ}
 use lib.ListN.{length, drop}
 use Rattle.rules.specs.Call.{Call}
-use Rattle.rules.specs.Table.{steps}
+use Rattle.steptable.specs.TableText.{ours}
 use Rattle.register.specs.CallOn.{callOn}
 use Rattle.text.specs.Text.{line, AllAllowed}
 use Rattle.text.specs.Write.{Written}
@@ -61,8 +61,8 @@ pub record CallRead (text : List ℕ) (at : ℕ) (r : Row) : Type 0 where
 
 -- a call was made on the block b, and its line of answers was written at `at`; n is the place after it
 pub record Answered (c : Call) (b out : List ℕ) (at n : ℕ) (b′ out′ : List ℕ) : Type 0 where
-  pub block : b′ ≡ callOn steps b c .bytes
-  pub line : Written at (answerLine (callOn steps b c)) out n out′
+  pub block : b′ ≡ callOn ours b c .bytes
+  pub line : Written at (answerLine (callOn ours b c)) out n out′
   pub short : n ≤ at + 48
 
 -- what answering a row needs: room in the output, and a call where one was found

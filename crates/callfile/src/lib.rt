@@ -167,7 +167,7 @@ fn read_next<'s, 'a>(r: &'s mut CallReader<'a>) -> Row
     q
 }
 
-// Makes the call of a row and writes its line of answers; the place after it.
+// Makes the call of a row, by our own step table, and writes its line of answers; the place after it.
 fn write_answer(block: &mut [u8], r: Row, out: &mut [u8], at: usize) -> usize
     requires { ⌜ T (isCall (r .call)) × (at + 48 ≤ length (now out)) ⌝ }
     ensures { λ n. ⌜ Answered (madeOfRow r) (now (block .entry)) (now (out .entry)) at n (now (block .exit)) (now (out .exit)) ⌝ }
@@ -181,6 +181,7 @@ fn write_answer(block: &mut [u8], r: Row, out: &mut [u8], at: usize) -> usize
         r.weight,
         r.need,
         r.bar,
+        b"",
     );
     let line = [
         o.refusal as i64,

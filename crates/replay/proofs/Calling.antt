@@ -1,7 +1,7 @@
 -- One call by its numbers: a number that is a call's, and another. Assumes nothing.
 use mathlib.Core.Path.{_≡_, sym, ap, subst, _∙_}
 use mathlib.Core.Logic.{_≢_}
-use mathlib.Core.Bool.{true, false}
+use mathlib.Core.Bool.{Bool, true, false}
 use mathlib.Core.List.{List}
 use Prim.Native.Nat.{ℕ, _+_, _<_}
 use native.Mathlib.Nat.{add-zero}
@@ -10,31 +10,32 @@ use borrow.Author.Tests.{lt-leb}
 use lib.Dec.{T, T-not}
 use lib.ListN.{getD, drop}
 use lib.Seq.{getD-drop}
-use Rattle.rules.specs.Table.{steps}
 use Rattle.rules.specs.Call.{Call}
+use Rattle.block.specs.Bytes.{allFrom}
 use Rattle.block.proofs.Bytes.{allFrom-at}
 use Rattle.register.specs.Made.{refusedBy, Made}
 use Rattle.register.specs.declared.Answer.{Answer}
-use Rattle.replay.specs.Replay.{isCall, callOf, CallMade, callIn, callCount, numberAt, allCalls}
+use Rattle.demands.specs.History.{lentTo}
+use Rattle.replay.specs.Replay.{isCall, callOf, CallMade, callIn}
 
 pub no-call : (n : ℕ) → n ≢ 0 → n ≢ 1 → n ≢ 2 → n ≢ 3 → n ≢ 4 → n ≢ 5 → isCall n ≡ false
 no-call n a b c d e f = lt-leb n 5 (omega arith)
 
--- where every number is a call's, so is that of call i
-pub numbered : (calls : List ℕ) → allCalls calls ≡ true → (i : ℕ) → i < callCount calls → T (isCall (numberAt calls i))
-numbered calls e i h =
+-- a test that every call passes, call i passes
+pub passes-at : (f : ℕ → Bool) (n : ℕ) → allFrom f 0 n ≡ true → (i : ℕ) → i < n → T (f i)
+passes-at f n e i h =
     let q : 0 + i ≡ i = omega arith in
-    subst (λ (k : ℕ). T (isCall (numberAt calls k))) q (allFrom-at (λ k. isCall (numberAt calls k)) 0 (callCount calls) (subst T (sym e) tt) i h)
+    subst (λ (k : ℕ). T (f k)) q (allFrom-at f 0 n (subst T (sym e) tt) i h)
 
 -- d n is the call that the number n names with the columns that were passed
-module _ (number : ℕ) (d : ℕ → Call) (before : List ℕ) (r : Answer) (after : List ℕ) where
-  pub call-named : (k : ℕ) → number ≡ k → T (isCall k) → Made steps (d k) before r after → CallMade number (d number) before r after
+module _ (number : ℕ) (d : ℕ → Call) (text before : List ℕ) (r : Answer) (after : List ℕ) where
+  pub call-named : (k : ℕ) → number ≡ k → T (isCall k) → Made (lentTo (d k) text) (d k) before r after → CallMade number (d number) text before r after
   call-named k e t m = record {
-    made = λ h. subst (λ (n : ℕ). Made steps (d n) before r after) (sym e) m;
+    made = λ h. subst (λ (n : ℕ). Made (lentTo (d n) text) (d n) before r after) (sym e) m;
     other = λ h. absurd (T-not (isCall number) h (subst (λ (n : ℕ). T (isCall n)) (sym e) t));
   }
 
-  pub call-other : isCall number ≡ false → r ≡ refusedBy 7 → after ≡ before → CallMade number (d number) before r after
+  pub call-other : isCall number ≡ false → r ≡ refusedBy 7 → after ≡ before → CallMade number (d number) text before r after
   call-other e p q = record { made = λ h. absurd (subst T e h); other = λ h. (p, q) }
 
 -- the call at a place, read number by number

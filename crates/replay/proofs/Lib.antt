@@ -1,4 +1,5 @@
 pub mod Calling
+pub mod Texts
 pub mod Sizes
 pub mod Slots
 pub mod Turns

@@ -1,14 +1,27 @@
 -- What the functions below `replay` promise, for one call. Assumes nothing.
 use mathlib.Core.Path.{_≡_}
+use mathlib.Core.Bool.{Bool}
 use mathlib.Core.List.{List}
-use Prim.Native.Nat.{ℕ, suc, _*_, _≤_, _<_}
-use lib.ListN.{length}
+use Prim.Native.Nat.{ℕ, suc, _*_, _-_, _≤_, _<_}
+use lib.Dec.{leb}
+use lib.ListN.{length, take, drop}
 use lib.IntN.{ℤ}
-use Rattle.rules.specs.Table.{steps}
 use Rattle.block.specs.Layout.{blockSize}
-use Rattle.register.specs.Made.{Made}
+use Rattle.register.specs.Made.{result}
 use Rattle.register.specs.declared.Answer.{Answer}
-use Rattle.replay.specs.Replay.{answersPerCall, callCount, callAt, slot, returnedAt}
+use Rattle.demands.specs.History.{reckons, lentTo, askedOn}
+use Rattle.replay.specs.Replay.{callOf, answersPerCall, callIn, textIn, callCount, askedAt, slot, returnedAt, textFits}
+use Rattle.replay.specs.declared.Place.{Place}
+
+-- r tells whether the call of a number reckons reach, whatever its columns
+abbrev pub Reckoning : ℕ → Bool → Type 0
+Reckoning number r = (by giver receiver weight need bar : ℕ) → r ≡ reckons (callOf number by giver receiver weight need bar)
+
+-- where the text of the call whose numbers begin the list s lies, the empty text for a call that takes no table
+pub record TextPlaced (s : List ℕ) (p : Place) : Type 0 where
+  pub ordered : p .begin ≤ p .end
+  pub fits : (size : ℕ) → leb (p .end) size ≡ textFits s size
+  pub same : (texts : List ℕ) → lentTo (callIn s) (take (p .end - p .begin) (drop (p .begin) texts)) ≡ lentTo (callIn s) (textIn texts s)
 
 -- slot i was copied to the slot after it
 pub record SlotCopied (before : List ℕ) (i : ℕ) (after : List ℕ) : Type 0 where
@@ -27,11 +40,11 @@ pub record Sized (calls b r : List ℕ) (a : List ℤ) : Type 0 where
   pub answers : length a ≡ answersPerCall * callCount calls
 
 -- call i, made on slot i, returned what is stored for it and left the slot after it
-abbrev pub MadeAt : List ℕ → List ℕ → List ℕ → List ℤ → ℕ → Type 0
-MadeAt calls blocks refusals answers i = Made steps (callAt calls i) (slot blocks i) (returnedAt refusals answers i) (slot blocks (suc i))
+abbrev pub MadeAt : List ℕ → List ℕ → List ℕ → List ℕ → List ℤ → ℕ → Type 0
+MadeAt calls texts blocks refusals answers i = result (returnedAt refusals answers i) (slot blocks (suc i)) ≡ askedOn (slot blocks i) (askedAt calls texts i)
 
 -- call i was made; the slots and answers before it were kept
-pub record TurnMade (calls blocks refusals : List ℕ) (answers : List ℤ) (i : ℕ) (blocks' refusals' : List ℕ) (answers' : List ℤ) : Type 0 where
-  pub made : MadeAt calls blocks' refusals' answers' i
+pub record TurnMade (calls texts blocks refusals : List ℕ) (answers : List ℤ) (i : ℕ) (blocks' refusals' : List ℕ) (answers' : List ℤ) : Type 0 where
+  pub made : MadeAt calls texts blocks' refusals' answers' i
   pub slots : (j : ℕ) → j ≤ i → slot blocks' j ≡ slot blocks j
   pub kept : (j : ℕ) → j < i → returnedAt refusals' answers' j ≡ returnedAt refusals answers j

@@ -1,23 +1,24 @@
-// A list of calls made one after another, every block kept.
+// A list of calls made one after another, every block kept; each may be lent the text of a step table.
 ghost use mathlib.Core.Path.{_≡_};
 ghost use Prim.Native.Nat.{_+_, _*_, _≤_, _<_};
 ghost use lib.Dec.{T};
 ghost use lib.ListN.{length, getD, drop};
-ghost use Rattle.rules.specs.Table.{steps};
 ghost use Rattle.block.specs.Layout.{blockSize};
-ghost use Rattle.register.specs.Made.{Made};
-ghost use Rattle.replay.specs.Replay.{isCall, callOf, CallMade, numbersPerCall, answersPerCall, callIn, callCount, numberAt, isSized, allCalls, ReplayMade};
-ghost use Rattle.replay.specs.Turn.{SlotCopied, Stored, Sized, TurnMade};
+ghost use Rattle.register.specs.Made.{result};
+ghost use Rattle.demands.specs.History.{askedOn};
+ghost use Rattle.replay.specs.Replay.{isCall, callOf, CallMade, numbersPerCall, answersPerCall, askIn, callCount, numberAt, isSized, textFits, textFitsAt, allTexts, allCalls, ReplayMade};
+ghost use Rattle.replay.specs.Turn.{Reckoning, TextPlaced, SlotCopied, Stored, Sized, TurnMade};
 use block::layout;
 use register::Answer;
 use rules::refusal;
 
 // How many numbers a call has in a list, and how many answers.
-pub const NUMBERS_PER_CALL: usize = 7;
+pub const NUMBERS_PER_CALL: usize = 9;
 
 pub const ANSWERS_PER_CALL: usize = 3;
 
 // Makes the call that the numbers name: 0 enrol (marks under need), 1 grant, 2 revoke, 3 downgrade, 4 reach, 5 use.
+// Those that reckon reach go by the table of the text, ours where it is empty; the others do not look at it.
 pub fn call(
     block: &mut [u8],
     number: u32,
@@ -27,23 +28,24 @@ pub fn call(
     weight: u32,
     need: u32,
     bar: u32,
+    table: &[u8],
 ) -> Answer
-    ensures { λ r. ⌜ CallMade number (callOf number by giver receiver weight need bar) (now (block .entry)) r (now (block .exit)) ⌝ }
+    ensures { λ r. ⌜ CallMade number (callOf number by giver receiver weight need bar) (now (table .entry)) (now (block .entry)) r (now (block .exit)) ⌝ }
 {
     if number == 0 {
         return register::enrol(block, need);
     }
     if number == 1 {
-        return register::grant(block, giver, receiver, weight, need, bar);
+        return register::grant_table(block, giver, receiver, weight, need, bar, table);
     }
     if number == 2 {
-        return register::revoke(block, by, giver, receiver);
+        return register::revoke_table(block, by, giver, receiver, table);
     }
     if number == 3 {
-        return register::downgrade(block, by, giver, receiver, weight);
+        return register::downgrade_table(block, by, giver, receiver, weight, table);
     }
     if number == 4 {
-        return register::reach(block, giver, receiver);
+        return register::reach_table(block, giver, receiver, table);
     }
     if number == 5 {
         return register::use_right(block, receiver);
@@ -71,6 +73,59 @@ fn all_calls(calls: &[u32]) -> bool
     let mut i: usize = 0;
     while i < n {
         if !is_call(calls[NUMBERS_PER_CALL * i]) {
+            return false;
+        }
+        i += 1;
+    }
+    true
+}
+
+// The call of this number reckons reach, and so takes a table.
+fn reckons(number: u32) -> bool
+    ensures { λ r. ⌜ Reckoning number r ⌝ }
+{
+    if number == 0 {
+        return false;
+    }
+    number <= 4
+}
+
+// The number at a place, as a size.
+fn size_at(numbers: &[u32], at: usize) -> usize
+    requires { ⌜ at < length (now numbers) ⌝ }
+    ensures { λ r. ⌜ (r ≡ getD (now (numbers .entry)) at 0) × (r < 4294967296) ⌝ }
+{
+    numbers[at] as usize
+}
+
+// Where a text begins and ends in what is lent.
+struct Place {
+    begin: usize,
+    end: usize,
+}
+
+// Where the text of the call whose numbers begin at `at` lies; the empty one for a call that takes no table.
+fn text_place(calls: &[u32], at: usize) -> Place
+    requires { ⌜ at + numbersPerCall ≤ length (now calls) ⌝ }
+    ensures { λ r. ⌜ TextPlaced (drop at (now (calls .entry))) r ⌝ }
+{
+    if !reckons(calls[at]) {
+        return Place { begin: 0, end: 0 };
+    }
+    let begin = size_at(calls, at + 7);
+    let end = begin + size_at(calls, at + 8);
+    Place { begin, end }
+}
+
+// Every text lies within what is lent.
+fn all_texts(calls: &[u32], texts: &[u8]) -> bool
+    ensures { λ r. ⌜ r ≡ allTexts (now (calls .entry)) (now (texts .entry)) ⌝ }
+{
+    let n = calls.len() / NUMBERS_PER_CALL;
+    let mut i: usize = 0;
+    while i < n {
+        let place = text_place(calls, NUMBERS_PER_CALL * i);
+        if place.end > texts.len() {
             return false;
         }
         i += 1;
@@ -129,11 +184,14 @@ fn store(refusals: &mut [u32], answers: &mut [i32], i: usize, o: Answer)
     answers[ANSWERS_PER_CALL * i + 2] = third;
 }
 
-// The call whose numbers begin at `at`.
-fn call_at(calls: &[u32], at: usize, block: &mut [u8]) -> Answer
-    requires { ⌜ (at + numbersPerCall ≤ length (now calls)) × T (isCall (getD (now calls) at 0)) ⌝ }
-    ensures { λ r. ⌜ Made steps (callIn (drop at (now (calls .entry)))) (now (block .entry)) r (now (block .exit)) ⌝ }
+// The call whose numbers begin at `at`, with its text.
+fn call_at(calls: &[u32], at: usize, texts: &[u8], block: &mut [u8]) -> Answer
+    requires { ⌜ (at + numbersPerCall ≤ length (now calls)) × T (isCall (getD (now calls) at 0)) × T (textFits (drop at (now calls)) (length (now texts))) ⌝ }
+    ensures { λ r. ⌜ result r (now (block .exit)) ≡ askedOn (now (block .entry)) (askIn (now (texts .entry)) (drop at (now (calls .entry)))) ⌝ }
 {
+    let place = text_place(calls, at);
+    let begin = place.begin;
+    let end = place.end;
     call(
         block,
         calls[at],
@@ -143,27 +201,45 @@ fn call_at(calls: &[u32], at: usize, block: &mut [u8]) -> Answer
         calls[at + 4],
         calls[at + 5],
         calls[at + 6],
+        &texts[begin..end],
     )
 }
 
 // Call `i`, on a copy of slot `i` in the slot after it.
-fn turn(calls: &[u32], i: usize, blocks: &mut [u8], refusals: &mut [u32], answers: &mut [i32])
-    requires { ⌜ (i < callCount (now calls)) × T (isCall (numberAt (now calls) i)) × Sized (now calls) (now blocks) (now refusals) (now answers) ⌝ }
-    ensures { λ _. ⌜ TurnMade (now (calls .entry)) (now (blocks .entry)) (now (refusals .entry)) (now (answers .entry)) i (now (blocks .exit)) (now (refusals .exit)) (now (answers .exit)) ⌝ }
+fn turn(
+    calls: &[u32],
+    i: usize,
+    texts: &[u8],
+    blocks: &mut [u8],
+    refusals: &mut [u32],
+    answers: &mut [i32],
+)
+    requires { ⌜ (i < callCount (now calls)) × T (isCall (numberAt (now calls) i)) × T (textFitsAt (now calls) (now texts) i) × Sized (now calls) (now blocks) (now refusals) (now answers) ⌝ }
+    ensures { λ _. ⌜ TurnMade (now (calls .entry)) (now (texts .entry)) (now (blocks .entry)) (now (refusals .entry)) (now (answers .entry)) i (now (blocks .exit)) (now (refusals .exit)) (now (answers .exit)) ⌝ }
 {
     copy_slot(blocks, i);
     let start = layout::BLOCK_SIZE * (i + 1);
     let end = start + layout::BLOCK_SIZE;
-    let o = call_at(calls, NUMBERS_PER_CALL * i, &mut blocks[start..end]);
+    let o = call_at(calls, NUMBERS_PER_CALL * i, texts, &mut blocks[start..end]);
     store(refusals, answers, i, o);
 }
 
-// Makes a list of calls, by the numbers of each: call, by, giver, receiver, weight, need, bar.
+// Makes a list of calls, by the numbers of each: call, by, giver, receiver, weight, need, bar, and of its table's text
+// where it begins in `texts` and how long it is.
 // Slot 0 of `blocks` is opened; slot i + 1 is a copy of slot i on which call i is made.
-pub fn replay(calls: &[u32], blocks: &mut [u8], refusals: &mut [u32], answers: &mut [i32]) -> u32
-    ensures { λ r. ⌜ ReplayMade (now (calls .entry)) (now (blocks .entry)) (now (refusals .entry)) (now (answers .entry)) r (now (blocks .exit)) (now (refusals .exit)) (now (answers .exit)) ⌝ }
+pub fn replay(
+    calls: &[u32],
+    texts: &[u8],
+    blocks: &mut [u8],
+    refusals: &mut [u32],
+    answers: &mut [i32],
+) -> u32
+    ensures { λ r. ⌜ ReplayMade (now (calls .entry)) (now (texts .entry)) (now (blocks .entry)) (now (refusals .entry)) (now (answers .entry)) r (now (blocks .exit)) (now (refusals .exit)) (now (answers .exit)) ⌝ }
 {
     if !is_sized(calls.len(), blocks.len(), refusals.len(), answers.len()) {
+        return refusal::WRONG_LENGTH;
+    }
+    if !all_texts(calls, texts) {
         return refusal::WRONG_LENGTH;
     }
     if !all_calls(calls) {
@@ -173,7 +249,7 @@ pub fn replay(calls: &[u32], blocks: &mut [u8], refusals: &mut [u32], answers: &
     let n = calls.len() / NUMBERS_PER_CALL;
     let mut i: usize = 0;
     while i < n {
-        turn(calls, i, blocks, refusals, answers);
+        turn(calls, i, texts, blocks, refusals, answers);
         i += 1;
     }
     0

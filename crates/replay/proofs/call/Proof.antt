@@ -21,11 +21,11 @@ same-length c = search needs
 returns : tie.Need-returns
 unfolding callOf
 returns c =
-    let s = c .before .before .before .before .before .before in
-    call-named (s .args .number) (named s) (s .args .block .now) _ _ 0 (c .before .before .before .before .if1 .taken) tt (c .before .before .enrol .ensures)
+    let s = c .before .before .before .before .before .before .before in
+    call-named (s .args .number) (named s) (s .args .table .now) (s .args .block .now) _ _ 0 (c .before .before .before .before .if1 .taken) tt (c .before .before .enrol .ensures)
 
-grant-requires : tie.Need-grant-requires
-grant-requires c κs = search needs
+grant-table-requires : tie.Need-grant-table-requires
+grant-table-requires c κs = search needs
 
 same-length-2 : tie.Need-same-length-2
 same-length-2 c = search needs
@@ -33,11 +33,11 @@ same-length-2 c = search needs
 returns-2 : tie.Need-returns-2
 unfolding callOf
 returns-2 c =
-    let s = c .before .before .before .before .before .before .before in
-    call-named (s .args .number) (named s) (s .args .block .now) _ _ 1 (c .before .before .before .before .if2 .taken) tt (c .before .before .grant .ensures)
+    let s = c .before .before .before .before .before .before .before .before in
+    call-named (s .args .number) (named s) (s .args .table .now) (s .args .block .now) _ _ 1 (c .before .before .before .before .if2 .taken) tt (c .before .before .grant-table .ensures)
 
-revoke-requires : tie.Need-revoke-requires
-revoke-requires c κs = search needs
+revoke-table-requires : tie.Need-revoke-table-requires
+revoke-table-requires c κs = search needs
 
 same-length-3 : tie.Need-same-length-3
 same-length-3 c = search needs
@@ -45,11 +45,11 @@ same-length-3 c = search needs
 returns-3 : tie.Need-returns-3
 unfolding callOf
 returns-3 c =
-    let s = c .before .before .before .before .before .before .before .before in
-    call-named (s .args .number) (named s) (s .args .block .now) _ _ 2 (c .before .before .before .before .if3 .taken) tt (c .before .before .revoke .ensures .outcome)
+    let s = c .before .before .before .before .before .before .before .before .before in
+    call-named (s .args .number) (named s) (s .args .table .now) (s .args .block .now) _ _ 2 (c .before .before .before .before .if3 .taken) tt (c .before .before .revoke-table .ensures .outcome)
 
-downgrade-requires : tie.Need-downgrade-requires
-downgrade-requires c κs = search needs
+downgrade-table-requires : tie.Need-downgrade-table-requires
+downgrade-table-requires c κs = search needs
 
 same-length-4 : tie.Need-same-length-4
 same-length-4 c = search needs
@@ -57,11 +57,11 @@ same-length-4 c = search needs
 returns-4 : tie.Need-returns-4
 unfolding callOf
 returns-4 c =
-    let s = c .before .before .before .before .before .before .before .before .before in
-    call-named (s .args .number) (named s) (s .args .block .now) _ _ 3 (c .before .before .before .before .if4 .taken) tt (c .before .before .downgrade .ensures .outcome)
+    let s = c .before .before .before .before .before .before .before .before .before .before in
+    call-named (s .args .number) (named s) (s .args .table .now) (s .args .block .now) _ _ 3 (c .before .before .before .before .if4 .taken) tt (c .before .before .downgrade-table .ensures .outcome)
 
-reach-requires : tie.Need-reach-requires
-reach-requires c κs = search needs
+reach-table-requires : tie.Need-reach-table-requires
+reach-table-requires c κs = search needs
 
 same-length-5 : tie.Need-same-length-5
 same-length-5 c = search needs
@@ -69,8 +69,8 @@ same-length-5 c = search needs
 returns-5 : tie.Need-returns-5
 unfolding callOf
 returns-5 c =
-    let s = c .before .before .before .before .before .before .before .before in
-    call-named (s .args .number) (named s) (s .args .block .now) _ _ 4 (c .before .before .if5 .taken) tt (c .reach .ensures)
+    let s = c .before .before .before .before .before .before .before .before .before in
+    call-named (s .args .number) (named s) (s .args .table .now) (s .args .block .now) _ _ 4 (c .before .before .if5 .taken) tt (c .reach-table .ensures)
 
 use-right-requires : tie.Need-use-right-requires
 use-right-requires c κs = search needs
@@ -81,13 +81,13 @@ same-length-6 c = search needs
 returns-6 : tie.Need-returns-6
 unfolding callOf
 returns-6 c =
-    let s = c .before .before .before .before .before .before .before .before .before in
-    call-named (s .args .number) (named s) (s .args .block .now) _ _ 5 (c .before .before .if6 .taken) tt (c .use-right .ensures)
+    let s = c .before .before .before .before .before .before .before .before .before .before in
+    call-named (s .args .number) (named s) (s .args .table .now) (s .args .block .now) _ _ 5 (c .before .before .if6 .taken) tt (c .use-right .ensures)
 
 returns-7 : tie.Need-returns-7
 returns-7 c =
-    let s = c .before .before .before .before .before .before .before in
-    call-other (s .args .number) (named s) (s .args .block .now) _ _
+    let s = c .before .before .before .before .before .before .before .before in
+    call-other (s .args .number) (named s) (s .args .table .now) (s .args .block .now) _ _
     (no-call (s .args .number) (c .before .before .before .before .before .if1 .left) (c .before .before .before .before .if2 .left) (c .before .before .before .if3 .left) (c .before .before .if4 .left) (c .before .if5 .left) (c .if6 .left)) refl refl
 
 pub call-spec : {M : Type 1} → statement M
@@ -97,16 +97,16 @@ call-spec =
     enrol-requires
     same-length
     returns
-    grant-requires
+    grant-table-requires
     same-length-2
     returns-2
-    revoke-requires
+    revoke-table-requires
     same-length-3
     returns-3
-    downgrade-requires
+    downgrade-table-requires
     same-length-4
     returns-4
-    reach-requires
+    reach-table-requires
     same-length-5
     returns-5
     use-right-requires

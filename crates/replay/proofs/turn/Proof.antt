@@ -51,16 +51,16 @@ same-length-3 c = search needs
 
 returns : tie.Need-returns
 returns c =
-    let s = c .before .before .before .before .before .before .before .before .before .before .before .before .before .before .before .before .before in
+    let s = c .before .before .before .before .before .before .before .before .before .before .before .before .before .before .before .before .before .before in
     let a = s .args in
     let copy = c .before .before .before .before .before .before .before .before .before .before .before .before .copy-slot in
     let made = c .before .before .before .before .before .before .before .before .call-at in
     let stored = c .before .before .before .store in
     let same : length (copy .last .0) ≡ length (a .blocks .now) = copy .kept .0 in
     let m = blockSize * (a .i + 1) in
-    turned (a .calls .now) (a .blocks .now) (a .refusals .now) (a .answers .now) (a .i)
-    (copy .last .0) (copy .ensures) m (m + blockSize - m) (omega arith) (omega arith) (omega (arith, s .pre .0, s .pre .2 .blocks))
-    (made .result) (made .last .1 .1 .0) (postOf m (m + blockSize - m) (copy .last .0)) (made .kept .1 .1 .0) (made .ensures)
+    turned (a .calls .now) (a .texts .now) (a .blocks .now) (a .refusals .now) (a .answers .now) (a .i)
+    (copy .last .0) (copy .ensures) m (m + blockSize - m) (omega arith) (omega arith) (omega (arith, s .pre .0, s .pre .3 .blocks))
+    (made .result) (made .last .1 .1 .1 .0) (postOf m (m + blockSize - m) (copy .last .0)) (made .kept .1 .1 .1 .0) (made .ensures)
     (stored .last .0) (stored .last .1 .0) (stored .ensures)
 
 pub turn-spec : {M : Type 1} → statement M
