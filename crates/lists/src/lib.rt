@@ -1,8 +1,10 @@
-// Lists of calls, each made by one call of `replay`. A line is the lengths of its three buffers, the numbers of the list and a full stop.
+// Lists of calls, each made by one call of `replay`. A line is the lengths of its three buffers, the texts that are lent with
+// it, written as a block is, the numbers of the list and a full stop.
 ghost use mathlib.Core.Path.{_≡_};
 ghost use lib.ListN.{length};
 ghost use Rattle.lists.specs.Sizes.{slotsSize};
 use block::layout;
+use casefile::blocks;
 use casefile::out;
 use casefile::reading;
 
@@ -15,6 +17,9 @@ const NUMBERS: usize = replay::NUMBERS_PER_CALL * (MOST_CALLS + 1);
 const SLOTS_SIZE: usize = layout::BLOCK_SIZE * (MOST_CALLS + 1);
 
 const ANSWERS: usize = replay::ANSWERS_PER_CALL * MOST_CALLS;
+
+// A line gives texts of at most this many bytes.
+const MOST_TEXTS: usize = 8192;
 
 // What every place of a buffer holds before the call.
 const BYTE: u8 = 170;
@@ -40,29 +45,73 @@ struct Numbers {
     after: usize,
 }
 
+// Where the next line begins, 0 where a line cannot be read, and the length of the texts that are left.
+struct Place {
+    at: usize,
+    size: usize,
+}
+
+fn nowhere() -> Place {
+    Place { at: 0, size: 0 }
+}
+
 // Runs every line; false where one cannot be read.
 pub fn run_lines(text: &[u8]) -> bool {
+    let mut texts = [0u8; MOST_TEXTS];
+    run_each(text, &mut texts)
+}
+
+// Each is lent the texts that it gives, or those of the line before.
+fn run_each(text: &[u8], texts: &mut [u8]) -> bool {
     let mut at = 0;
+    let mut size = 0;
     while at < text.len() {
-        let next = run_line(text, at);
-        if next <= at {
+        let next = run_line(text, at, texts, size);
+        if next.at <= at {
             return false;
         }
-        at = next;
+        at = next.at;
+        size = next.size;
     }
     true
 }
 
-// Runs the list on the line at `from`; where the next line begins, 0 where this one cannot be read.
-fn run_line(text: &[u8], from: usize) -> usize {
+// Runs the list on the line at `from`, lent the first `size` bytes of the texts where it says `=`.
+fn run_line(text: &[u8], from: usize, texts: &mut [u8], size: usize) -> Place {
     let blocks = reading::read_number(text, from, b' ');
     let refusals = reading::next_column(text, blocks);
     let answers = reading::next_column(text, refusals);
     if !answers.is_read {
-        return 0;
+        return nowhere();
     }
+    let lent = blocks::read_block(text, answers.after, texts, size);
+    let space = reading::step_over(text, lent.after, b' ');
+    if !lent.is_read || !space.is_read {
+        return nowhere();
+    }
+    let n = reading::within(lent.size, texts);
+    let next = run_numbers(
+        text,
+        space.after,
+        &texts[..n],
+        blocks.value as usize,
+        refusals.value as usize,
+        answers.value as usize,
+    );
+    Place { at: next, size: n }
+}
+
+// Runs the list whose numbers begin at `from`, on buffers of these lengths; where the next line begins, 0 where this one cannot be read.
+fn run_numbers(
+    text: &[u8],
+    from: usize,
+    texts: &[u8],
+    blocks: usize,
+    refusals: usize,
+    answers: usize,
+) -> usize {
     let mut numbers = [0u32; NUMBERS];
-    let read = read_numbers(text, answers.after, &mut numbers);
+    let read = read_numbers(text, from, &mut numbers);
     let dot = reading::step_over(text, read.after, b'.');
     let end = reading::step_over(text, dot.after, b'\n');
     if !dot.is_read || !end.is_read {
@@ -70,11 +119,11 @@ fn run_line(text: &[u8], from: usize) -> usize {
     }
     let sizes = Sizes {
         numbers: read.count,
-        blocks: blocks.value as usize,
-        refusals: refusals.value as usize,
-        answers: answers.value as usize,
+        blocks,
+        refusals,
+        answers,
     };
-    run_list(&numbers, sizes);
+    run_list(&numbers, texts, sizes);
     end.after
 }
 
@@ -98,11 +147,18 @@ fn read_numbers(text: &[u8], from: usize, numbers: &mut [u32]) -> Numbers {
 }
 
 // Makes the calls and prints what every buffer holds afterwards, a line for each call.
-fn run_list(numbers: &[u32], sizes: Sizes) {
+fn run_list(numbers: &[u32], texts: &[u8], sizes: Sizes) {
     let mut blocks = unwritten();
     let mut refusals = [NUMBER; MOST_CALLS];
     let mut answers = [SIGNED; ANSWERS];
-    let refusal = make(numbers, sizes, &mut blocks, &mut refusals, &mut answers);
+    let refusal = make(
+        numbers,
+        texts,
+        sizes,
+        &mut blocks,
+        &mut refusals,
+        &mut answers,
+    );
     print_first(refusal, &blocks);
     print_rows(
         sizes.numbers / replay::NUMBERS_PER_CALL,
@@ -122,6 +178,7 @@ fn unwritten() -> [u8; SLOTS_SIZE]
 // One call of `replay` on the fronts that have these lengths.
 fn make(
     numbers: &[u32],
+    texts: &[u8],
     sizes: Sizes,
     blocks: &mut [u8],
     refusals: &mut [u32],
@@ -136,6 +193,7 @@ fn make(
     }
     replay::replay(
         &numbers[..n],
+        texts,
         &mut blocks[..b],
         &mut refusals[..r],
         &mut answers[..a],

@@ -3,14 +3,14 @@ use mathlib.Core.Path.{_≡_}
 use mathlib.Core.Bool.{Bool}
 use mathlib.Core.List.{List}
 use Prim.Native.Nat.{ℕ, suc, _*_, _-_, _≤_, _<_}
-use lib.Dec.{leb}
+use lib.Dec.{T, leb}
 use lib.ListN.{length, take, drop}
 use lib.IntN.{ℤ}
 use Rattle.block.specs.Layout.{blockSize}
 use Rattle.register.specs.Made.{result}
 use Rattle.register.specs.declared.Answer.{Answer}
 use Rattle.demands.specs.History.{reckons, lentTo, askedOn}
-use Rattle.replay.specs.Replay.{callOf, answersPerCall, callIn, textIn, callCount, askedAt, slot, returnedAt, textFits}
+use Rattle.replay.specs.Replay.{isCall, callOf, answersPerCall, callIn, textIn, callCount, askedAt, numberAt, slot, returnedAt, textFits, textFitsAt}
 use Rattle.replay.specs.declared.Place.{Place}
 
 -- r tells whether the call of a number reckons reach, whatever its columns
@@ -38,6 +38,13 @@ pub record Sized (calls b r : List ℕ) (a : List ℤ) : Type 0 where
   pub blocks : length b ≡ blockSize * suc (callCount calls)
   pub refusals : length r ≡ callCount calls
   pub answers : length a ≡ answersPerCall * callCount calls
+
+-- call i can be made: its number is a call's, its text lies within what is lent, and the buffers have their lengths
+pub record Ready (calls texts : List ℕ) (i : ℕ) (b r : List ℕ) (a : List ℤ) : Type 0 where
+  pub place : i < callCount calls
+  pub number : T (isCall (numberAt calls i))
+  pub text : T (textFitsAt calls texts i)
+  pub sizes : Sized calls b r a
 
 -- call i, made on slot i, returned what is stored for it and left the slot after it
 abbrev pub MadeAt : List ℕ → List ℕ → List ℕ → List ℕ → List ℤ → ℕ → Type 0

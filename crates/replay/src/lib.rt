@@ -6,8 +6,8 @@ ghost use lib.ListN.{length, getD, drop};
 ghost use Rattle.block.specs.Layout.{blockSize};
 ghost use Rattle.register.specs.Made.{result};
 ghost use Rattle.demands.specs.History.{askedOn};
-ghost use Rattle.replay.specs.Replay.{isCall, callOf, CallMade, numbersPerCall, answersPerCall, askIn, callCount, numberAt, isSized, textFits, textFitsAt, allTexts, allCalls, ReplayMade};
-ghost use Rattle.replay.specs.Turn.{Reckoning, TextPlaced, SlotCopied, Stored, Sized, TurnMade};
+ghost use Rattle.replay.specs.Replay.{isCall, callOf, CallMade, numbersPerCall, answersPerCall, askIn, isSized, textFits, allTexts, allCalls, ReplayMade};
+ghost use Rattle.replay.specs.Turn.{Reckoning, TextPlaced, SlotCopied, Stored, Ready, TurnMade};
 use block::layout;
 use register::Answer;
 use rules::refusal;
@@ -214,7 +214,7 @@ fn turn(
     refusals: &mut [u32],
     answers: &mut [i32],
 )
-    requires { ⌜ (i < callCount (now calls)) × T (isCall (numberAt (now calls) i)) × T (textFitsAt (now calls) (now texts) i) × Sized (now calls) (now blocks) (now refusals) (now answers) ⌝ }
+    requires { ⌜ Ready (now calls) (now texts) i (now blocks) (now refusals) (now answers) ⌝ }
     ensures { λ _. ⌜ TurnMade (now (calls .entry)) (now (texts .entry)) (now (blocks .entry)) (now (refusals .entry)) (now (answers .entry)) i (now (blocks .exit)) (now (refusals .exit)) (now (answers .exit)) ⌝ }
 {
     copy_slot(blocks, i);

@@ -96,12 +96,13 @@ turn-requires c κs =
     let l = c .before .before .before .before .loop in
     let e = c .before .before .before .before .before .before .before .before .before in
     let a = e .before .before .before .before .before .before .before .before .before .before .args in
-    let n = callCount (a .calls .now) in (
-      omega arith,
-      passes-at (λ k. isCall (numberAt (a .calls .now) k)) n (all-known e) (l .i) (omega arith),
-      passes-at (textFitsAt (a .calls .now) (a .texts .now)) n (all-within (e .before .before)) (l .i) (omega arith),
-      l .inv .2,
-    )
+    let n = callCount (a .calls .now) in
+    record {
+      place = omega arith;
+      number = passes-at (λ k. isCall (numberAt (a .calls .now) k)) n (all-known e) (l .i) (omega arith);
+      text = passes-at (textFitsAt (a .calls .now) (a .texts .now)) n (all-within (e .before .before)) (l .i) (omega arith);
+      sizes = l .inv .2;
+    }
 
 add-i : tie.Need-add-i Inv-loop μ-loop
 add-i c = omega arith

@@ -59,7 +59,7 @@ returns c =
     let same : length (copy .last .0) ≡ length (a .blocks .now) = copy .kept .0 in
     let m = blockSize * (a .i + 1) in
     turned (a .calls .now) (a .texts .now) (a .blocks .now) (a .refusals .now) (a .answers .now) (a .i)
-    (copy .last .0) (copy .ensures) m (m + blockSize - m) (omega arith) (omega arith) (omega (arith, s .pre .0, s .pre .3 .blocks))
+    (copy .last .0) (copy .ensures) m (m + blockSize - m) (omega arith) (omega arith) (omega (arith, s .pre .place, s .pre .sizes .blocks))
     (made .result) (made .last .1 .1 .1 .0) (postOf m (m + blockSize - m) (copy .last .0)) (made .kept .1 .1 .1 .0) (made .ensures)
     (stored .last .0) (stored .last .1 .0) (stored .ensures)
 
