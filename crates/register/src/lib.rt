@@ -142,17 +142,20 @@ pub fn grant_table(
     ensures { λ r. ⌜ Made (given (now (table .entry))) (grant (granted giver receiver weight need bar)) (now (block .entry)) r (now (block .exit)) ⌝ }
 {
     let g = steptable::read_table(table);
-    granting::grant_by(block, &g.steps, g.refusal, giver, receiver, weight, need, bar)
+    granting::grant_by(
+        block,
+        &g.steps,
+        g.refusal,
+        giver,
+        receiver,
+        weight,
+        need,
+        bar,
+    )
 }
 
 // Revoke, so: what is kept is judged by this table.
-pub fn revoke_table(
-    block: &mut [u8],
-    by: u32,
-    giver: u32,
-    receiver: u32,
-    table: &[u8],
-) -> Answer
+pub fn revoke_table(block: &mut [u8], by: u32, giver: u32, receiver: u32, table: &[u8]) -> Answer
     ensures { λ r. ⌜ CutMade (given (now (table .entry))) (revoke by giver receiver) (now (block .entry)) r (now (block .exit)) ⌝ }
 {
     let g = steptable::read_table(table);
