@@ -5,10 +5,10 @@ use Rattle.judge.proofs.limit_of.Statement.{statement}
 use Rattle.judge.proofs.limit_of.Tie as tie
 
 abbrev Inv-loop : tie.InvT-loop
-Inv-loop block buf n marks limit₀ i₀ limit i = Unit {0}
+Inv-loop block table buf n marks limit₀ i₀ limit i = Unit {0}
 
 abbrev μ-loop : tie.MeasureT-loop
-μ-loop block buf n marks limit₀ i₀ limit i = n - i
+μ-loop block table buf n marks limit₀ i₀ limit i = n - i
 
 loop-holds : tie.Need-loop-holds Inv-loop μ-loop
 loop-holds c = search needs
