@@ -1,5 +1,6 @@
 // The columns of a line, and the register's call that they ask for.
 use casefile::reading;
+use judge::Asked;
 use register::Answer;
 
 // The seven numbers of a line, and where the text goes on.
@@ -14,6 +15,9 @@ pub struct Columns {
     pub after: usize,
     pub is_read: bool,
 }
+
+// The chain call's number in the files.
+const CHAIN: u32 = 7;
 
 // What stands for the refusal where there is no such call.
 const NO_CALL: u32 = 99;
@@ -39,8 +43,29 @@ pub fn read_columns(text: &[u8], from: usize) -> Columns {
     }
 }
 
-// One arm for each call of the register, by its number in the files; the chain call's lent buffer has as many bytes as the weight says.
-pub fn make(c: Columns, block: &mut [u8]) -> Answer {
+// The call of a line; it is lent the table's text where lines have one.
+pub fn make(c: Columns, has_tables: bool, table: &[u8], block: &mut [u8]) -> Answer {
+    if c.call == CHAIN {
+        return make_chain(c, has_tables, table, block);
+    }
+    if has_tables {
+        return make_table(c, table, block);
+    }
+    make_own(c, block)
+}
+
+// The lent buffer has as many bytes as the weight says.
+fn make_chain(c: Columns, has_tables: bool, table: &[u8], block: &[u8]) -> Answer {
+    let asked = Asked {
+        giver: c.giver,
+        receiver: c.receiver,
+        is_lent: has_tables,
+    };
+    judge::judge_call(block, table, asked, c.weight as usize)
+}
+
+// One arm for each other call of the register, by its number in the files.
+fn make_own(c: Columns, block: &mut [u8]) -> Answer {
     let call = c.call;
     match call {
         0 => register::enrol(block, c.need),
@@ -50,7 +75,18 @@ pub fn make(c: Columns, block: &mut [u8]) -> Answer {
         4 => register::reach(block, c.giver, c.receiver),
         5 => register::use_right(block, c.receiver),
         6 => register::open(block),
-        7 => judge::judge_call(block, c.giver, c.receiver, c.weight as usize),
+        _ => no_answer(),
+    }
+}
+
+// One arm for each of them that is lent a table's text.
+fn make_table(c: Columns, table: &[u8], block: &mut [u8]) -> Answer {
+    let call = c.call;
+    match call {
+        1 => register::grant_table(block, c.giver, c.receiver, c.weight, c.need, c.bar, table),
+        2 => register::revoke_table(block, c.by, c.giver, c.receiver, table),
+        3 => register::downgrade_table(block, c.by, c.giver, c.receiver, c.weight, table),
+        4 => register::reach_table(block, c.giver, c.receiver, table),
         _ => no_answer(),
     }
 }

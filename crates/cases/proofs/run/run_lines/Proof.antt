@@ -1,4 +1,4 @@
--- `cases::run::run_lines` is safe and ends: `at` goes up to the text's end. Assumes nothing.
+-- `cases::run::run_lines` is safe and ends: the place goes up to the text's end. Assumes nothing.
 use mathlib.Core.Path.{_≡_}
 use Prim.Native.Nat.{_-_}
 use lib.ListN.{length}
@@ -7,10 +7,13 @@ use Rattle.cases.proofs.run.run_lines.Statement.{statement}
 use Rattle.cases.proofs.run.run_lines.Tie as tie
 
 abbrev Inv-loop : tie.InvT-loop
-Inv-loop text block₀ at₀ size₀ block at size = length block ≡ length block₀
+Inv-loop text has-tables table₀ block₀ place₀ table block place = (length table ≡ length table₀) × (length block ≡ length block₀)
 
 abbrev μ-loop : tie.MeasureT-loop
-μ-loop text block₀ at₀ size₀ block at size = length text - at
+μ-loop text has-tables table₀ block₀ place₀ table block place = length text - place .at
+
+nowhere-requires : tie.Need-nowhere-requires Inv-loop μ-loop
+nowhere-requires c κs = search needs
 
 loop-holds : tie.Need-loop-holds Inv-loop μ-loop
 loop-holds c = search needs
@@ -21,6 +24,9 @@ run-line-requires c κs = search needs
 same-length : tie.Need-same-length Inv-loop μ-loop
 same-length c = search needs
 
+same-length-2 : tie.Need-same-length-2 Inv-loop μ-loop
+same-length-2 c = search needs
+
 returns : tie.Need-returns Inv-loop μ-loop
 returns c = search needs
 
@@ -30,8 +36,11 @@ loop-less c = search needs
 loop-again : tie.Need-loop-again Inv-loop μ-loop
 loop-again c = search needs
 
-same-length-2 : tie.Need-same-length-2 Inv-loop μ-loop
-same-length-2 c = search needs
+same-length-3 : tie.Need-same-length-3 Inv-loop μ-loop
+same-length-3 c = search needs
+
+same-length-4 : tie.Need-same-length-4 Inv-loop μ-loop
+same-length-4 c = search needs
 
 returns-2 : tie.Need-returns-2 Inv-loop μ-loop
 returns-2 c = search needs
@@ -42,11 +51,14 @@ run-lines-spec =
     (tie.spec
     Inv-loop
     μ-loop
+    nowhere-requires
     loop-holds
     run-line-requires
     same-length
+    same-length-2
     returns
     loop-less
     loop-again
-    same-length-2
+    same-length-3
+    same-length-4
     returns-2)
