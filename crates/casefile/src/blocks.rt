@@ -26,8 +26,19 @@ fn no_block() -> Block {
     }
 }
 
+// A block, which `end` must follow; the text goes on after that.
+pub fn read_block(text: &[u8], from: usize, block: &mut [u8], size: usize, end: u8) -> Block {
+    let given = read_given(text, from, block, size);
+    let step = reading::step_over(text, given.after, end);
+    Block {
+        size: given.size,
+        after: step.after,
+        is_read: given.is_read && step.is_read,
+    }
+}
+
 // `=` leaves the block of `size` bytes as it is; else LENGTH:BYTES is put into it.
-pub fn read_block(text: &[u8], from: usize, block: &mut [u8], size: usize) -> Block {
+fn read_given(text: &[u8], from: usize, block: &mut [u8], size: usize) -> Block {
     let same = reading::step_over(text, from, b'=');
     if same.is_read {
         return Block {

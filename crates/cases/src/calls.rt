@@ -3,7 +3,7 @@ use casefile::reading;
 use judge::Asked;
 use register::Answer;
 
-// The seven numbers of a line, and where the text goes on.
+// The seven numbers of a line, whether a table's text follows them, and where the text goes on.
 pub struct Columns {
     pub call: u32,
     pub by: u32,
@@ -12,17 +12,15 @@ pub struct Columns {
     pub weight: u32,
     pub need: u32,
     pub bar: u32,
+    pub has_table: bool,
     pub after: usize,
     pub is_read: bool,
 }
 
-// The chain call's number in the files.
-const CHAIN: u32 = 7;
-
 // What stands for the refusal where there is no such call.
 const NO_CALL: u32 = 99;
 
-pub fn read_columns(text: &[u8], from: usize) -> Columns {
+pub fn read_columns(text: &[u8], from: usize, has_table: bool) -> Columns {
     let call = reading::read_number(text, from, b' ');
     let by = reading::next_column(text, call);
     let giver = reading::next_column(text, by);
@@ -38,57 +36,75 @@ pub fn read_columns(text: &[u8], from: usize) -> Columns {
         weight: weight.value,
         need: need.value,
         bar: bar.value,
+        has_table: has_table,
         after: bar.after,
         is_read: bar.is_read,
     }
 }
 
-// The call of a line; it is lent the table's text where lines have one.
-pub fn make(c: Columns, has_tables: bool, table: &[u8], block: &mut [u8]) -> Answer {
-    if c.call == CHAIN {
-        return make_chain(c, has_tables, table, block);
+// One arm for each call that reckons reach, by its number in the files; it is lent the table's text where the line has one.
+pub fn make(c: Columns, table: &[u8], block: &mut [u8]) -> Answer {
+    let call = c.call;
+    match call {
+        1 => grant(c, table, block),
+        2 => revoke(c, table, block),
+        3 => downgrade(c, table, block),
+        4 => reach(c, table, block),
+        7 => chain(c, table, block),
+        _ => make_other(c, block),
     }
-    if has_tables {
-        return make_table(c, table, block);
-    }
-    make_own(c, block)
 }
 
-// The lent buffer has as many bytes as the weight says.
-fn make_chain(c: Columns, has_tables: bool, table: &[u8], block: &[u8]) -> Answer {
-    let asked = Asked {
-        giver: c.giver,
-        receiver: c.receiver,
-        is_lent: has_tables,
-    };
-    judge::judge_call(block, table, asked, c.weight as usize)
-}
-
-// One arm for each other call of the register, by its number in the files.
-fn make_own(c: Columns, block: &mut [u8]) -> Answer {
+// The calls that are lent no table.
+fn make_other(c: Columns, block: &mut [u8]) -> Answer {
+    if c.has_table {
+        return no_answer();
+    }
     let call = c.call;
     match call {
         0 => register::enrol(block, c.need),
-        1 => register::grant(block, c.giver, c.receiver, c.weight, c.need, c.bar),
-        2 => register::revoke(block, c.by, c.giver, c.receiver),
-        3 => register::downgrade(block, c.by, c.giver, c.receiver, c.weight),
-        4 => register::reach(block, c.giver, c.receiver),
         5 => register::use_right(block, c.receiver),
         6 => register::open(block),
         _ => no_answer(),
     }
 }
 
-// One arm for each of them that is lent a table's text.
-fn make_table(c: Columns, table: &[u8], block: &mut [u8]) -> Answer {
-    let call = c.call;
-    match call {
-        1 => register::grant_table(block, c.giver, c.receiver, c.weight, c.need, c.bar, table),
-        2 => register::revoke_table(block, c.by, c.giver, c.receiver, table),
-        3 => register::downgrade_table(block, c.by, c.giver, c.receiver, c.weight, table),
-        4 => register::reach_table(block, c.giver, c.receiver, table),
-        _ => no_answer(),
+fn grant(c: Columns, table: &[u8], block: &mut [u8]) -> Answer {
+    if c.has_table {
+        return register::grant_table(block, c.giver, c.receiver, c.weight, c.need, c.bar, table);
     }
+    register::grant(block, c.giver, c.receiver, c.weight, c.need, c.bar)
+}
+
+fn revoke(c: Columns, table: &[u8], block: &mut [u8]) -> Answer {
+    if c.has_table {
+        return register::revoke_table(block, c.by, c.giver, c.receiver, table);
+    }
+    register::revoke(block, c.by, c.giver, c.receiver)
+}
+
+fn downgrade(c: Columns, table: &[u8], block: &mut [u8]) -> Answer {
+    if c.has_table {
+        return register::downgrade_table(block, c.by, c.giver, c.receiver, c.weight, table);
+    }
+    register::downgrade(block, c.by, c.giver, c.receiver, c.weight)
+}
+
+fn reach(c: Columns, table: &[u8], block: &[u8]) -> Answer {
+    if c.has_table {
+        return register::reach_table(block, c.giver, c.receiver, table);
+    }
+    register::reach(block, c.giver, c.receiver)
+}
+
+// The lent buffer has as many bytes as the weight says.
+fn chain(c: Columns, table: &[u8], block: &[u8]) -> Answer {
+    let asked = Asked {
+        giver: c.giver,
+        receiver: c.receiver,
+        is_lent: c.has_table,
+    };
+    judge::judge_call(block, table, asked, c.weight as usize)
 }
 
 fn no_answer() -> Answer {

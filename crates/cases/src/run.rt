@@ -1,4 +1,5 @@
-// Runs the lines of a text, each on the block that it gives or that the line before left; in a file of tables, by the table's text that it gives or that the line before had.
+// Runs the lines of a text, each on the block that it gives or that the line before left, and, where lines have a table's text,
+// by the one that it gives or that the line before had.
 ghost use mathlib.Core.Path.{_≡_};
 ghost use lib.ListN.{length};
 ghost use Rattle.casefile.specs.Sizes.{mostBlock};
@@ -26,7 +27,11 @@ fn nowhere() -> Place {
 
 // Runs every line, with a table's text on each or on none; false where one cannot be read.
 pub fn run_lines(text: &[u8], has_tables: bool, table: &mut [u8], block: &mut [u8]) -> bool {
-    let mut place = nowhere();
+    let mut place = Place {
+        at: 0,
+        table_size: 0,
+        size: 0,
+    };
     while place.at < text.len() {
         let next = run_line(text, has_tables, place, table, block);
         if next.at <= place.at {
@@ -45,51 +50,46 @@ fn run_line(
     table: &mut [u8],
     block: &mut [u8],
 ) -> Place {
-    let columns = calls::read_columns(text, from.at);
+    let columns = calls::read_columns(text, from.at, has_tables);
     if !columns.is_read {
         return nowhere();
     }
-    let lent = read_table(text, has_tables, columns.after, table, from.table_size);
-    if !lent.is_read {
+    let lent = read_table(text, columns, table, from.table_size);
+    let read = blocks::read_block(text, lent.after, block, from.size, b'\n');
+    if !lent.is_read || !read.is_read {
         return nowhere();
     }
-    let read = blocks::read_block(text, lent.after, block, from.size);
-    let end = reading::step_over(text, read.after, b'\n');
-    if !read.is_read || !end.is_read {
-        return nowhere();
-    }
-    let m = reading::within(lent.size, table);
-    let n = reading::within(read.size, block);
-    run_call(columns, has_tables, &table[..m], &mut block[..n]);
+    run_fronts(columns, table, lent.size, block, read.size);
     Place {
-        at: end.after,
-        table_size: m,
-        size: n,
+        at: read.after,
+        table_size: lent.size,
+        size: read.size,
     }
 }
 
-// The table's text and the space after it, where lines have one.
-fn read_table(text: &[u8], has_tables: bool, from: usize, table: &mut [u8], size: usize) -> Block {
-    if !has_tables {
-        return Block {
-            size: 0,
-            after: from,
-            is_read: true,
-        };
+// The table's text, empty where the line has none.
+fn read_table(text: &[u8], columns: Columns, table: &mut [u8], size: usize) -> Block {
+    if columns.has_table {
+        return blocks::read_block(text, columns.after, table, size, b' ');
     }
-    let read = blocks::read_block(text, from, table, size);
-    let space = reading::step_over(text, read.after, b' ');
     Block {
-        size: read.size,
-        after: space.after,
-        is_read: read.is_read && space.is_read,
+        size: 0,
+        after: columns.after,
+        is_read: true,
     }
+}
+
+// The call on the first bytes of each.
+fn run_fronts(columns: Columns, table: &[u8], table_size: usize, block: &mut [u8], size: usize) {
+    let m = reading::within(table_size, table);
+    let n = reading::within(size, block);
+    run_call(columns, &table[..m], &mut block[..n]);
 }
 
 // Makes the call and prints what comes out.
-fn run_call(columns: Columns, has_tables: bool, table: &[u8], block: &mut [u8]) {
+fn run_call(columns: Columns, table: &[u8], block: &mut [u8]) {
     let before = kept(block);
-    let answer = calls::make(columns, has_tables, table, block);
+    let answer = calls::make(columns, table, block);
     out::print_outcome(
         answer.refusal,
         answer.first,

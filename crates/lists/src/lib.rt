@@ -84,15 +84,14 @@ fn run_line(text: &[u8], from: usize, texts: &mut [u8], size: usize) -> Place {
     if !answers.is_read {
         return nowhere();
     }
-    let lent = blocks::read_block(text, answers.after, texts, size);
-    let space = reading::step_over(text, lent.after, b' ');
-    if !lent.is_read || !space.is_read {
+    let lent = blocks::read_block(text, answers.after, texts, size, b' ');
+    if !lent.is_read {
         return nowhere();
     }
     let n = reading::within(lent.size, texts);
     let next = run_numbers(
         text,
-        space.after,
+        lent.after,
         &texts[..n],
         blocks.value as usize,
         refusals.value as usize,

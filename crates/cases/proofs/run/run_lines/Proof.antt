@@ -12,9 +12,6 @@ Inv-loop text has-tables table₀ block₀ place₀ table block place = (length 
 abbrev μ-loop : tie.MeasureT-loop
 μ-loop text has-tables table₀ block₀ place₀ table block place = length text - place .at
 
-nowhere-requires : tie.Need-nowhere-requires Inv-loop μ-loop
-nowhere-requires c κs = search needs
-
 loop-holds : tie.Need-loop-holds Inv-loop μ-loop
 loop-holds c = search needs
 
@@ -51,7 +48,6 @@ run-lines-spec =
     (tie.spec
     Inv-loop
     μ-loop
-    nowhere-requires
     loop-holds
     run-line-requires
     same-length
