@@ -12,16 +12,16 @@ rm -rf "$out" && mkdir -p "$out"
 part="faults"
 . "$root/tests/step.sh"
 
-# A copy of the sources, whose program runs one file of chain calls, one of calls
-# that are lent a table's text and one of lists.
+# A copy of the sources, whose program runs one file of chain calls, one of
+# lists and one of calls that are lent tables.
 copy() {
     local crate="$out/copy/crates/cases" from="$root/target/second/cases"
     rm -rf "$out/copy" && mkdir -p "$crate/data" &&
         cp "$root/crates.txt" "$out/copy/" &&
         (cd "$root/crates" && cp -r --parents */src "$out/copy/crates/") &&
-        cp "$from/chain-00.cases" "$from/table-00.cases" "$from/list-00.lists" "$crate/data/" &&
-        printf '%s\n' chain-00.cases table-00.cases list-00.lists >"$crate/args" &&
-        cat "$from/chain-00.expected" "$from/table-00.expected" "$from/list-00.expected" >"$crate/stdout"
+        cp "$from/chain-00.cases" "$from/list-00.lists" "$from/table-00.cases" "$crate/data/" &&
+        printf '%s\n' chain-00.cases list-00.lists table-00.cases >"$crate/args" &&
+        cat "$from/chain-00.expected" "$from/list-00.expected" "$from/table-00.expected" >"$crate/stdout"
 }
 
 # edit OLD NEW: puts a text in the place of a line that the copy has once.
@@ -75,9 +75,13 @@ filled='    if written.refusal == 0 && end < buf.len() {
 front='    if written.refusal != 0 && buf.len() > 0 {
         buf[0] = 0;
     }'
-lent='    let written = write_chain_table(block, giver, receiver, table, buf);'
+tabled='    let written = write_chain_table(block, giver, receiver, table, buf);'
+past='    if written.refusal == 0 && LINK_SIZE * written.links < buf.len() {
+        buf[LINK_SIZE * written.links] = 0;
+    }'
 by_text='    write_chain_by(block, &g.steps, g.refusal, giver, receiver, buf)'
 by_ours='    write_chain(block, giver, receiver, buf)'
+text='    if text.len() == 0 {'
 sized='    if !is_sized(calls.len(), blocks.len(), refusals.len(), answers.len()) {'
 first='        if blocks.len() > 0 {
             blocks[0] = 0;
@@ -87,7 +91,8 @@ step "no fault" unharmed
 step "chain spoils the byte after its part" found "$end" "$end"$'\n'"$after" '1 1 =' '0 1 ='
 step "chain writes the byte that a buffer was filled with" found "$end" "$end"$'\n'"$filled" '1 1 =' '2 1 ='
 step "a refused chain spoils a byte" found "$end" "$end"$'\n'"$front" '0 0 =' '1 0 ='
-step "chain by a text spoils the byte after its part" found "$lent" "$lent"$'\n'"$end"$'\n'"$after" '1 1 =' '0 1 ='
-step "chain by a text goes by our table" found "$by_text" "$by_ours" '16 0 0 0 =' '0 0 0 0 ='
+step "chain_table spoils the byte after its part" found "$tabled" "$tabled"$'\n'"$past" '1 1 =' '0 1 ='
+step "chain_table goes by our table" found "$by_text" "$by_ours" '16 0 0 0 =' '0 0 0 0 ='
+step "a table's text is left out" found "$text" '    if text.len() + 1 > 0 {' '7 0 0 =' '8 0 0 ='
 step "a refused list spoils a byte" found "$sized" "$sized"$'\n'"$first" '=' '2180:'
 step "a list does not copy its blocks" found '    copy_slot(blocks, i);' '' '0 1 0 0 2180:' '8 0 0 0 '

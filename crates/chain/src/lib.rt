@@ -36,22 +36,22 @@ fn unwritten(number: u32) -> ChainAnswer
     }
 }
 
-// The chain call by a lent step table, whose text is refused with `text` or passes where that is 0.
+// The chain call by a lent step table, whose text is refused with `fault` or passes where that is 0.
 fn write_chain_by(
     block: &[u8],
     table: &[i16],
-    text: u32,
+    fault: u32,
     giver: u32,
     receiver: u32,
     buf: &mut [u8],
 ) -> ChainAnswer
     requires { ⌜ TableRule (now table) ⌝ }
-    ensures { λ r. ⌜ ChainMade (lent text (now (table .entry))) (now (block .entry)) giver receiver (now (buf .entry)) r (now (buf .exit)) ⌝ }
+    ensures { λ r. ⌜ ChainMade (lent fault (now (table .entry))) (now (block .entry)) giver receiver (now (buf .entry)) r (now (buf .exit)) ⌝ }
 {
     if buf.len() < CHAIN_SIZE {
         return unwritten(refusal::WRONG_LENGTH);
     }
-    let n = early(block, pair_passed(giver, receiver), text);
+    let n = early(block, pair_passed(giver, receiver), fault);
     if n != 0 {
         return unwritten(n);
     }

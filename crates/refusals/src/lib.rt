@@ -32,9 +32,9 @@ fn tested(n: u32, number: u32, applies: bool) -> u32
     0
 }
 
-// The first that applies of 1, the refusal by what was passed, which is `number` or 0 where there is none, 7 and 17 by the step table's text, which is refused with `text` or passes where that is 0, and 8; or 0.
-pub fn early(block: &[u8], number: u32, text: u32) -> u32
-    ensures { λ r. ⌜ r ≡ firstOf (wrongLength (now (block .entry)) ∷ (number, not (eqb number 0)) ∷ (textRefused text ++ (notWellFormed (now (block .entry)) ∷ []))) ⌝ }
+// The first that applies of 1, the refusal by what was passed, which is `number` or 0 where there is none, 7 and 17 by the step table's text, which is refused with `fault` or passes where that is 0, and 8; or 0.
+pub fn early(block: &[u8], number: u32, fault: u32) -> u32
+    ensures { λ r. ⌜ r ≡ firstOf (wrongLength (now (block .entry)) ∷ (number, not (eqb number 0)) ∷ (textRefused fault ++ (notWellFormed (now (block .entry)) ∷ []))) ⌝ }
 {
     if block.len() != layout::BLOCK_SIZE {
         return refusal::WRONG_LENGTH;
@@ -42,11 +42,11 @@ pub fn early(block: &[u8], number: u32, text: u32) -> u32
     if number != 0 {
         return number;
     }
-    if text == refusal::MALFORMED {
-        return text;
+    if fault == refusal::MALFORMED {
+        return fault;
     }
-    if text == refusal::BAD_TABLE {
-        return text;
+    if fault == refusal::BAD_TABLE {
+        return fault;
     }
     if !block::well_formed(block) {
         return refusal::NOT_WELL_FORMED;
@@ -76,11 +76,11 @@ pub fn use_refusal(block: &[u8], receiver: u32) -> u32
     held::not_enrolled(0, block, receiver)
 }
 
-// Of a reach, where the step table's text is refused with `text` or passes. Only a grant looks at the table: the others promise theirs for every table.
-pub fn reach_refusal(block: &[u8], text: u32, giver: u32, receiver: u32) -> u32
-    ensures { λ r. ⌜ ((t : List ℤ) → r ≡ refusalOn (lent text t) (now (block .entry)) (askReach giver receiver)) ⌝ }
+// Of a reach, where the step table's text is refused with `fault` or passes. Only a grant looks at the table: the others promise theirs for every table.
+pub fn reach_refusal(block: &[u8], fault: u32, giver: u32, receiver: u32) -> u32
+    ensures { λ r. ⌜ ((t : List ℤ) → r ≡ refusalOn (lent fault t) (now (block .entry)) (askReach giver receiver)) ⌝ }
 {
-    let n = early(block, passed::pair_passed(giver, receiver), text);
+    let n = early(block, passed::pair_passed(giver, receiver), fault);
     if n != 0 {
         return n;
     }
@@ -91,7 +91,7 @@ pub fn reach_refusal(block: &[u8], text: u32, giver: u32, receiver: u32) -> u32
 pub fn grant_refusal(
     block: &[u8],
     table: &[i16],
-    text: u32,
+    fault: u32,
     giver: u32,
     receiver: u32,
     weight: u32,
@@ -99,12 +99,12 @@ pub fn grant_refusal(
     bar: u32,
 ) -> u32
     requires { ⌜ TableRule (now table) ⌝ }
-    ensures { λ r. ⌜ r ≡ refusalOn (lent text (now (table .entry))) (now (block .entry)) (grant (granted giver receiver weight need bar)) ⌝ }
+    ensures { λ r. ⌜ r ≡ refusalOn (lent fault (now (table .entry))) (now (block .entry)) (grant (granted giver receiver weight need bar)) ⌝ }
 {
     let n = early(
         block,
         passed::grant_passed(giver, receiver, weight, need, bar),
-        text,
+        fault,
     );
     if n != 0 {
         return n;
@@ -113,10 +113,10 @@ pub fn grant_refusal(
 }
 
 // Of a revocation.
-pub fn revoke_refusal(block: &[u8], text: u32, by: u32, giver: u32, receiver: u32) -> u32
-    ensures { λ r. ⌜ ((t : List ℤ) → r ≡ refusalOn (lent text t) (now (block .entry)) (revoke by giver receiver)) ⌝ }
+pub fn revoke_refusal(block: &[u8], fault: u32, by: u32, giver: u32, receiver: u32) -> u32
+    ensures { λ r. ⌜ ((t : List ℤ) → r ≡ refusalOn (lent fault t) (now (block .entry)) (revoke by giver receiver)) ⌝ }
 {
-    let n = early(block, passed::revoke_passed(by, giver, receiver), text);
+    let n = early(block, passed::revoke_passed(by, giver, receiver), fault);
     if n != 0 {
         return n;
     }
@@ -126,18 +126,18 @@ pub fn revoke_refusal(block: &[u8], text: u32, by: u32, giver: u32, receiver: u3
 // Of a downgrade.
 pub fn downgrade_refusal(
     block: &[u8],
-    text: u32,
+    fault: u32,
     by: u32,
     giver: u32,
     receiver: u32,
     weight: u32,
 ) -> u32
-    ensures { λ r. ⌜ ((t : List ℤ) → r ≡ refusalOn (lent text t) (now (block .entry)) (downgrade by giver receiver weight)) ⌝ }
+    ensures { λ r. ⌜ ((t : List ℤ) → r ≡ refusalOn (lent fault t) (now (block .entry)) (downgrade by giver receiver weight)) ⌝ }
 {
     let n = early(
         block,
         passed::downgrade_passed(by, giver, receiver, weight),
-        text,
+        fault,
     );
     if n != 0 {
         return n;

@@ -1,4 +1,4 @@
-// The cuts by a lent step table, whose text is refused with `text` or passes where that is 0.
+// The cuts by a lent step table, whose text is refused with `fault` or passes where that is 0.
 ghost use mathlib.Core.Path.{_≡_};
 ghost use mathlib.Core.Bool.{true};
 ghost use Rattle.rules.specs.Table.{TableRule};
@@ -29,15 +29,15 @@ fn settle(block: &mut [u8], table: &[i16]) -> Answer
 pub fn revoke_by(
     block: &mut [u8],
     table: &[i16],
-    text: u32,
+    fault: u32,
     by: u32,
     giver: u32,
     receiver: u32,
 ) -> Answer
     requires { ⌜ TableRule (now table) ⌝ }
-    ensures { λ r. ⌜ CutMade (lent text (now (table .entry))) (revoke by giver receiver) (now (block .entry)) r (now (block .exit)) ⌝ }
+    ensures { λ r. ⌜ CutMade (lent fault (now (table .entry))) (revoke by giver receiver) (now (block .entry)) r (now (block .exit)) ⌝ }
 {
-    let n = refusals::revoke_refusal(block, text, by, giver, receiver);
+    let n = refusals::revoke_refusal(block, fault, by, giver, receiver);
     if n != 0 {
         return refused(n);
     }
@@ -48,16 +48,16 @@ pub fn revoke_by(
 pub fn downgrade_by(
     block: &mut [u8],
     table: &[i16],
-    text: u32,
+    fault: u32,
     by: u32,
     giver: u32,
     receiver: u32,
     weight: u32,
 ) -> Answer
     requires { ⌜ TableRule (now table) ⌝ }
-    ensures { λ r. ⌜ CutMade (lent text (now (table .entry))) (downgrade by giver receiver weight) (now (block .entry)) r (now (block .exit)) ⌝ }
+    ensures { λ r. ⌜ CutMade (lent fault (now (table .entry))) (downgrade by giver receiver weight) (now (block .entry)) r (now (block .exit)) ⌝ }
 {
-    let n = refusals::downgrade_refusal(block, text, by, giver, receiver, weight);
+    let n = refusals::downgrade_refusal(block, fault, by, giver, receiver, weight);
     if n != 0 {
         return refused(n);
     }

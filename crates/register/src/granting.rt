@@ -1,4 +1,4 @@
-// Reach and grant by a lent step table, whose text is refused with `text` or passes where that is 0.
+// Reach and grant by a lent step table, whose text is refused with `fault` or passes where that is 0.
 ghost use Rattle.rules.specs.Table.{TableRule};
 ghost use Rattle.rules.specs.Register.{granted};
 ghost use Rattle.rules.specs.Call.{grant, askReach};
@@ -8,11 +8,11 @@ use crate::Answer;
 use crate::answered;
 use crate::refused;
 
-pub fn reach_by(block: &[u8], table: &[i16], text: u32, giver: u32, receiver: u32) -> Answer
+pub fn reach_by(block: &[u8], table: &[i16], fault: u32, giver: u32, receiver: u32) -> Answer
     requires { ⌜ TableRule (now table) ⌝ }
-    ensures { λ r. ⌜ Made (lent text (now (table .entry))) (askReach giver receiver) (now (block .entry)) r (now (block .entry)) ⌝ }
+    ensures { λ r. ⌜ Made (lent fault (now (table .entry))) (askReach giver receiver) (now (block .entry)) r (now (block .entry)) ⌝ }
 {
-    let n = refusals::reach_refusal(block, text, giver, receiver);
+    let n = refusals::reach_refusal(block, fault, giver, receiver);
     if n != 0 {
         return refused(n);
     }
@@ -23,7 +23,7 @@ pub fn reach_by(block: &[u8], table: &[i16], text: u32, giver: u32, receiver: u3
 pub fn grant_by(
     block: &mut [u8],
     table: &[i16],
-    text: u32,
+    fault: u32,
     giver: u32,
     receiver: u32,
     weight: u32,
@@ -31,9 +31,9 @@ pub fn grant_by(
     bar: u32,
 ) -> Answer
     requires { ⌜ TableRule (now table) ⌝ }
-    ensures { λ r. ⌜ Made (lent text (now (table .entry))) (grant (granted giver receiver weight need bar)) (now (block .entry)) r (now (block .exit)) ⌝ }
+    ensures { λ r. ⌜ Made (lent fault (now (table .entry))) (grant (granted giver receiver weight need bar)) (now (block .entry)) r (now (block .exit)) ⌝ }
 {
-    let n = refusals::grant_refusal(block, table, text, giver, receiver, weight, need, bar);
+    let n = refusals::grant_refusal(block, table, fault, giver, receiver, weight, need, bar);
     if n != 0 {
         return refused(n);
     }

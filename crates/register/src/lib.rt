@@ -129,7 +129,7 @@ pub fn reach_table(block: &[u8], giver: u32, receiver: u32, table: &[u8]) -> Ans
     granting::reach_by(block, &g.steps, g.refusal, giver, receiver)
 }
 
-// Grant, so.
+// Grant by such a table.
 pub fn grant_table(
     block: &mut [u8],
     giver: u32,
@@ -154,7 +154,7 @@ pub fn grant_table(
     )
 }
 
-// Revoke, so: what is kept is judged by this table.
+// Revoke by such a table: what is kept is judged by it.
 pub fn revoke_table(block: &mut [u8], by: u32, giver: u32, receiver: u32, table: &[u8]) -> Answer
     ensures { λ r. ⌜ CutMade (given (now (table .entry))) (revoke by giver receiver) (now (block .entry)) r (now (block .exit)) ⌝ }
 {
@@ -162,7 +162,7 @@ pub fn revoke_table(block: &mut [u8], by: u32, giver: u32, receiver: u32, table:
     cutting::revoke_by(block, &g.steps, g.refusal, by, giver, receiver)
 }
 
-// Downgrade, so.
+// Downgrade by such a table.
 pub fn downgrade_table(
     block: &mut [u8],
     by: u32,

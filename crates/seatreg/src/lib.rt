@@ -133,7 +133,7 @@ pub extern "C" fn seatreg_grant_table(
     answers::hand_out(o, answers)
 }
 
-// Reach, so.
+// Reach by such a table.
 #[no_mangle]
 pub extern "C" fn seatreg_reach_table(
     block: &[u8],
@@ -151,7 +151,7 @@ pub extern "C" fn seatreg_reach_table(
     answers::hand_out(o, answers)
 }
 
-// Revoke, so.
+// Revoke by such a table.
 #[no_mangle]
 pub extern "C" fn seatreg_revoke_table(
     block: &mut [u8],
@@ -170,7 +170,7 @@ pub extern "C" fn seatreg_revoke_table(
     answers::hand_out(o, answers)
 }
 
-// Downgrade, so.
+// Downgrade by such a table.
 #[no_mangle]
 pub extern "C" fn seatreg_downgrade_table(
     block: &mut [u8],

@@ -16,7 +16,7 @@ call s = askReach (s .args .giver) (s .args .receiver)
 abbrev start : tie.Else2 → tie.Start
 start c = c .before .before .before .before .before .before
 
-found : (c : tie.After-early) → let s = c .before .before .before .before .before in EarlyFound (s .args .text) (s .args .block .now) (call s) (c .early .result)
+found : (c : tie.After-early) → let s = c .before .before .before .before .before in EarlyFound (s .args .fault) (s .args .block .now) (call s) (c .early .result)
 found c = early-found (c .before .pair-passed .ensures) (c .early .ensures)
 
 -- ── the needs ──
@@ -24,7 +24,7 @@ unwritten-requires : tie.Need-unwritten-requires
 unwritten-requires c κs = search needs
 
 returns : tie.Need-returns
-returns c = let a = c .before .before .before .before .args in rw (c .unwritten .ensures) (chain-buffer (lent (a .text) (a .table .now)) (a .block .now) (a .giver) (a .receiver) (a .buf .now) (c .before .if1 .taken))
+returns c = let a = c .before .before .before .before .args in rw (c .unwritten .ensures) (chain-buffer (lent (a .fault) (a .table .now)) (a .block .now) (a .giver) (a .receiver) (a .buf .now) (c .before .if1 .taken))
 
 pair-passed-requires : tie.Need-pair-passed-requires
 pair-passed-requires c κs = search needs
@@ -40,7 +40,7 @@ returns-2 c =
     let f = c .before .before in
     let e = f .before .before in
     let a = e .before .before .before .args in
-    rw (c .unwritten2 .ensures) (chain-early (lent (a .text) (a .table .now)) (a .block .now) (a .giver) (a .receiver) (a .buf .now) (e .if1 .left) (f .early .result) (found f .first) (c .before .if2 .taken))
+    rw (c .unwritten2 .ensures) (chain-early (lent (a .fault) (a .table .now)) (a .block .now) (a .giver) (a .receiver) (a .buf .now) (e .if1 .left) (f .early .result) (found f .first) (c .before .if2 .taken))
 
 write-held-requires : tie.Need-write-held-requires
 write-held-requires c κs =
@@ -55,7 +55,7 @@ returns-3 c =
     let o = c .before .before .write-held in
     let e = c .before .before .before .before in
     let a = start e .args in
-    chain-made (lent (a .text) (a .table .now)) (a .block .now) (a .giver) (a .receiver) (a .buf .now) (e .before .before .before .if1 .left) (found (e .before) .first ∙ e .if2 .left) (o .result) _ (o .ensures)
+    chain-made (lent (a .fault) (a .table .now)) (a .block .now) (a .giver) (a .receiver) (a .buf .now) (e .before .before .before .if1 .left) (found (e .before) .first ∙ e .if2 .left) (o .result) _ (o .ensures)
 
 pub write-chain-by-spec : {M : Type 1} → statement M
 write-chain-by-spec =

@@ -8,7 +8,7 @@ use Rattle.refusals.proofs.downgrade_refusal.Tie as tie
 abbrev call : tie.Start → Call
 call s = downgrade (s .args .by) (s .args .giver) (s .args .receiver) (s .args .weight)
 
-found : (c : tie.After-early) → let s = c .before .before .before in EarlyFound (s .args .text) (s .args .block .now) (call s) (c .early .result)
+found : (c : tie.After-early) → let s = c .before .before .before in EarlyFound (s .args .fault) (s .args .block .now) (call s) (c .early .result)
 found c = early-found (c .before .downgrade-passed .ensures) (c .early .ensures)
 
 downgrade-passed-requires : tie.Need-downgrade-passed-requires

@@ -8,7 +8,7 @@ use Rattle.refusals.proofs.reach_refusal.Tie as tie
 abbrev call : tie.Start → Call
 call s = askReach (s .args .giver) (s .args .receiver)
 
-found : (c : tie.After-early) → let s = c .before .before .before in EarlyFound (s .args .text) (s .args .block .now) (call s) (c .early .result)
+found : (c : tie.After-early) → let s = c .before .before .before in EarlyFound (s .args .fault) (s .args .block .now) (call s) (c .early .result)
 found c = early-found (c .before .pair-passed .ensures) (c .early .ensures)
 
 pair-passed-requires : tie.Need-pair-passed-requires

@@ -21,7 +21,7 @@ change s = removal (s .args .giver) (s .args .receiver)
 abbrev start : tie.Else1 → tie.Start
 start c = c .before .before .before .before
 
-past : (c : tie.Else1) → let a = start c .args in CutThrough (lent (a .text) (a .table .now)) (a .block .now) (a .by) (change (start c))
+past : (c : tie.Else1) → let a = start c .args in CutThrough (lent (a .fault) (a .table .now)) (a .block .now) (a .by) (change (start c))
 past c =
     let s = start c in
     cut-past (s .pre) (fits-bytes (s .args .block .now) (c .before .before .before .slice-known .given)) (c .before .revoke-refusal .ensures (s .args .table .now)) (c .if1 .left)
@@ -41,7 +41,7 @@ returns c =
     let n = c .before .before .revoke-refusal in
     let s = c .before .before .before .before .before in
     let t = s .args .table .now in
-    rw (c .refused .ensures) (cut-refused (lent (s .args .text) t) (call s) (s .args .block .now) (n .result) (n .ensures t) (c .before .if1 .taken))
+    rw (c .refused .ensures) (cut-refused (lent (s .args .fault) t) (call s) (s .args .block .now) (n .result) (n .ensures t) (c .before .if1 .taken))
 
 cast-remove : tie.Need-cast-remove
 cast-remove c = omega (arith, past (c .before) .through .numbers .1 .0)

@@ -28,8 +28,8 @@ start c = c .before .before .before .before
 bytes : (c : tie.Else1) → IsBytes (start c .args .block .now)
 bytes c = fits-bytes (start c .args .block .now) (c .before .before .before .slice-known .given)
 
-past : (c : tie.Else1) → Through (lent (start c .args .text) (start c .args .table .now)) (start c .args .block .now) (call (start c))
-past c = through (lent (start c .args .text) (start c .args .table .now)) (start c .args .block .now) (call (start c)) (sym (c .before .grant-refusal .ensures) ∙ c .if1 .left)
+past : (c : tie.Else1) → Through (lent (start c .args .fault) (start c .args .table .now)) (start c .args .block .now) (call (start c))
+past c = through (lent (start c .args .fault) (start c .args .table .now)) (start c .args .block .now) (call (start c)) (sym (c .before .grant-refusal .ensures) ∙ c .if1 .left)
 
 room : (c : tie.Else1) → countIn (start c .args .block .now) < 256
 room c = let a = start c .args in grant-room (a .table .now) (a .block .now) (bytes c) (past c .early .formed) (granted (a .giver) (a .receiver) (a .weight) (a .need) (a .bar)) (past c .held)
@@ -47,7 +47,7 @@ same-length c = search needs
 returns : tie.Need-returns
 returns c =
     let s = c .before .before .before .before .before in
-    rw (c .refused .ensures) (made-refused (lent (s .args .text) (s .args .table .now)) (call s) (s .args .block .now) (c .before .before .grant-refusal .result) (c .before .before .grant-refusal .ensures) (c .before .if1 .taken))
+    rw (c .refused .ensures) (made-refused (lent (s .args .fault) (s .args .table .now)) (call s) (s .args .block .now) (c .before .before .grant-refusal .result) (c .before .before .grant-refusal .ensures) (c .before .if1 .taken))
 
 count-requires : tie.Need-count-requires
 count-requires c κs = omega (arith, past (c .before) .early .size)
@@ -89,7 +89,7 @@ returns-2 c =
     let e = k .before .before in
     let a = start e .args in
     rw (c .answered .ensures, toZ-pos w32 {n = k .count .result + 1} (omega (arith, room e, k .count .ensures)), k .count .ensures)
-    (grant-done (lent (a .text) (a .table .now)) (a .block .now) (bytes e) (granted (a .giver) (a .receiver) (a .weight) (a .need) (a .bar)) (past e) (i .last .0) (i .ensures))
+    (grant-done (lent (a .fault) (a .table .now)) (a .block .now) (bytes e) (granted (a .giver) (a .receiver) (a .weight) (a .need) (a .bar)) (past e) (i .last .0) (i .ensures))
 
 pub grant-by-spec : {M : Type 1} → statement M
 grant-by-spec =

@@ -24,8 +24,8 @@ start c = c .before .before .before
 bytes : (c : tie.Else1) → IsBytes (start c .args .block .now)
 bytes c = fits-bytes (start c .args .block .now) (c .before .before .shared-slice-known .given)
 
-past : (c : tie.Else1) → Through (lent (start c .args .text) (start c .args .table .now)) (start c .args .block .now) (call (start c))
-past c = through (lent (start c .args .text) (start c .args .table .now)) (start c .args .block .now) (call (start c)) (sym (c .before .reach-refusal .ensures (start c .args .table .now)) ∙ c .if1 .left)
+past : (c : tie.Else1) → Through (lent (start c .args .fault) (start c .args .table .now)) (start c .args .block .now) (call (start c))
+past c = through (lent (start c .args .fault) (start c .args .table .now)) (start c .args .block .now) (call (start c)) (sym (c .before .reach-refusal .ensures (start c .args .table .now)) ∙ c .if1 .left)
 
 -- ── the needs ──
 reach-refusal-requires : tie.Need-reach-refusal-requires
@@ -37,12 +37,12 @@ refused-requires c κs = search needs
 returns : tie.Need-returns
 returns c =
     let s = c .before .before .before .before in
-    rw (c .refused .ensures) (made-refused (lent (s .args .text) (s .args .table .now)) (call s) (s .args .block .now) (c .before .before .reach-refusal .result) (c .before .before .reach-refusal .ensures (s .args .table .now)) (c .before .if1 .taken))
+    rw (c .refused .ensures) (made-refused (lent (s .args .fault) (s .args .table .now)) (call s) (s .args .block .now) (c .before .before .reach-refusal .result) (c .before .before .reach-refusal .ensures (s .args .table .now)) (c .before .if1 .taken))
 
 reach-of-requires : tie.Need-reach-of-requires
 reach-of-requires c κs =
     let a = start c .args in
-    let e = reach-both (lent (a .text) (a .table .now)) (a .block .now) (bytes c) (a .giver) (a .receiver) (past c) in
+    let e = reach-both (lent (a .fault) (a .table .now)) (a .block .now) (bytes c) (a .giver) (a .receiver) (past c) in
     (record { formed = e .formed; rule = start c .pre }, e .giver, e .receiver)
 
 cast-answered : tie.Need-cast-answered
@@ -57,7 +57,7 @@ returns-2 c =
     let e = c .before .before in
     let a = start e .args in
     rw (c .answered .ensures, toZ-ofZ {w = w16} {z = k .result} record { sfits = omega (arith, k .ok) }, toZ-ofZ {w = w32} {z = k .result} record { sfits = omega (arith, k .ok) })
-    (reach-done (lent (a .text) (a .table .now)) (a .block .now) (bytes e) (a .giver) (a .receiver) (past e) (k .result) (k .ensures))
+    (reach-done (lent (a .fault) (a .table .now)) (a .block .now) (bytes e) (a .giver) (a .receiver) (past e) (k .result) (k .ensures))
 
 pub reach-by-spec : {M : Type 1} → statement M
 reach-by-spec =
