@@ -38,7 +38,7 @@ module _ {A B C : Type 0} (g : A → B) (f : B → C) where
   map-drop (suc n) (x ∷ xs) = map-drop n xs
 
 -- a call that is lent no text
-asked-encode : (R : Register) → WellFormed R → (c : Call) → askedOn (encode R) (asks [] c) ≡ onBytes (callStep steps R c)
+pub asked-encode : (R : Register) → WellFormed R → (c : Call) → askedOn (encode R) (asks [] c) ≡ onBytes (callStep steps R c)
 asked-encode R f c = ap (λ (g : Given). callOn g (encode R) c) (lent-ours c) ∙ callOn-encode steps R f c
 
 -- ── the trace on bytes is the trace on registers, written ──

@@ -2,3 +2,4 @@ pub mod History
 pub mod Exactly
 pub mod ByteExamples
 pub mod Keeping
+pub mod BadLists

@@ -219,10 +219,11 @@ twos-allowed : allowed twos twos-register (entry 1 2 8) ≡ pos 7
 unfolding larger next two twos meets limitFrom goesOn chains reach allowed
 twos-allowed = refl
 
-pub not-supported-next : Supported steps twos-register × (Supported twos twos-register → ⊥)
+pub not-supported-next : let R = registerAt steps twos-given 8 in Supported steps R × (Supported twos R → ⊥)
 not-supported-next = (
-  subst (λ (R : Register). Supported steps R) twos-granted (demand3-steps .supported twos-given 8),
-  λ s.
+  demand3-steps .supported twos-given 8,
+  λ p.
+      let s = subst (λ (R : Register). Supported twos R) twos-granted p in
       let h = carried-allowed twos twos-rule twos-register (entry 1 2 8) (s (entry 1 2 8) (List·Memᴰ·tail (List·Memᴰ·tail (List·Memᴰ·head refl)))) in
       omega (arith, ap code twos-allowed),
 )

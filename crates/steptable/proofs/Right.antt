@@ -48,7 +48,7 @@ entries-test : (t : List ℤ) → AreNexts t → T (areNexts t)
 entries-test [] a = tt
 entries-test (x ∷ xs) a = T-both (fromNone x && leb (code x) (suc most)) (areNexts xs) (entry-test x (a .0)) (entries-test xs (a .1))
 
-test-entries : (t : List ℤ) → T (areNexts t) → AreNexts t
+pub test-entries : (t : List ℤ) → T (areNexts t) → AreNexts t
 test-entries [] h = tt
 test-entries (x ∷ xs) h =
     let a = fromNone x && leb (code x) (suc most) in

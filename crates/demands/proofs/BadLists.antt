@@ -1,0 +1,66 @@
+-- What is not true of every list of calls: that each block is supported by the table that the call there is given. Assumes nothing.
+use mathlib.Core.Path.{_≡_, refl, ap, subst, _∙_}
+use mathlib.Core.List.{List, [], _∷_, _++_, map}
+use Prim.Native.Nat.{ℕ}
+use lib.Dec.{T}
+use lib.ListN.{length}
+use Rattle.rules.specs.List.{At}
+use Rattle.rules.specs.Limit.{fromNone}
+use Rattle.rules.specs.Table.{steps}
+use Rattle.rules.specs.Register.{Register}
+use Rattle.rules.specs.Support.{Supported}
+use Rattle.rules.specs.WellFormed.{WellFormed}
+use Rattle.rules.specs.Call.{Call, revoke, fresh}
+use Rattle.rules.specs.CallStep.{callStep}
+use Rattle.rules.specs.Trace.{stateFrom}
+use Rattle.rules.specs.History.{leftBy, registerAt}
+use Rattle.rules.specs.Examples.{two, twos, twos-given}
+use Rattle.rules.proofs.Answers.{twos-rule}
+use Rattle.rules.proofs.BadOutcomes.{not-supported-next}
+use Rattle.rules.proofs.Calls.{fresh-formed, callStep-formed}
+use Rattle.rules.proofs.History.{demand3-steps}
+use Rattle.block.specs.Block.{decode, encode}
+use Rattle.block.proofs.Encode.{decode-encode}
+use Rattle.steptable.specs.TableText.{tableText, AreNexts, passing, given}
+use Rattle.steptable.specs.declared.Given.{Given}
+use Rattle.steptable.proofs.Right.{given-right, test-entries}
+use Rattle.register.specs.CallOn.{Result}
+use Rattle.demands.specs.History.{Asked, asks, reckons, askedOn, bytesLeft, blockAt}
+use Rattle.demands.proofs.ByteExamples.{asked-encode}
+
+abbrev SupportedByOwn : Type 0
+SupportedByOwn = (qs : List Asked) (i : ℕ) (text : List ℕ) (c : Call) → At qs i (asks text c) → T (reckons c) → given text .refusal ≡ 0 → Supported (given text .steps) (decode (blockAt qs i))
+
+-- ── the text of the table that falls by two ──
+twos-nexts : AreNexts twos
+unfolding two twos fromNone
+twos-nexts = test-entries twos tt
+
+twos-size : length twos ≡ 256
+unfolding twos
+twos-size = refl
+
+twos-passes : given (tableText twos) ≡ passing twos
+twos-passes = given-right .passes (tableText twos) twos record { size = twos-size; entries = twos-nexts; same = refl } twos-rule
+
+-- ── calls that are lent no text, and others after them ──
+blocks-encode : (R : Register) → WellFormed R → (cs : List Call) (rest : List Asked)
+    → stateFrom askedOn bytesLeft (encode R) (map (asks []) cs ++ rest) (length cs) ≡ encode (stateFrom (callStep steps) leftBy R cs (length cs))
+blocks-encode R f [] rest = refl
+blocks-encode R f (c ∷ cs) rest =
+    ap (λ (r : Result). stateFrom askedOn bytesLeft (r .bytes) (map (asks []) cs ++ rest) (length cs)) (asked-encode R f c)
+    ∙ blocks-encode (callStep steps R c .left) (callStep-formed steps R c f) cs rest
+
+-- granted by our table; then a cut is lent the other
+abbrev mixed : List Asked
+mixed = map (asks []) twos-given ++ (asks (tableText twos) (revoke 0 0 4) ∷ [])
+
+mixed-register : decode (blockAt mixed 8) ≡ registerAt steps twos-given 8
+mixed-register =
+    ap decode (blocks-encode fresh fresh-formed twos-given (asks (tableText twos) (revoke 0 0 4) ∷ []))
+    ∙ decode-encode (registerAt steps twos-given 8) (demand3-steps .wellFormed twos-given 8)
+
+pub not-supported-by-own : SupportedByOwn → ⊥
+not-supported-by-own claim =
+    let s = claim mixed 8 (tableText twos) (revoke 0 0 4) refl tt (ap (λ (g : Given). g .refusal) twos-passes) in
+    not-supported-next .1 (subst (Supported twos) mixed-register (subst (λ (g : Given). Supported (g .steps) (decode (blockAt mixed 8))) twos-passes s))
