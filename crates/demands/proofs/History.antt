@@ -11,7 +11,6 @@ use lib.IntN.{ℤ, pos}
 use Rattle.rules.specs.Table.{TableRule, Below, steps}
 use Rattle.rules.specs.Register.{Register}
 use Rattle.rules.specs.Support.{Supported}
-use Rattle.rules.specs.Cut.{Change}
 use Rattle.rules.specs.WellFormed.{WellFormed}
 use Rattle.rules.specs.Call.{Call, enrol, grant, revoke, downgrade, askReach, askUse, fresh}
 use Rattle.rules.specs.Refusal.{firstOf, held, refusalOf}
@@ -33,11 +32,10 @@ use Rattle.steptable.proofs.Right.{given-right, given-keeps, given-number}
 use Rattle.refusals.specs.Early.{textRefused}
 use Rattle.register.specs.CallOn.{Result, turned, callOn, openOn}
 use Rattle.register.specs.Made.{result, MadeOpen}
-use Rattle.register.specs.Cuts.{CutsLeft}
 use Rattle.register.specs.declared.Answer.{Answer}
 use Rattle.register.proofs.CutWays.{register-left, cuts-left}
 use Rattle.register.proofs.Through.{accepted-through}
-use Rattle.demands.specs.History.{Asked, asks, reckons, lentTo, askedOn, CutsAsked, bytesLeft, blockAt, GivenBelow, Demand3}
+use Rattle.demands.specs.History.{Asked, asks, reckons, lentTo, askedOn, CutsAsked, bytesLeft, GivenBelow, Demand3}
 use Rattle.demands.specs.Kept.{Kept}
 use Rattle.demands.proofs.Keeping.{kept}
 
