@@ -67,7 +67,7 @@ lent-ours c = go (reckons c)
     go false = refl
 
 -- a cut is given what its own text gives
-cuts-asked : (b : List ℕ) (q : Asked) → IsBytes b → CutsAsked b q (askedOn b q)
+pub cuts-asked : (b : List ℕ) (q : Asked) → IsBytes b → CutsAsked b q (askedOn b q)
 cuts-asked b (asks text (enrol m)) bytes = λ k i. absurd i
 cuts-asked b (asks text (grant d)) bytes = λ k i. absurd i
 cuts-asked b (asks text (revoke y g r)) bytes = cuts-left (given text) (given-keeps text) b bytes (revoke y g r)

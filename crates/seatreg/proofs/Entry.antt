@@ -34,7 +34,7 @@ module _ (o : Answer) (a : List ℕ) where
   accepted-bytes n a' h z = h .1 ∙ ap (λ (x : Bool). cond x (answerBytes (o .first) (o .second) (o .third)) a) (eq-eqb (o .refusal) 0 (sym (h .0) ∙ z))
 
 -- an accepted cut's answers as bytes
-cut-left : (t : List ℤ) (C : Register) (o : Answer) (n : ℕ) (b' a' : List ℕ) → o .refusal ≡ 0 → CutRight t C (onRegister (result o b')) → a' ≡ answerBytes (o .first) (o .second) (o .third)
+pub cut-left : (t : List ℤ) (C : Register) (o : Answer) (n : ℕ) (b' a' : List ℕ) → o .refusal ≡ 0 → CutRight t C (onRegister (result o b')) → a' ≡ answerBytes (o .first) (o .second) (o .third)
     → EntryCutRight t C record { refusal = n; block = b'; answers = a' }
 cut-left t C o n b' a' z d e = record {
   first = o .first;

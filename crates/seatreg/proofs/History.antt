@@ -1,61 +1,46 @@
 -- The history theorem over the entry points: demand 3 follows from the relation that every entry point promises. Assumes nothing.
-use mathlib.Core.Path.{_≡_, refl, ap, subst}
-use mathlib.Core.Logic.{_≢_, _⊎_, inl, inr}
+use mathlib.Core.Path.{_≡_, ap}
 use mathlib.Core.Bool.{Bool, true, false, cond}
 use mathlib.Core.List.{List}
 use Prim.Native.Nat.{ℕ}
 use native.Mathlib.Omega.{arith}
+use borrow.Author.Tests.{eq-eqb}
 use lib.Dec.{eqb}
 use lib.ListN.{length}
-use lib.IntN.{pos}
-use Rattle.rules.specs.Table.{TableRule}
+use lib.IntN.{ℤ, pos}
 use Rattle.rules.specs.Support.{Supported}
-use Rattle.rules.specs.Call.{Call, enrol, grant, revoke, downgrade, askReach, askUse, fresh}
-use Rattle.rules.specs.Trace.{PlaceRight}
-use Rattle.rules.proofs.Lists.{eqOr}
+use Rattle.rules.specs.Cut.{changed}
+use Rattle.rules.specs.Call.{Call, fresh}
 use Rattle.rules.proofs.Trace.{stays-each, stays, places}
 use Rattle.block.specs.Layout.{blockSize}
 use Rattle.block.specs.Bytes.{IsBytes}
 use Rattle.block.specs.Block.{decode, encode}
 use Rattle.steptable.specs.TableText.{given}
-use Rattle.steptable.specs.declared.Given.{Given}
-use Rattle.steptable.proofs.Right.{given-keeps}
-use Rattle.register.specs.CallOn.{Result, turned, callOn, openOn}
+use Rattle.register.specs.CallOn.{Result, turned, openOn}
 use Rattle.register.specs.declared.Answer.{Answer}
-use Rattle.register.proofs.CutWays.{cut-made}
+use Rattle.register.specs.Cuts.{CutsLeft}
 use Rattle.demands.specs.History.{Asked, asks, askedOn, GivenBelow}
-use Rattle.demands.proofs.History.{bytes-left, Sound, sound, fresh-sound, call-under, fresh-supported}
-use Rattle.seatreg.specs.Answers.{answersSize}
-use Rattle.seatreg.specs.Entry.{Returned, answersAfter, handedOut, wrongAnswers, entryOf, entryOn, entryOpen, EntryOpened, EntryCutsRight}
+use Rattle.demands.proofs.History.{cuts-asked, bytes-left, Sound, sound, fresh-sound, call-under, fresh-supported}
+use Rattle.seatreg.specs.Answers.{answersSize, answerBytes}
+use Rattle.seatreg.specs.Entry.{Returned, handedOut, wrongAnswers, entryOf, entryOpen, EntryOpened, EntryCutsRight}
 use Rattle.seatreg.specs.History.{EntryAsked, entryAskedOn, CutsRightBy, EntryCutsAsked, blockLeft, EntryDemand3}
-use Rattle.seatreg.proofs.Entry.{cut-short, cut-made as entry-made}
+use Rattle.seatreg.proofs.Entry.{cut-left}
 
 -- ── one call ──
-module _ (b a : List ℕ) (bytes : IsBytes b) where
-  -- an accepted cut leaves the best remainder
-  cuts-right : (g : Given) → TableRule (g .steps) → (c : Call) → EntryCutsRight (g .steps) b c (entryOf (callOn g b c) b a)
-  unfolding entryOn
-  cuts-right g rule c = go (eqOr (length a) answersSize)
-    where
-      right : (r : Returned) → PlaceRight (entryOn g a) (EntryCutsRight (g .steps)) b c r → EntryCutsRight (g .steps) b c (entryOn g a b c)
-      right r p = subst (λ (x : Returned). EntryCutsRight (g .steps) b c x) (p .outcome) (p .cut)
 
-      go : (length a ≡ answersSize) ⊎ (length a ≢ answersSize) → EntryCutsRight (g .steps) b c (entryOn g a b c)
-      go (inl l) =
-          let r : Result = callOn g b c in
-          let o : Answer = record { refusal = r .refusal; first = r .first; second = r .second; third = r .third } in
-          let a' = answersAfter (o .refusal) (o .first) (o .second) (o .third) a in
-          right record { refusal = o .refusal; block = r .bytes; answers = a' }
-          (entry-made b a g c l o (r .bytes) (cut-made g rule c b bytes o (r .bytes) refl) (o .refusal) a' (refl, refl))
-      go (inr n) = right (wrongAnswers b a) (cut-short b a g c n)
+-- what is right of a call's result is right of what its entry point returns
+entry-cuts : (t : List ℤ) (b a : List ℕ) (c : Call) (r : Result) → CutsLeft t b c r → EntryCutsRight t b c (entryOf r b a)
+entry-cuts t b a c r cut = go (eqb (length a) answersSize)
+  where
+    o : Answer
+    o = record { refusal = r .refusal; first = r .first; second = r .second; third = r .third }
 
-  cuts-asked : (q : Asked) → CutsRightBy b q (entryOf (askedOn b q) b a)
-  cuts-asked (asks text (enrol m)) = λ k i. absurd i
-  cuts-asked (asks text (grant d)) = λ k i. absurd i
-  cuts-asked (asks text (revoke y g r)) = cuts-right (given text) (given-keeps text) (revoke y g r)
-  cuts-asked (asks text (downgrade y g r w)) = cuts-right (given text) (given-keeps text) (downgrade y g r w)
-  cuts-asked (asks text (askReach g r)) = λ k i. absurd i
-  cuts-asked (asks text (askUse r)) = λ k i. absurd i
+    go : (x : Bool) → EntryCutsRight t b c (cond x (handedOut r a) (wrongAnswers b a))
+    go true = λ k i z. cut-left t (changed (decode b) k) o (r .refusal) (r .bytes) (handedOut r a .answers) z (cut k i z) (ap (λ (x : Bool). cond x (answerBytes (r .first) (r .second) (r .third)) a) (eq-eqb (r .refusal) 0 z))
+    go false = λ k i z. absurd (omega arith)
+
+cuts-right : (b a : List ℕ) → IsBytes b → (q : Asked) → CutsRightBy b q (entryOf (askedOn b q) b a)
+cuts-right b a bytes (asks text c) = entry-cuts (given text .steps) b a c (askedOn b (asks text c)) (cuts-asked b (asks text c) bytes)
 
 -- the block is left as the call leaves it, or as it was: what every call keeps is kept
 entry-keeps : (P : List ℕ → Type 0) (b : List ℕ) (e : EntryAsked) → P b → P (askedOn b (e .asked) .bytes) → P (entryAskedOn b e .block)
@@ -82,7 +67,7 @@ opened b a b' a' made = go (eqb (length a) answersSize) (eqb (length b) blockSiz
 pub entry-demand3 : EntryDemand3
 entry-demand3 = record {
   opened = opened;
-  places = places entryAskedOn blockLeft IsBytes keeps-bytes EntryCutsAsked (λ b e bytes. cuts-asked b (e .answers) bytes (e .asked)) (encode fresh) (fresh-sound .0);
+  places = places entryAskedOn blockLeft IsBytes keeps-bytes EntryCutsAsked (λ b e bytes. cuts-right b (e .answers) bytes (e .asked)) (encode fresh) (fresh-sound .0);
   formed = λ es i. stays entryAskedOn blockLeft Sound (λ b e s. entry-keeps Sound b e s (sound b (e .asked) s)) (encode fresh) es i fresh-sound .1;
   supported = λ es i m rule u. stays-each entryAskedOn blockLeft (λ b. IsBytes b × Supported m (decode b)) (λ e. GivenBelow (e .asked) m)
       (λ b e below p. (keeps-bytes b e (p .0), entry-keeps (λ x. Supported m (decode x)) b e (p .1) (call-under m rule b (e .asked) below (p .0) (p .1))))
