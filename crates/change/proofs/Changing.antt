@@ -7,8 +7,8 @@ use native.Mathlib.Omega.{arith}
 use lib.ListN.{length, getD, take, drop, set}
 use lib.Seq.{sets}
 use Rattle.rules.specs.Register.{Delegation, reweigh, withDelegations, granted}
-use Rattle.rules.specs.Pair.{isPair, stands}
-use Rattle.rules.specs.Cut.{removal, lowering, named}
+use Rattle.rules.specs.Pair.{isPair, stands, reweighed}
+use Rattle.rules.specs.Cut.{removal, named}
 use Rattle.rules.specs.Call.{enrolled}
 use Rattle.rules.specs.CallStep.{before, insert}
 use Rattle.block.specs.Layout.{blockSize, mostSubjects, mostRecords, recordSize, countAt, recordsAt, weightByte}
@@ -79,9 +79,8 @@ module _ (b : List ℕ) (bytes : IsBytes b) (formed : wellFormed b ≡ true) whe
           ∙ ap (λ (x : List Delegation). encode (withDelegations (decode b) x)) (sym (filter-pair g r ds ((held-formed b bytes formed) .rising)))
 
       -- the pair's delegation at another weight
-      pub lower-held : (w : ℕ) → set b (recordPlace k + weightByte) w ≡ encode (named (decode b) (lowering g r w))
-      unfolding named
-      lower-held w =
+      pub reweigh-held : (w : ℕ) → set b (recordPlace k + weightByte) w ≡ encode (reweighed (decode b) g r w)
+      reweigh-held w =
           let ds = decode b .delegations in
           let l : k < length ds = omega (arith, place-below, all) in
           ap (λ (x : List ℕ). set x (recordPlace k + weightByte) w) (held-written b bytes formed)

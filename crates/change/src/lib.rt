@@ -7,8 +7,8 @@ ghost use mathlib.Core.Bool.{true};
 ghost use Prim.Native.Nat.{_<_};
 ghost use lib.ListN.{length};
 ghost use Rattle.rules.specs.Register.{withDelegations, granted};
-ghost use Rattle.rules.specs.Pair.{stands};
-ghost use Rattle.rules.specs.Cut.{removal, lowering, named};
+ghost use Rattle.rules.specs.Pair.{stands, reweighed};
+ghost use Rattle.rules.specs.Cut.{removal, named};
 ghost use Rattle.rules.specs.Call.{fresh, enrolled};
 ghost use Rattle.rules.specs.CallStep.{insert};
 ghost use Rattle.block.specs.Layout.{blockSize, mostSubjects, mostRecords};
@@ -78,7 +78,7 @@ pub fn remove(b: &mut [u8], giver: u8, receiver: u8)
 // The pair's delegation at another weight.
 pub fn set_weight(b: &mut [u8], giver: u8, receiver: u8, weight: u8)
     requires { ⌜ (wellFormed (now b) ≡ true) × (stands (decode (now b)) giver receiver ≡ true) ⌝ }
-    ensures { λ _. ⌜ now (b .exit) ≡ encode (named (decode (now (b .entry))) (lowering giver receiver weight)) ⌝ }
+    ensures { λ _. ⌜ now (b .exit) ≡ encode (reweighed (decode (now (b .entry))) giver receiver weight) ⌝ }
 {
     let n = count(b);
     let at = record_place(find(b, n, giver, receiver));

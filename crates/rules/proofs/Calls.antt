@@ -15,7 +15,7 @@ use Rattle.rules.specs.Limit.{code, _≼_}
 use Rattle.rules.specs.Table.{TableRule, Below}
 use Rattle.rules.specs.Register.{Delegation, Register, reweigh, withDelegations}
 use Rattle.rules.specs.Support.{allowed, Carried, Supported}
-use Rattle.rules.specs.Pair.{isPair}
+use Rattle.rules.specs.Pair.{isPair, reweighed}
 use Rattle.rules.specs.Round.{settle}
 use Rattle.rules.specs.Remainder.{Within}
 use Rattle.rules.specs.Cut.{removal, lowering, named}
@@ -47,9 +47,8 @@ removed-formed R g r f = record {
   each = λ d m. f .each d (filter-mem (λ (x : Delegation). not (isPair g r x)) (R .delegations) m .0);
 }
 
-pub lowered-formed : (R : Register) (g r w : ℕ) → w ≤ 255 → WellFormed R → WellFormed (named R (lowering g r w))
-unfolding named
-lowered-formed R g r w h f = record {
+reweighed-formed : (R : Register) (g r w : ℕ) → w ≤ 255 → WellFormed R → WellFormed (reweighed R g r w)
+reweighed-formed R g r w h f = record {
   some = f .some;
   most = f .most;
   marked = f .marked;
@@ -72,6 +71,10 @@ lowered-formed R g r w h f = record {
     formed : (d : Delegation) (b : Bool) → DelegationFormed (R .subjects) d → DelegationFormed (R .subjects) (cond b (reweigh d w) d)
     formed d true k = formed-reweigh h k
     formed d false k = k
+
+pub lowered-formed : (R : Register) (g r w : ℕ) → w ≤ 255 → WellFormed R → WellFormed (named R (lowering g r w))
+unfolding named
+lowered-formed R g r w h f = reweighed-formed R g r w h f
 
 -- ── each call ──
 pub fresh-formed : WellFormed fresh

@@ -1,13 +1,12 @@
 -- Cuts (document 01, 'Calls'): the named change, what rounds follow, and the counts that compare the register C after it with the register F left. Assumes nothing.
-use mathlib.Core.Bool.{Bool, cond, not, _&&_}
-use mathlib.Core.List.{map}
+use mathlib.Core.Bool.{Bool, not, _&&_}
 use Prim.Native.Nat.{ℕ}
 use lib.Dec.{leb}
 use lib.ListN.{length}
 use Rattle.rules.specs.List.{filter}
 use Rattle.rules.specs.Limit.{code}
-use Rattle.rules.specs.Register.{Delegation, Register, reweigh, withDelegations}
-use Rattle.rules.specs.Pair.{isPair, weightAt, stands}
+use Rattle.rules.specs.Register.{Delegation, Register, withDelegations}
+use Rattle.rules.specs.Pair.{isPair, weightAt, stands, reweighed}
 
 -- what a cut names: a pair whose delegation is removed, or set to a new weight
 pub data Cut : Type 0 where
@@ -17,7 +16,7 @@ pub data Cut : Type 0 where
 -- the named change (document 01's term)
 unfoldable pub named : Register → Cut → Register
 named R (removal g r) = withDelegations R (filter (λ d. not (isPair g r d)) (R .delegations))
-named R (lowering g r w) = withDelegations R (map (λ d. cond (isPair g r d) (reweigh d w) d) (R .delegations))
+named R (lowering g r w) = reweighed R g r w
 
 -- what a call changes before its rounds: a cut, its named change
 pub data Change : Type 0 where

@@ -1,11 +1,11 @@
 -- What stands for a pair of giver and receiver (document 01, 'Subjects, marks, weights'): at most one delegation in a well-formed register. Assumes nothing.
 use mathlib.Core.Bool.{Bool, false, cond, _&&_, _||_}
-use mathlib.Core.List.{List, [], _∷_}
+use mathlib.Core.List.{List, [], _∷_, map}
 use Prim.Native.Nat.{ℕ, zero}
 use lib.Dec.{eqb, ltb}
 use lib.IntN.{ℤ, pos}
 use Rattle.rules.specs.Limit.{none, code}
-use Rattle.rules.specs.Register.{Delegation, Register}
+use Rattle.rules.specs.Register.{Delegation, Register, reweigh, withDelegations}
 
 abbrev pub isPair : ℕ → ℕ → Delegation → Bool
 isPair g r d = eqb (d .giver) g && eqb (d .receiver) r
@@ -17,6 +17,10 @@ weightAt (d ∷ ds) g r = cond (isPair g r d) (pos (d .weight)) (weightAt ds g r
 
 abbrev pub stands : Register → ℕ → ℕ → Bool
 stands R g r = ltb zero (code (weightAt (R .delegations) g r))
+
+-- the register with the delegation of a pair at another weight
+abbrev pub reweighed : Register → ℕ → ℕ → ℕ → Register
+reweighed R g r w = withDelegations R (map (λ d. cond (isPair g r d) (reweigh d w) d) (R .delegations))
 
 -- some delegation to r stands
 abbrev pub receives : ℕ → List Delegation → Bool

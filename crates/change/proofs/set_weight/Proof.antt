@@ -7,7 +7,7 @@ use Rattle.rules.specs.Pair.{isPair}
 use Rattle.block.specs.Bytes.{IsBytes}
 use Rattle.block.proofs.Bytes.{fits-bytes}
 use Rattle.block.proofs.Held.{has-head, has-records}
-use Rattle.change.proofs.Changing.{Among, among, place-below, lower-held}
+use Rattle.change.proofs.Changing.{Among, among, place-below, reweigh-held}
 use Rattle.change.proofs.set_weight.Statement.{statement}
 use Rattle.change.proofs.set_weight.Tie as tie
 
@@ -49,7 +49,7 @@ returns c =
     let n = p .before .before .count in
     let s = p .before .before .before .before .before in
     let a = s .args in
-    rw (c .record-place .ensures) (lower-held (a .b .now) (bytes (p .before .before .before .before)) (s .pre .0) (n .result) (n .ensures) (a .giver) (a .receiver) (p .find .result) (p .find .ensures) (s .pre .1) (a .weight))
+    rw (c .record-place .ensures) (reweigh-held (a .b .now) (bytes (p .before .before .before .before)) (s .pre .0) (n .result) (n .ensures) (a .giver) (a .receiver) (p .find .result) (p .find .ensures) (s .pre .1) (a .weight))
 
 pub set-weight-spec : {M : Type 1} → statement M
 set-weight-spec =

@@ -2,7 +2,7 @@
 use borrow.Author.Needs.{needs}
 use native.Mathlib.Omega.{arith}
 use Rattle.rules.specs.Call.{Call, downgrade}
-use Rattle.rules.specs.Cut.{Cut, lowering}
+use Rattle.rules.specs.Cut.{Cut, lowering, named}
 use Rattle.block.specs.Block.{decode}
 use Rattle.block.proofs.Bytes.{fits-bytes}
 use Rattle.steptable.specs.TableText.{lent}
@@ -59,6 +59,7 @@ set-weight-requires c κs =
     (past e .through .early .formed, downgrade-stands (a .table .now) (decode (a .block .now)) (a .by) (a .giver) (a .receiver) (a .weight) (past e .through .held))
 
 settle-requires : tie.Need-settle-requires
+unfolding named
 settle-requires c κs =
     let d = c .before .before .before in
     let e = d .before .before in
@@ -68,6 +69,7 @@ same-length-2 : tie.Need-same-length-2
 same-length-2 c = search needs
 
 returns-2 : tie.Need-returns-2
+unfolding named
 returns-2 c =
     let o = c .before .before .settle in
     let d = c .before .before .before .before .before .before in
