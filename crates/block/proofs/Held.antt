@@ -4,23 +4,25 @@ use mathlib.Core.Logic.{_⊎_, inl, inr}
 use mathlib.Core.Bool.{Bool, true, false, not}
 use mathlib.Core.List.{List}
 use Prim.Native.Nat.{ℕ, zero, suc, _*_, _-_, _≤_, _<_}
+use native.Mathlib.Nat.{zero-add}
 use native.Mathlib.Omega.{arith}
 use borrow.Author.Tests.{lt-ltb}
 use lib.Dec.{T, ltb, ltb→lt, nltb→le}
 use lib.IntN.{ℤ}
 use lib.ListN.{length, getD, drop}
+use Rattle.rules.specs.List.{_∈_, tabulate}
 use Rattle.rules.specs.Limit.{code}
 use Rattle.rules.specs.Pair.{isPair, stands}
 use Rattle.rules.specs.WellFormed.{WellFormed}
-use Rattle.rules.specs.Register.{granted}
-use Rattle.rules.proofs.Lists.{clash, either}
+use Rattle.rules.specs.Register.{Delegation, granted, noDelegation}
+use Rattle.rules.proofs.Lists.{clash, either, getD-tabulate}
 use Rattle.block.specs.Layout.{blockSize, mostRecords}
 use Rattle.block.specs.Bytes.{IsBytes, readAll, leading}
 use Rattle.block.specs.Block.{subjectsIn, countIn, decode, encode}
 use Rattle.block.specs.WellFormed.{wellFormed}
-use Rattle.block.proofs.Bytes.{length-tabulate}
+use Rattle.block.proofs.Bytes.{length-tabulate, mem-tabulate}
 use Rattle.block.proofs.Form.{Parts, parts, decode-formed, encode-decode}
-use Rattle.block.proofs.PairPlace.{leading-most, pairPlace, weightAt-found, weightAt-missing}
+use Rattle.block.proofs.PairPlace.{leading-most, pairPlace, pair-at, weightAt-found, weightAt-missing}
 use Rattle.block.specs.Records.{HasHead, HasMarks, HasRecords, delegationAt, delegationsTo}
 
 -- at most as many at the front as there are
@@ -74,10 +76,30 @@ module _ (b : List ℕ) (bytes : IsBytes b) (formed : wellFormed b ≡ true) whe
   pub count-held : length (decode b .delegations) ≡ countIn b
   count-held = ap length delegations-held ∙ length-tabulate (delegationAt b) 0 (countIn b)
 
+  -- a record's delegation stands
+  pub record-held : (k : ℕ) → k < countIn b → delegationAt b k ∈ decode b .delegations
+  record-held k h =
+      subst (λ (ds : List Delegation). delegationAt b k ∈ ds) (sym delegations-held) (subst (λ (m : ℕ). delegationAt b m ∈ tabulate (delegationAt b) 0 (countIn b)) (zero-add k) (mem-tabulate (delegationAt b) 0 (countIn b) k h))
+
   -- where a pair stands, its place is that of a record
   module _ (g r k : ℕ) (e : k ≡ leading (λ d. not (isPair g r d)) (delegationsTo b (countIn b))) where
     pub place-held : k ≡ pairPlace g r (decode b .delegations)
     place-held = e ∙ ap (leading (λ d. not (isPair g r d))) (sym delegations-held)
+
+    -- the record at the pair's place is its delegation
+    module _ (found : k < countIn b) where
+      pub place-inside : pairPlace g r (decode b .delegations) < length (decode b .delegations)
+      place-inside = omega (arith, place-held, count-held, found)
+
+      pub at-place : getD (decode b .delegations) (pairPlace g r (decode b .delegations)) noDelegation ≡ delegationAt b k
+      at-place =
+          ap (λ (i : ℕ). getD (decode b .delegations) i noDelegation) (sym place-held)
+          ∙ ap (λ (ds : List Delegation). getD ds k noDelegation) delegations-held
+          ∙ getD-tabulate (λ i. delegationAt b i) noDelegation 0 (countIn b) k found
+          ∙ ap (λ (i : ℕ). delegationAt b i) (zero-add k)
+
+      pub pair-held : T (isPair g r (delegationAt b k))
+      pair-held = subst (λ (d : Delegation). T (isPair g r d)) at-place (pair-at g r (decode b .delegations) noDelegation place-inside)
 
     pub stands-found : k < countIn b → stands (decode b) g r ≡ true
     stands-found l = let w = weightAt-found g r (decode b .delegations) (granted 0 0 0 0 0) (subst (λ (x : ℕ). x < length (decode b .delegations)) place-held (omega (arith, count-held))) in ap (λ (z : ℤ). ltb zero (code z)) w ∙ lt-ltb zero (suc (getD (decode b .delegations) (pairPlace g r (decode b .delegations)) (granted 0 0 0 0 0) .weight)) (omega arith)

@@ -1,7 +1,7 @@
 -- The place of a pair in a list of delegations, and its weight there. Assumes nothing.
-use mathlib.Core.Path.{_≡_, refl, sym, _∙_}
+use mathlib.Core.Path.{_≡_, refl, sym, ap, subst, _∙_}
 use mathlib.Core.Bool.{Bool, true, false, not, cond}
-use mathlib.Core.List.{List, [], _∷_}
+use mathlib.Core.List.{List, [], _∷_, List·Memᴰ·head}
 use Prim.Native.Nat.{ℕ, zero, suc, _-_, _≤_, _<_, zero-le, suc-le-suc}
 use native.Mathlib.Nat.{le-of-suc-le-suc, not-suc-le-zero}
 use lib.Dec.{T, not-T}
@@ -12,8 +12,11 @@ use Rattle.rules.specs.Register.{Delegation}
 use Rattle.rules.specs.Limit.{none}
 use Rattle.rules.specs.Pair.{isPair, weightAt}
 use Rattle.rules.specs.WellFormed.{Rising}
-use Rattle.rules.proofs.WellFormed.{Before-irrefl}
-use Rattle.rules.proofs.Pairs.{test-pair}
+use Rattle.rules.specs.CallStep.{before}
+use Rattle.rules.proofs.Lists.{T-true, yes}
+use Rattle.rules.proofs.WellFormed.{Before-trans, Before-pairs, Before-irrefl}
+use Rattle.rules.proofs.Pairs.{IsPair, test-pair, before-Before, Before-before}
+use Rattle.block.proofs.Bytes.{getD-mem}
 use Rattle.block.specs.Bytes.{leading}
 
 module _ {A : Type 0} (f : A → Bool) where
@@ -36,6 +39,39 @@ module _ (g r : ℕ) where
       let a = test-pair g r d t in
       let b = test-pair g r e q in
       Before-irrefl d e (a .0 ∙ sym (b .0)) (a .1 ∙ sym (b .1)) (s .0 e m))
+
+  -- where the pair stands, its delegation is at its place
+  pub pair-at : (ds : List Delegation) (z : Delegation) → pairPlace ds < length ds → T (isPair g r (getD ds (pairPlace ds) z))
+  pair-at [] z l = absurd (not-suc-le-zero l)
+  pair-at (d ∷ ds) z l = go (isPair g r d) refl (pair-at ds z) l
+    where
+      go : (b : Bool) → isPair g r d ≡ b → (pairPlace ds < length ds → T (isPair g r (getD ds (pairPlace ds) z))) → cond (not b) (suc (pairPlace ds)) zero < suc (length ds)
+          → T (isPair g r (getD (d ∷ ds) (cond (not b) (suc (pairPlace ds)) zero) z))
+      go true e ih m = subst T (sym e) tt
+      go false e ih m = ih (le-of-suc-le-suc m)
+
+  -- where the pair stands in a rising list, a delegation d of it comes before those after its place and no others
+  module _ (d : Delegation) (p : IsPair g r d) where
+    none-past : (es : List Delegation) → ((e : Delegation) → e ∈ es → T (before d e)) → leading (λ e. not (before d e)) es ≡ zero
+    none-past [] h = refl
+    none-past (e ∷ es) h = rw (T-true (before d e) (h e (List·Memᴰ·head refl)))
+
+    pub pair-past : (ds : List Delegation) → Rising ds → pairPlace ds < length ds → leading (λ e. not (before d e)) ds ≡ suc (pairPlace ds)
+    pair-past [] s l = absurd (not-suc-le-zero l)
+    pair-past (e ∷ es) s l = go (pair-past es (s .1)) (isPair g r e) refl (before d e) refl l
+      where
+        go : (pairPlace es < length es → leading (λ x. not (before d x)) es ≡ suc (pairPlace es)) → (b : Bool) → isPair g r e ≡ b → (c : Bool) → before d e ≡ c → cond (not b) (suc (pairPlace es)) zero < suc (length es)
+            → cond (not c) (suc (leading (λ x. not (before d x)) es)) zero ≡ suc (cond (not b) (suc (pairPlace es)) zero)
+        go ih true q true c m = let (a, b) = test-pair g r e (yes q) in absurd (Before-irrefl d e (p .0 ∙ sym a) (p .1 ∙ sym b) (before-Before d e (yes c)))
+        go ih true q false c m =
+            let (a, b) = test-pair g r e (yes q) in
+            ap suc (none-past es (λ x i. Before-before d x (Before-pairs e x d x (a ∙ sym (p .0)) (b ∙ sym (p .1)) refl refl (s .0 x i))))
+        go ih false q true c m =
+            let k = le-of-suc-le-suc m in
+            let y = getD es (pairPlace es) e in
+            let (a, b) = test-pair g r y (pair-at es e k) in
+            absurd (Before-irrefl d y (p .0 ∙ sym a) (p .1 ∙ sym b) (Before-trans d e y (before-Before d e (yes c)) (s .0 y (getD-mem es (pairPlace es) e k))))
+        go ih false q false c m = ap suc (ih (le-of-suc-le-suc m))
 
   -- the weight that stands for the pair is that of the delegation at its place
   pub weightAt-found : (ds : List Delegation) (z : Delegation) → pairPlace ds < length ds → weightAt ds g r ≡ pos (getD ds (pairPlace ds) z .weight)

@@ -31,7 +31,7 @@ use Rattle.block.specs.Layout.{blockSize, mostSubjects}
 use Rattle.block.specs.Bytes.{IsBytes, leading}
 use Rattle.block.specs.Block.{subjectsIn, countIn, recordsIn, decode}
 use Rattle.block.specs.WellFormed.{wellFormed}
-use Rattle.block.proofs.Held.{held-formed, stands-found, stands-missing}
+use Rattle.block.proofs.Held.{held-formed, at-place, place-inside, stands-found, stands-missing}
 use Rattle.block.proofs.PairPlace.{pairPlace, others}
 use Rattle.block.specs.Records.{delegationAt, delegationsTo}
 use Rattle.search.specs.Search.{underMarks, mostLinks}
@@ -45,7 +45,7 @@ use Rattle.steptable.specs.declared.Given.{Given}
 use Rattle.refusals.specs.Early.{textRefused, notWellFormed, early}
 use Rattle.chain.specs.ChainOn.{chainRefusalOn, unwrittenBy, ChainLeft, ChainMade, ChainFront}
 use Rattle.chain.specs.declared.ChainAnswer.{ChainAnswer}
-use Rattle.refusals.proofs.Holding.{or-false, at-place, place-inside, weight-stands, enrolled-test}
+use Rattle.refusals.proofs.Holding.{or-false, weight-stands, enrolled-test}
 
 -- a refused call leaves the buffer
 left-refused : (t : List ℤ) (R : Register) (g r : ℕ) (w : ℤ) (n m : ℕ) (buf : List ℕ) → n ≡ m → m ≢ 0 → ChainLeft t R g r w n buf (unwrittenBy m) buf

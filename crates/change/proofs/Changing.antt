@@ -1,9 +1,11 @@
 -- Changes of a well-formed block as changes of the register that it holds. Assumes nothing.
-use mathlib.Core.Path.{_≡_, sym, ap, subst, _∙_}
-use mathlib.Core.Bool.{Bool, true, not}
+use mathlib.Core.Path.{_≡_, refl, sym, ap, subst, _∙_}
+use mathlib.Core.Logic.{_≢_}
+use mathlib.Core.Bool.{Bool, true, false, not}
 use mathlib.Core.List.{List, _∷_, _++_}
 use Prim.Native.Nat.{ℕ, suc, _+_, _-_, _≤_, _<_}
 use native.Mathlib.Omega.{arith}
+use lib.Dec.{T, not-T}
 use lib.ListN.{length, getD, take, drop, set}
 use lib.Seq.{sets}
 use Rattle.rules.specs.Register.{Delegation, reweigh, withDelegations, granted}
@@ -15,12 +17,15 @@ use Rattle.block.specs.Layout.{blockSize, mostSubjects, mostRecords, recordSize
 use Rattle.block.specs.Bytes.{IsBytes, twoBytes, leading}
 use Rattle.block.specs.Block.{delegationIn, recordBytes, subjectsIn, countIn, decode, encode}
 use Rattle.block.specs.WellFormed.{wellFormed}
+use Rattle.rules.proofs.Lists.{T-true, unset}
+use Rattle.rules.proofs.Pairs.{test-pair, none-stands}
+use Rattle.change.specs.Place.{IsPlace}
 use Rattle.change.specs.Shift.{movedUp, movedDown}
-use Rattle.block.proofs.PairPlace.{leading-most}
-use Rattle.block.proofs.Held.{leading-read, size-held, count-most, held-formed, held-written, subjects-held, delegations-held, count-held, place-held, found-stands}
+use Rattle.block.proofs.PairPlace.{leading-most, pairPlace, pair-past}
+use Rattle.block.proofs.Held.{leading-read, size-held, count-most, held-formed, held-written, subjects-held, delegations-held, count-held, record-held, place-held, place-inside, pair-held, found-stands}
 use Rattle.change.proofs.Splice.{insert-leading, filter-pair, map-pair}
 use Rattle.change.proofs.Rewrite.{encode-insert, encode-remove, encode-reweigh, encode-enrol}
-use Rattle.block.specs.Records.{markPlace, recordPlace, delegationsTo}
+use Rattle.block.specs.Records.{markPlace, recordPlace, delegationAt, delegationsTo}
 
 -- b is a block, n records stand in it, and k is a place among them
 pub record Among (b : List ℕ) (n k : ℕ) : Type 0 where
@@ -43,6 +48,40 @@ module _ (b : List ℕ) (bytes : IsBytes b) (formed : wellFormed b ≡ true) whe
     where
       n : subjectsIn b ≡ decode b .subjects
       n = sym (subjects-held b bytes formed)
+
+  -- ── the place of a pair, where a delegation of it is put ──
+  module _ (g r k : ℕ) (place : IsPlace b g r k) where
+    pub place-most : k ≤ countIn b
+    place-most = subst (λ (m : ℕ). m ≤ countIn b) (sym place) (leading-read (λ e. not (before (granted g r 0 0 0) e)) delegationIn recordSize (drop recordsAt b) (countIn b))
+
+    -- where the pair stands, its record is the one before
+    after-pair : stands (decode b) g r ≡ true → (j : ℕ) × (k ≡ suc j) × T (isPair g r (delegationAt b j))
+    after-pair s =
+        let ds = decode b .delegations in
+        let j = pairPlace g r ds in
+        let e : j ≡ leading (λ d. not (isPair g r d)) (delegationsTo b (countIn b)) = ap (leading (λ d. not (isPair g r d))) (delegations-held b bytes formed) in
+        let l = found-stands b bytes formed g r j e s in (
+          j,
+          place ∙ ap (leading (λ d. not (before (granted g r 0 0 0) d))) (sym (delegations-held b bytes formed))
+          ∙ pair-past g r (granted g r 0 0 0) (refl, refl) ds (held-formed b bytes formed .rising) (place-inside b bytes formed g r j e l),
+          pair-held b bytes formed g r j e l,
+        )
+
+    pub none-before : k ≡ 0 → false ≡ stands (decode b) g r
+    none-before z = go (stands (decode b) g r) refl
+      where
+        go : (x : Bool) → stands (decode b) g r ≡ x → false ≡ x
+        go false s = refl
+        go true s = let (j, e, p) = after-pair s in absurd (omega arith)
+
+    pub pair-before : k ≢ 0 → isPair g r (delegationAt b (k - 1)) ≡ stands (decode b) g r
+    pair-before n = go (stands (decode b) g r) refl
+      where
+        go : (x : Bool) → stands (decode b) g r ≡ x → isPair g r (delegationAt b (k - 1)) ≡ x
+        go true s = let (j, e, p) = after-pair s in let q : j ≡ k - 1 = omega arith in T-true (isPair g r (delegationAt b (k - 1))) (subst (λ (i : ℕ). T (isPair g r (delegationAt b i))) q p)
+        go false s =
+            let d = delegationAt b (k - 1) in
+            unset (isPair g r d) (not-T (isPair g r d) (λ t. none-stands (decode b) g r (subst (λ (x : Bool). T (not x)) (sym s) tt) d (record-held b bytes formed (k - 1) (omega (arith, place-most))) (test-pair g r d t)))
 
   -- n records are counted
   module _ (n : ℕ) (counted : n ≡ countIn b) where

@@ -3,19 +3,21 @@ mod left;
 mod write;
 
 ghost use mathlib.Core.Path.{_≡_};
-ghost use mathlib.Core.Bool.{true};
+ghost use mathlib.Core.Bool.{true, false};
 ghost use Prim.Native.Nat.{_<_};
 ghost use lib.ListN.{length};
 ghost use Rattle.rules.specs.Register.{withDelegations, granted};
 ghost use Rattle.rules.specs.Pair.{stands, reweighed};
 ghost use Rattle.rules.specs.Cut.{removal, named};
 ghost use Rattle.rules.specs.Call.{fresh, enrolled};
-ghost use Rattle.rules.specs.CallStep.{insert};
+ghost use Rattle.rules.specs.CallStep.{insert, afterGrant};
 ghost use Rattle.block.specs.Layout.{blockSize, mostSubjects, mostRecords};
 ghost use Rattle.block.specs.Block.{subjectsIn, countIn, decode, encode};
 ghost use Rattle.block.specs.WellFormed.{wellFormed};
+ghost use Rattle.change.specs.Place.{IsPlace};
 use block::count;
 use block::find;
+use block::is_pair;
 use block::layout::COUNT_AT;
 use block::layout::MARK_SIZE;
 use block::layout::MARKS_AT;
@@ -50,15 +52,26 @@ pub fn add_subject(b: &mut [u8], marks: u16)
     put_two(b, MARKS_AT + MARK_SIZE * (n as usize), marks);
 }
 
+// The pair stands: its record is the one before its place.
+fn stands_before(b: &[u8], at: usize, giver: u8, receiver: u8) -> bool
+    requires { ⌜ (wellFormed (now b) ≡ true) × IsPlace (now b) giver receiver at ⌝ }
+    ensures { λ r. ⌜ r ≡ stands (decode (now (b .entry))) giver receiver ⌝ }
+{
+    if at == 0 {
+        return false;
+    }
+    is_pair(b, at - 1, giver, receiver)
+}
+
 // One more delegation, at its place.
-pub fn insert(b: &mut [u8], giver: u8, receiver: u8, weight: u8, need: u16, bar: u16)
-    requires { ⌜ (wellFormed (now b) ≡ true) × (countIn (now b) < mostRecords) ⌝ }
+fn insert(b: &mut [u8], at: usize, giver: u8, receiver: u8, weight: u8, need: u16, bar: u16)
+    requires { ⌜ (wellFormed (now b) ≡ true) × (countIn (now b) < mostRecords) × IsPlace (now b) giver receiver at ⌝ }
     ensures { λ _. ⌜ now (b .exit) ≡ encode (withDelegations (decode (now (b .entry))) (insert (granted giver receiver weight need bar) ((decode (now (b .entry))) .delegations))) ⌝ }
 {
     let n = count(b);
-    let at = record_place(place(b, n, giver, receiver));
-    shift_up(b, at, record_place(n));
-    put_record(b, at, giver, receiver, weight, need, bar);
+    let start = record_place(at);
+    shift_up(b, start, record_place(n));
+    put_record(b, start, giver, receiver, weight, need, bar);
     put_two(b, COUNT_AT, (n + 1) as u16);
 }
 
@@ -83,4 +96,18 @@ pub fn set_weight(b: &mut [u8], giver: u8, receiver: u8, weight: u8)
     let n = count(b);
     let at = record_place(find(b, n, giver, receiver));
     b[at + WEIGHT] = weight;
+}
+
+// A delegation granted: the weight of its pair raised to its own, or one more delegation.
+pub fn put_granted(b: &mut [u8], giver: u8, receiver: u8, weight: u8, need: u16, bar: u16)
+    requires { ⌜ (wellFormed (now b) ≡ true) × (stands (decode (now b)) giver receiver ≡ false → countIn (now b) < mostRecords) ⌝ }
+    ensures { λ _. ⌜ now (b .exit) ≡ encode (afterGrant (decode (now (b .entry))) (granted giver receiver weight need bar)) ⌝ }
+{
+    let n = count(b);
+    let at = place(b, n, giver, receiver);
+    if stands_before(b, at, giver, receiver) {
+        set_weight(b, giver, receiver, weight);
+        return;
+    }
+    insert(b, at, giver, receiver, weight, need, bar);
 }

@@ -1,42 +1,51 @@
 -- Demand 2, as theorems about the calls on bytes. Assumes nothing.
 use mathlib.Core.Path.{_≡_, sym, ap, subst, _∙_}
 use mathlib.Core.Logic.{_⊎_, inl, inr}
-use mathlib.Core.Bool.{Bool, false}
+use mathlib.Core.Bool.{Bool, false, not, _&&_}
 use mathlib.Core.List.{List, [], _∷_, _++_}
 use Prim.Native.Nat.{ℕ, suc}
 use native.Mathlib.Omega.{arith}
 use borrow.Author.Tests.{le-ltb}
-use lib.Dec.{ltb, nltb→le}
+use lib.Dec.{T, ltb, nltb→le}
 use lib.IntN.{ℤ, pos}
+use Rattle.rules.specs.List.{_∈_}
 use Rattle.rules.specs.Limit.{none, code, _≼_}
 use Rattle.rules.specs.Table.{TableRule}
-use Rattle.rules.specs.Register.{Delegation}
+use Rattle.rules.specs.Register.{Delegation, Register}
 use Rattle.rules.specs.Chain.{limit, IsChain}
 use Rattle.rules.specs.Reach.{IsReach, reach}
 use Rattle.rules.specs.Support.{allowed}
+use Rattle.rules.specs.Pair.{isPair, raises}
 use Rattle.rules.specs.Call.{grant, askReach}
-use Rattle.rules.specs.Refusal.{firstOf, passed, held, notEnrolled, pairStands, allStand, overweight}
+use Rattle.rules.specs.Refusal.{firstOf, held, notEnrolled, pairStands, allStand, overweight}
 use Rattle.rules.specs.CallStep.{accepted}
+use Rattle.rules.specs.Granted.{GrantedIn}
 use Rattle.rules.proofs.Table.{steps-rule}
-use Rattle.rules.proofs.Lists.{not-or-left}
+use Rattle.rules.proofs.Lists.{T-true, not-or-left, not-not}
 use Rattle.rules.proofs.Refusals.{firstOf-left, firstOf-none, passes-of}
 use Rattle.rules.proofs.Reach.{reach-is, reach-only}
 use Rattle.rules.proofs.Support.{allowed-carried, carried-allowed}
+use Rattle.rules.proofs.Pairs.{test-pair, pair-stands}
+use Rattle.rules.proofs.Granting.{one-raised, raising, grant-leaves}
 use Rattle.rules.proofs.Calls.{accepted-refusal}
+use Rattle.block.specs.Bytes.{IsBytes}
 use Rattle.block.specs.Block.{decode}
+use Rattle.block.proofs.Held.{held-formed}
 use Rattle.steptable.specs.TableText.{ours, given}
 use Rattle.steptable.specs.declared.Given.{Given}
 use Rattle.steptable.proofs.Right.{given-keeps}
 use Rattle.register.specs.CallOn.{Result, callOn}
-use Rattle.demands.specs.Exactly.{Grantable, GrantExactly, ReachAnswer, ReachExactly}
+use Rattle.demands.specs.Exactly.{Grantable, GrantExactly, Raisable, RaiseExactly, GrantKeeps, RaiseByte, ReachAnswer, ReachExactly}
+use Rattle.refusals.proofs.EarlyTests.{early-none, none-early}
 use Rattle.register.proofs.Made.{callOn-accepted}
+use Rattle.register.proofs.GrantWays.{grant-register, raise-left}
 use Rattle.register.proofs.Through.{accepted-through}
 
 -- ── grant ──
 module _ (g : Given) (rule : TableRule (g .steps)) (b : List ℕ) (d : Delegation) where
   -- the tests before 16, and 16
   abbrev tests : List (ℕ × Bool)
-  tests = notEnrolled (decode b) (d .giver ∷ d .receiver ∷ []) ∷ pairStands (decode b) (d .giver) (d .receiver) ∷ allStand (decode b) ∷ []
+  tests = notEnrolled (decode b) (d .giver ∷ d .receiver ∷ []) ∷ pairStands (decode b) d ∷ allStand (decode b) d ∷ []
 
   abbrev last : List (ℕ × Bool)
   last = overweight (g .steps) (decode b) (d ∷ []) ∷ []
@@ -47,10 +56,7 @@ module _ (g : Given) (rule : TableRule (g .steps)) (b : List ℕ) (d : Delegatio
       let h = accepted-through g b (grant d) e in
       let l = ltb (code (allowed (g .steps) (decode b) d)) (suc (d .weight)) in
       record {
-        size = h .early .size;
-        passed = h .early .passed;
-        text = h .early .text;
-        formed = h .early .formed;
+        early = none-early (g .refusal) b (grant d) (h .early);
         held = firstOf-left tests last tt (h .held);
         carried = allowed-carried (g .steps) rule (decode b) d (nltb→le (code (allowed (g .steps) (decode b) d)) (suc (d .weight)) (not-or-left l false (passes-of (tests ++ last) tt (h .held) 16)));
       }
@@ -60,10 +66,46 @@ module _ (g : Given) (rule : TableRule (g .steps)) (b : List ℕ) (d : Delegatio
   grant-whenever k =
       let light = carried-allowed (g .steps) rule (decode b) d (k .carried) in
       let all : firstOf (tests ++ last) ≡ 0 = firstOf-none tests last tt (k .held) ∙ rw (le-ltb (code (allowed (g .steps) (decode b) d)) (suc (d .weight)) light) in
-      ap (λ (x : Result). x .refusal) (callOn-accepted g (grant d) b record { size = k .size; passed = k .passed; text = k .text; formed = k .formed } all) ∙ accepted-refusal (g .steps) (decode b) (grant d)
+      ap (λ (x : Result). x .refusal) (callOn-accepted g (grant d) b (early-none (g .refusal) b (grant d) (k .early)) all) ∙ accepted-refusal (g .steps) (decode b) (grant d)
 
   pub grant-exactly : GrantExactly g b d
   grant-exactly = record { only = grant-only; whenever = grant-whenever }
+
+  -- ── a pair that stands ──
+  module _ (bytes : IsBytes b) where
+    raise-only : (e : Delegation) → e ∈ decode b .delegations → T (isPair (d .giver) (d .receiver) e) → callOn g b (grant d) .refusal ≡ 0 → Raisable g b d e
+    raise-only e m p z =
+        let k = grant-only z in
+        let f = held-formed b bytes (accepted-through g b (grant d) z .early .formed) in
+        let s = pair-stands (decode b) (d .giver) (d .receiver) e m (test-pair (d .giver) (d .receiver) e p) in
+        let h = subst (λ (x : Bool). T (not (x && not (raises (decode b) d)))) s (passes-of tests tt (k .held) 11) in
+        record {
+          early = k .early;
+          enrolled = firstOf-left (notEnrolled (decode b) (d .giver ∷ d .receiver ∷ []) ∷ []) (pairStands (decode b) d ∷ allStand (decode b) d ∷ []) tt (k .held);
+          raises = one-raised (decode b) (f .rising) d e m p (not-not (raises (decode b) d) h);
+          carried = k .carried;
+        }
+
+    raise-whenever : (e : Delegation) → e ∈ decode b .delegations → T (isPair (d .giver) (d .receiver) e) → Raisable g b d e → callOn g b (grant d) .refusal ≡ 0
+    raise-whenever e m p k =
+        let s = pair-stands (decode b) (d .giver) (d .receiver) e m (test-pair (d .giver) (d .receiver) e p) in
+        let r = T-true (raises (decode b) d) (raising (decode b) d e m (k .raises)) in
+        grant-whenever record { early = k .early; held = firstOf-none (notEnrolled (decode b) (d .giver ∷ d .receiver ∷ []) ∷ []) (pairStands (decode b) d ∷ allStand (decode b) d ∷ []) tt (k .enrolled) ∙ rw (s, r); carried = k .carried }
+
+    pub raise-exactly : RaiseExactly g b d
+    raise-exactly = record { only = raise-only; whenever = raise-whenever }
+
+-- ── what a grant leaves ──
+module _ (g : Given) (b : List ℕ) (bytes : IsBytes b) (d : Delegation) where
+  pub grant-keeps : GrantKeeps g b d
+  unfolding held
+  grant-keeps z =
+      let h = accepted-through g b (grant d) z in
+      subst (λ (S : Register). GrantedIn (decode b) S d) (sym (grant-register g b bytes d h))
+      (grant-leaves (decode b) d (held-formed b bytes (h .early .formed) .rising) (passes-of (held (g .steps) (decode b) (grant d)) tt (h .held) 11))
+
+  pub raise-byte : RaiseByte g b d
+  raise-byte z = raise-left g b bytes d (accepted-through g b (grant d) z)
 
 -- ── reach ──
 module _ (o : Given) (b : List ℕ) (g r : ℕ) (e : callOn o b (askReach g r) .refusal ≡ 0) where
@@ -102,3 +144,9 @@ grant-exactly-given text b d = grant-exactly (given text) (given-keeps text) b d
 
 pub grant-exactly-ours : (b : List ℕ) (d : Delegation) → GrantExactly ours b d
 grant-exactly-ours b d = grant-exactly ours steps-rule b d
+
+pub raise-exactly-given : (text b : List ℕ) (d : Delegation) → IsBytes b → RaiseExactly (given text) b d
+raise-exactly-given text b d bytes = raise-exactly (given text) (given-keeps text) b d bytes
+
+pub raise-exactly-ours : (b : List ℕ) (d : Delegation) → IsBytes b → RaiseExactly ours b d
+raise-exactly-ours b d bytes = raise-exactly ours steps-rule b d bytes

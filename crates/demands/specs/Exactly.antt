@@ -1,36 +1,58 @@
--- Demand 2: when exactly a grant is accepted, and what exactly reach answers, on any bytes and by any step table (document 01, 'Calls'; document 02, C-11). Assumes nothing.
+-- Demand 2: when exactly a grant is accepted, what it leaves, and what exactly reach answers, on any bytes and by any step table (document 01, 'Calls'; document 02, C-11 and C-12). Assumes nothing.
 use mathlib.Core.Path.{_≡_}
 use mathlib.Core.Bool.{true}
 use mathlib.Core.List.{List, [], _∷_}
-use Prim.Native.Nat.{ℕ}
-use lib.ListN.{length}
+use Prim.Native.Nat.{ℕ, _+_, _<_}
+use lib.Dec.{T}
+use lib.ListN.{set}
 use lib.IntN.{pos}
+use Rattle.rules.specs.List.{_∈_}
 use Rattle.rules.specs.Limit.{none, _≼_}
 use Rattle.rules.specs.Register.{Delegation}
 use Rattle.rules.specs.Chain.{limit, IsChain}
 use Rattle.rules.specs.Support.{Carried}
+use Rattle.rules.specs.Pair.{isPair, stands}
 use Rattle.rules.specs.Call.{grant, askReach}
-use Rattle.rules.specs.Refusal.{firstOf, passed, notEnrolled, pairStands, allStand}
-use Rattle.block.specs.Layout.{blockSize}
-use Rattle.block.specs.Block.{decode}
-use Rattle.block.specs.WellFormed.{wellFormed}
+use Rattle.rules.specs.Refusal.{firstOf, notEnrolled, pairStands, allStand}
+use Rattle.rules.specs.Granted.{GrantedIn, Raises}
+use Rattle.block.specs.Layout.{weightByte}
+use Rattle.block.specs.Block.{countIn, decode}
+use Rattle.block.specs.Records.{recordPlace, delegationAt}
 use Rattle.steptable.specs.declared.Given.{Given}
-use Rattle.refusals.specs.Early.{textRefused}
+use Rattle.refusals.specs.Early.{early}
 use Rattle.register.specs.CallOn.{callOn}
 
 -- no refusal of a grant but 16 applies, and some chain carries the weight
 pub record Grantable (g : Given) (b : List ℕ) (d : Delegation) : Type 0 where
-  pub size : length b ≡ blockSize
-  pub passed : firstOf (passed (grant d)) ≡ 0
-  pub text : firstOf (textRefused (g .refusal)) ≡ 0
-  pub formed : wellFormed b ≡ true
-  pub held : firstOf (notEnrolled (decode b) (d .giver ∷ d .receiver ∷ []) ∷ pairStands (decode b) (d .giver) (d .receiver) ∷ allStand (decode b) ∷ []) ≡ 0
+  pub early : firstOf (early (g .refusal) b (grant d)) ≡ 0
+  pub held : firstOf (notEnrolled (decode b) (d .giver ∷ d .receiver ∷ []) ∷ pairStands (decode b) d ∷ allStand (decode b) d ∷ []) ≡ 0
   pub carried : Carried (g .steps) (decode b) d
 
 -- a grant is accepted exactly when it is grantable
 pub record GrantExactly (g : Given) (b : List ℕ) (d : Delegation) : Type 0 where
   pub only : callOn g b (grant d) .refusal ≡ 0 → Grantable g b d
   pub whenever : Grantable g b d → callOn g b (grant d) .refusal ≡ 0
+
+-- d can raise e: no refusal up to 9 applies, all but the weight is the same, that is larger, and some chain carries it
+pub record Raisable (g : Given) (b : List ℕ) (d e : Delegation) : Type 0 where
+  pub early : firstOf (early (g .refusal) b (grant d)) ≡ 0
+  pub enrolled : firstOf (notEnrolled (decode b) (d .giver ∷ d .receiver ∷ []) ∷ []) ≡ 0
+  pub raises : Raises d e
+  pub carried : Carried (g .steps) (decode b) d
+
+-- where e stands for the pair of d, the grant is accepted exactly when d can raise e, however many delegations stand
+pub record RaiseExactly (g : Given) (b : List ℕ) (d : Delegation) : Type 0 where
+  pub only : (e : Delegation) → e ∈ decode b .delegations → T (isPair (d .giver) (d .receiver) e) → callOn g b (grant d) .refusal ≡ 0 → Raisable g b d e
+  pub whenever : (e : Delegation) → e ∈ decode b .delegations → T (isPair (d .giver) (d .receiver) e) → Raisable g b d e → callOn g b (grant d) .refusal ≡ 0
+
+-- an accepted grant drops nothing, lowers nothing and changes no condition; what it names stands as granted, and nothing else is heavier or new
+abbrev pub GrantKeeps : Given → List ℕ → Delegation → Type 0
+GrantKeeps g b d = callOn g b (grant d) .refusal ≡ 0 → GrantedIn (decode b) (decode (callOn g b (grant d) .bytes)) d
+
+-- and where its pair stands, one byte of the block is another: the weight of the pair's record
+abbrev pub RaiseByte : Given → List ℕ → Delegation → Type 0
+RaiseByte g b d = callOn g b (grant d) .refusal ≡ 0 → stands (decode b) (d .giver) (d .receiver) ≡ true
+    → (k : ℕ) × (k < countIn b) × T (isPair (d .giver) (d .receiver) (delegationAt b k)) × (callOn g b (grant d) .bytes ≡ set b (recordPlace k + weightByte) (d .weight))
 
 -- reach answers -1 exactly when there is no chain, and n exactly when some chain has the limit n and none a larger one
 pub record ReachAnswer (k : Given) (b : List ℕ) (g r : ℕ) : Type 0 where

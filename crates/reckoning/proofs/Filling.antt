@@ -12,7 +12,7 @@ use lib.Dec.{T, ltb, ltb→lt, nltb→le}
 use lib.ListN.{length, getD, set, take, drop, List·getD-append}
 use lib.Seq.{length-take-le, getD-append-add, getD-take, getD-drop, getD-set-same, getD-set-other}
 use lib.IntN.{ℤ, pos}
-use Rattle.rules.specs.List.{_∈_, tabulate}
+use Rattle.rules.specs.List.{_∈_}
 use Rattle.rules.specs.Register.{Delegation, Register, marksOf}
 use Rattle.rules.specs.Reach.{reach}
 use Rattle.rules.specs.WellFormed.{WellFormed}
@@ -23,8 +23,8 @@ use Rattle.block.specs.Bytes.{IsBytes}
 use Rattle.block.specs.Block.{countIn, decode}
 use Rattle.block.specs.WellFormed.{wellFormed}
 use Rattle.block.specs.Records.{delegationAt}
-use Rattle.block.proofs.Bytes.{length-tabulate, tabulate-mem, mem-tabulate}
-use Rattle.block.proofs.Held.{delegations-held}
+use Rattle.block.proofs.Bytes.{length-tabulate, tabulate-mem}
+use Rattle.block.proofs.Held.{delegations-held, record-held}
 use Rattle.queue.specs.Queue.{bit, BitPut, Lowest}
 use Rattle.queue.proofs.Buckets.{bit-zero, bit-or, bit-shr}
 use Rattle.runs.specs.Lent.{delegationsIn}
@@ -87,9 +87,7 @@ each-held P b bytes formed n e h d m =
 
 -- and the other way
 pub held-each : (P : Delegation → Type 0) (b : List ℕ) (bytes : IsBytes b) (formed : wellFormed b ≡ true) (n : ℕ) → n ≡ countIn b → ((d : Delegation) → d ∈ decode b .delegations → P d) → (k : ℕ) → k < n → P (delegationAt b k)
-held-each P b bytes formed n e h k l =
-    h (delegationAt b k)
-    (subst (λ (ds : List Delegation). delegationAt b k ∈ ds) (sym (delegations-held b bytes formed)) (subst (λ (m : ℕ). delegationAt b m ∈ tabulate (delegationAt b) 0 (countIn b)) (zero-add k) (mem-tabulate (delegationAt b) 0 (countIn b) k (omega arith))))
+held-each P b bytes formed n e h k l = h (delegationAt b k) (record-held b bytes formed k (omega arith))
 
 -- the bit that is read after a shift
 pub bit-read : (n k : ℕ) → n / 2 ^ k % 2 ≡ bit n k

@@ -21,8 +21,8 @@ use Rattle.rules.proofs.Signed.{getD-within, below-weight}
 use Rattle.block.specs.Bytes.{IsBytes}
 use Rattle.block.specs.Block.{countIn, decode}
 use Rattle.block.specs.WellFormed.{wellFormed}
-use Rattle.block.proofs.Bytes.{tabulate-mem, mem-tabulate}
-use Rattle.block.proofs.Held.{held-formed, delegations-held}
+use Rattle.block.proofs.Bytes.{tabulate-mem}
+use Rattle.block.proofs.Held.{held-formed, delegations-held, record-held}
 use Rattle.block.specs.Records.{delegationAt, leftTo}
 use Rattle.reckoning.specs.Reckoned.{reachCount, reachAt, Tabled, lesser, weightLeft, RunLowered, Reckoned}
 
@@ -75,15 +75,12 @@ lesser-less l w = go (ltZ l (pos w)) refl
 
 -- ── the round ──
 module _ (t : List ℤ) (b : List ℕ) (bytes : IsBytes b) (formed : wellFormed b ≡ true) (reaches : List ℤ) (size : length reaches ≡ reachCount) (tabled : Tabled t (decode b) reaches) where
-  member : (k : ℕ) → k < countIn b → delegationAt b k ∈ decode b .delegations
-  member k h = subst (λ (ds : List Delegation). delegationAt b k ∈ ds) (sym (delegations-held b bytes formed)) (subst (λ (m : ℕ). delegationAt b m ∈ tabulate (delegationAt b) 0 (countIn b)) (zero-add k) (mem-tabulate (delegationAt b) 0 (countIn b) k h))
-
   -- the table has what counts for the delegation at place k
   counts-for : (k : ℕ) → k < countIn b → (z : ℤ) → getD reaches (reachAt (delegationAt b k .giver) (delegationAt b k .receiver)) z ≡ allowed t (decode b) (delegationAt b k)
   counts-for k h z =
       let f = held-formed b bytes formed in
-      let d = f .each (delegationAt b k) (member k h) in
-      getD-within reaches (reachAt (delegationAt b k .giver) (delegationAt b k .receiver)) z (pos 0) (omega (arith, size, d .giver, d .receiver, f .most)) ∙ tabled (delegationAt b k) (member k h)
+      let d = f .each (delegationAt b k) (record-held b bytes formed k h) in
+      getD-within reaches (reachAt (delegationAt b k .giver) (delegationAt b k .receiver)) z (pos 0) (omega (arith, size, d .giver, d .receiver, f .most)) ∙ tabled (delegationAt b k) (record-held b bytes formed k h)
 
   entry-left : (k : ℕ) → k < countIn b → weightLeft reaches (delegationAt b k) ≡ lesser (allowed t (decode b) (delegationAt b k)) (pos (delegationAt b k .weight))
   entry-left k h = ap (λ (l : ℤ). lesser l (pos (delegationAt b k .weight))) (counts-for k h (pos (delegationAt b k .weight)))
@@ -94,7 +91,7 @@ module _ (t : List ℤ) (b : List ℕ) (bytes : IsBytes b) (formed : wellFormed 
 
     weights-most : (k : ℕ) → k < countIn b → code (getD after k (pos 0)) ≤ 256
     weights-most k h =
-        let w = held-formed b bytes formed .each (delegationAt b k) (member k h) .weight in
+        let w = held-formed b bytes formed .each (delegationAt b k) (record-held b bytes formed k h) .weight in
         omega (arith, ap code (weight-left k h), code-lesser (allowed t (decode b) (delegationAt b k)) (delegationAt b k .weight))
 
     -- what is left is what the definition leaves
@@ -121,7 +118,7 @@ module _ (t : List ℤ) (b : List ℕ) (bytes : IsBytes b) (formed : wellFormed 
         let (k, h, r) = left .less e in
         let q = subst (λ (j : ℕ). ltZ (weightLeft reaches (delegationAt b j)) (pos (delegationAt b j .weight)) ≡ true) (zero-add k) r in
         let l = ltb-true (code (allowed t (decode b) (delegationAt b k))) (suc (delegationAt b k .weight)) (sym (test k h) ∙ q) in
-        round-changes t (decode b) (delegationAt b k) (member k h) (omega arith)
+        round-changes t (decode b) (delegationAt b k) (record-held b bytes formed k h) (omega arith)
 
     pub reckoned : Reckoned t b c after
     reckoned = record { most = weights-most; left = round-left; same = round-same; change = round-change }

@@ -1,33 +1,35 @@
 -- Refusals by what the register holds, test by test as the code makes them. Assumes nothing.
 use mathlib.Core.Path.{_≡_, refl, sym, ap, subst, _∙_}
 use mathlib.Core.Logic.{_⊎_, inl, inr}
-use mathlib.Core.Bool.{Bool, true, false, not, _||_}
+use mathlib.Core.Bool.{Bool, true, false, not, _&&_, _||_}
 use mathlib.Core.List.{List, [], _∷_}
 use Prim.Native.Nat.{ℕ, suc, _≤_, _<_}
-use native.Mathlib.Nat.{zero-add}
 use native.Mathlib.Omega.{arith}
 use borrow.Author.Tests.{leb-false, lt-ltb, le-ltb, le-leb, lt-leb}
-use lib.Dec.{T, leb, ltb, leb→le, nleb→lt, ltb→lt, nltb→le}
+use lib.Dec.{T, leb, ltb, eqb, leb→le, nleb→lt, ltb→lt, nltb→le}
 use lib.ListN.{length, getD}
 use lib.IntN.{ℤ, pos}
 use lib.Signed.{ltZ}
 use Rattle.rules.specs.Limit.{none, code}
 use Rattle.rules.specs.Register.{Delegation, Register, noDelegation}
 use Rattle.rules.specs.Reach.{reach}
-use Rattle.rules.specs.Pair.{isPair, weightAt, stands}
+use Rattle.rules.specs.Pair.{isPair, weightAt, stands, raises}
 use Rattle.rules.specs.Call.{grant}
-use Rattle.rules.specs.Refusal.{firstOf, overweight, held}
-use Rattle.rules.proofs.Lists.{either, getD-tabulate, T-true}
+use Rattle.rules.specs.Refusal.{firstOf, pairStands, allStand, overweight, held}
+use Rattle.rules.proofs.Lists.{either, T-true, yes, any-mem}
 use Rattle.rules.proofs.Refusals.{passes-of}
 use Rattle.rules.proofs.Support.{allowed-reach}
 use Rattle.block.specs.Bytes.{IsBytes, leading}
 use Rattle.block.specs.Block.{subjectsIn, countIn, decode}
 use Rattle.block.specs.WellFormed.{wellFormed}
-use Rattle.block.proofs.Held.{subjects-held, delegations-held, count-held, place-held, stands-found, stands-missing}
-use Rattle.block.proofs.PairPlace.{pairPlace, weightAt-found, weightAt-missing}
+use Rattle.block.proofs.Held.{held-formed, subjects-held, count-held, record-held, place-held, place-inside, at-place, pair-held, stands-found, stands-missing}
+use Rattle.block.proofs.PairPlace.{weightAt-found, weightAt-missing}
 use Rattle.block.specs.Records.{delegationAt, delegationsTo}
 use Rattle.rules.proofs.Signed.{below-weight}
+use Rattle.rules.proofs.Granting.{isRaise, raises-test, one-raised}
+use Rattle.refusals.specs.Joined.{orElse}
 use Rattle.refusals.specs.Checked.{BothEnrolled}
+use Rattle.refusals.proofs.Joining.{else-none}
 
 pub or-false : (x : Bool) → (x || false) ≡ x
 or-false true = refl
@@ -63,19 +65,9 @@ stands-test b bytes formed g r k place = go (either (ltb k (countIn b)))
 -- ── the delegation of a pair that stands ──
 module _ (b : List ℕ) (bytes : IsBytes b) (formed : wellFormed b ≡ true) (g r k : ℕ) (place : k ≡ leading (λ d. not (isPair g r d)) (delegationsTo b (countIn b)))
     (found : k < countIn b) where
-  -- the record at the pair's place is its delegation
-  pub at-place : getD (decode b .delegations) (pairPlace g r (decode b .delegations)) noDelegation ≡ delegationAt b k
-  at-place =
-      ap (λ (i : ℕ). getD (decode b .delegations) i noDelegation) (sym (place-held b bytes formed g r k place))
-      ∙ ap (λ (ds : List Delegation). getD ds k noDelegation) (delegations-held b bytes formed)
-      ∙ getD-tabulate (λ i. delegationAt b i) noDelegation 0 (countIn b) k found
-      ∙ ap (λ (i : ℕ). delegationAt b i) (zero-add k)
-
-  pub place-inside : pairPlace g r (decode b .delegations) < length (decode b .delegations)
-  place-inside = omega (arith, place-held b bytes formed g r k place, count-held b bytes formed, found)
-
   pub weight-stands : weightAt (decode b .delegations) g r ≡ pos (delegationAt b k .weight)
-  weight-stands = weightAt-found g r (decode b .delegations) noDelegation place-inside ∙ ap (λ (x : Delegation). pos (x .weight)) at-place
+  weight-stands =
+      weightAt-found g r (decode b .delegations) noDelegation (place-inside b bytes formed g r k place found) ∙ ap (λ (x : Delegation). pos (x .weight)) (at-place b bytes formed g r k place found)
 
 pub weight-missing : (b : List ℕ) (bytes : IsBytes b) (formed : wellFormed b ≡ true) (g r k : ℕ) → k ≡ leading (λ d. not (isPair g r d)) (delegationsTo b (countIn b)) → countIn b ≤ k
     → weightAt (decode b .delegations) g r ≡ none
@@ -96,9 +88,45 @@ heavy-test t R d =
     let l = reach t R (d .giver) (d .receiver) in
     rw (allowed-reach t R d) (or-false (ltb (code l) (suc (d .weight))) ∙ sym (below-weight l (d .weight)))
 
--- room is left for a grant that is not refused
-pub grant-room : (t : List ℤ) (b : List ℕ) (bytes : IsBytes b) (formed : wellFormed b ≡ true) (d : Delegation) → firstOf (held t (decode b) (grant d)) ≡ 0 → countIn b < 256
+-- room is left for a grant that is not refused and whose pair does not stand
+pub grant-room : (t : List ℤ) (b : List ℕ) (bytes : IsBytes b) (formed : wellFormed b ≡ true) (d : Delegation) → firstOf (held t (decode b) (grant d)) ≡ 0 → stands (decode b) (d .giver) (d .receiver) ≡ false
+    → countIn b < 256
 unfolding held
-grant-room t b bytes formed d e =
+grant-room t b bytes formed d e s =
     let p = passes-of (held t (decode b) (grant d)) tt e in
-    subst (λ (k : ℕ). k < 256) (count-held b bytes formed) (nleb→lt 256 (length (decode b .delegations)) (p 12))
+    subst (λ (k : ℕ). k < 256) (count-held b bytes formed) (nleb→lt 256 (length (decode b .delegations)) (subst (λ (x : Bool). T (not (not x && leb 256 (length (decode b .delegations))))) s (p 12)))
+
+-- ── the tests of 11 and 12, as the code makes them; k is the pair's place ──
+module _ (b : List ℕ) (bytes : IsBytes b) (formed : wellFormed b ≡ true) (d : Delegation) (n k : ℕ) (place : k ≡ leading (λ e. not (isPair (d .giver) (d .receiver) e)) (delegationsTo b (countIn b))) where
+  abbrev both : Bool → ℕ
+  both x = orElse (orElse n (11, x && not (raises (decode b) d))) (12, not x && leb 256 (length (decode b .delegations)))
+
+  pub place-missing : countIn b ≤ k → orElse n (12, leb 256 (countIn b)) ≡ orElse (orElse n (pairStands (decode b) d)) (allStand (decode b) d)
+  place-missing l =
+      ap (λ (m : ℕ). orElse m (12, leb 256 (countIn b))) (else-none n 11)
+      ∙ ap (λ (c : ℕ). orElse (orElse n (11, false)) (12, leb 256 c)) (sym (count-held b bytes formed))
+      ∙ ap both (sym (stands-missing b bytes formed (d .giver) (d .receiver) k place l))
+
+  module _ (found : k < countIn b) where
+    abbrev e : Delegation
+    e = delegationAt b k
+
+    pair : isPair (d .giver) (d .receiver) e ≡ true
+    pair = T-true (isPair (d .giver) (d .receiver) e) (pair-held b bytes formed (d .giver) (d .receiver) k place found)
+
+    -- the record found is the only one that could be raised
+    raise-test : raises (decode b) d ≡ isRaise d e
+    raise-test = go (raises (decode b) d) (isRaise d e) (λ h. raises-test d e (one-raised (decode b) (held-formed b bytes formed .rising) d e (record-held b bytes formed k found) (yes pair) h)) (λ t. any-mem (isRaise d) (record-held b bytes formed k found) t)
+      where
+        go : (x y : Bool) → (T x → T y) → (T y → T x) → x ≡ y
+        go true true f g = refl
+        go false false f g = refl
+        go true false f g = absurd (f tt)
+        go false true f g = absurd (g tt)
+
+    pub place-found : orElse n (11, not (eqb (e .need) (d .need) && eqb (e .bar) (d .bar) && ltb (e .weight) (d .weight))) ≡ orElse (orElse n (pairStands (decode b) d)) (allStand (decode b) d)
+    place-found =
+        ap (λ (x : Bool). orElse n (11, not (x && eqb (e .need) (d .need) && eqb (e .bar) (d .bar) && ltb (e .weight) (d .weight)))) (sym pair)
+        ∙ ap (λ (x : Bool). orElse n (11, not x)) (sym raise-test)
+        ∙ else-none (orElse n (11, not (raises (decode b) d))) 12
+        ∙ ap both (sym (stands-found b bytes formed (d .giver) (d .receiver) k place found))

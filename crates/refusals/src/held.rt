@@ -1,16 +1,17 @@
 // Refusals by what the register holds, on a well-formed block: the number of the first that applies, or 0. Each test has one number and is joined to those before it.
 ghost use mathlib.Core.Path.{_≡_};
-ghost use mathlib.Core.Bool.{true, not, _||_};
+ghost use mathlib.Core.Bool.{true, not, _&&_, _||_};
 ghost use mathlib.Core.List.{List, [], _∷_};
 ghost use Prim.Native.Nat.{_≤_};
-ghost use lib.Dec.{leb};
+ghost use lib.Dec.{leb, ltb, eqb};
 ghost use lib.IntN.{ℤ};
 ghost use Rattle.rules.specs.Table.{TableRule};
 ghost use Rattle.rules.specs.Pair.{stands};
 ghost use Rattle.rules.specs.Register.{granted};
 ghost use Rattle.rules.specs.Call.{grant, revoke, downgrade, askReach};
-ghost use Rattle.rules.specs.Refusal.{firstOf, notEnrolled, allEnrolled, allStand, mayNot, notBelow, overweight, held};
+ghost use Rattle.rules.specs.Refusal.{firstOf, notEnrolled, allEnrolled, pairStands, allStand, mayNot, notBelow, overweight, held};
 ghost use Rattle.block.specs.Block.{subjectsIn, decode};
+ghost use Rattle.block.specs.Records.{HasRecord, delegationAt};
 ghost use Rattle.block.specs.WellFormed.{wellFormed};
 ghost use Rattle.refusals.specs.Joined.{orElse};
 ghost use Rattle.refusals.specs.Checked.{Checked, BothEnrolled};
@@ -63,15 +64,42 @@ pub fn all_enrolled(n: u32, block: &[u8]) -> u32
     )
 }
 
-// 12: 256 delegations stand.
-fn all_stand(n: u32, block: &[u8]) -> u32
-    requires { ⌜ wellFormed (now block) ≡ true ⌝ }
-    ensures { λ r. ⌜ r ≡ orElse n (allStand (decode (now (block .entry)))) ⌝ }
+// Record `k` is raised by a grant of these numbers for its pair: the same need and bar, and a larger weight.
+fn is_raise(block: &[u8], k: usize, weight: u32, need: u32, bar: u32) -> bool
+    requires { ⌜ HasRecord (now block) k ⌝ }
+    ensures { λ r. ⌜ r ≡ (eqb (delegationAt (now (block .entry)) k .need) need && eqb (delegationAt (now (block .entry)) k .bar) bar && ltb (delegationAt (now (block .entry)) k .weight) weight) ⌝ }
 {
+    if block::need(block, k) as u32 != need {
+        return false;
+    }
+    if block::bar(block, k) as u32 != bar {
+        return false;
+    }
+    (block::weight(block, k) as u32) < weight
+}
+
+// 11 and 12: the pair stands, and this is no raise; 256 delegations stand, and the pair is not among them.
+fn no_place(
+    n: u32,
+    block: &[u8],
+    giver: u32,
+    receiver: u32,
+    weight: u32,
+    need: u32,
+    bar: u32,
+) -> u32
+    requires { ⌜ Checked (now block) (grant (granted giver receiver weight need bar)) ⌝ }
+    ensures { λ r. ⌜ r ≡ orElse (orElse n (pairStands (decode (now (block .entry))) (granted giver receiver weight need bar))) (allStand (decode (now (block .entry))) (granted giver receiver weight need bar)) ⌝ }
+{
+    let count = block::count(block);
+    let k = block::find(block, count, giver as u8, receiver as u8);
+    if k >= count {
+        return tested(n, refusal::ALL_STAND, count >= layout::MOST_RECORDS);
+    }
     tested(
         n,
-        refusal::ALL_STAND,
-        block::count(block) >= layout::MOST_RECORDS,
+        refusal::PAIR_STANDS,
+        !is_raise(block, k, weight, need, bar),
     )
 }
 
@@ -147,8 +175,7 @@ pub fn grant_held(
 {
     let n = not_enrolled(0, block, giver);
     let n = not_enrolled(n, block, receiver);
-    let n = tested(n, refusal::PAIR_STANDS, stands(block, giver, receiver));
-    let n = all_stand(n, block);
+    let n = no_place(n, block, giver, receiver, weight, need, bar);
     overweight(n, block, table, giver, receiver, weight, need, bar)
 }
 

@@ -2,7 +2,7 @@
 use mathlib.Core.Path.{_≡_, refl, sym, ap, subst, _∙_}
 use mathlib.Core.Logic.{_≢_, _⊎_, inl, inr}
 use mathlib.Core.Bool.{Bool, true, false}
-use mathlib.Core.List.{List}
+use mathlib.Core.List.{List, _++_}
 use Prim.Native.Nat.{ℕ}
 use borrow.Author.Tests.{eq-eqb, ne-eqb}
 use lib.Dec.{T, eqb}
@@ -12,7 +12,7 @@ use Rattle.rules.specs.Call.{Call, fresh}
 use Rattle.rules.specs.Refusal.{firstOf, passed, held, refusalOf}
 use Rattle.rules.specs.CallStep.{Outcome, accepted, refused, callStep}
 use Rattle.rules.proofs.Lists.{eqOr}
-use Rattle.rules.proofs.Refusals.{passed-numbered, firstOf-none}
+use Rattle.rules.proofs.Refusals.{Passes, passes, passed-numbered, firstOf-none}
 use Rattle.block.specs.Layout.{blockSize}
 use Rattle.block.specs.Block.{decode, encode}
 use Rattle.steptable.specs.declared.Given.{Given}
@@ -61,6 +61,9 @@ module _ (g : Given) (c : Call) (b : List ℕ) where
           go : (x : Bool) → x ≡ true → let o : Outcome = elim x [ true ↦ accepted (g .steps) (decode b) c | false ↦ refused (refusalOf (g .steps) (decode b) c) (decode b) ] in written b o ≡ written b (accepted (g .steps) (decode b) c)
           go true q = refl
           go false q = absurd (subst T (sym q) tt)
+
+      pub accepted-passes : Passes (passed c ++ held (g .steps) (decode b) c)
+      accepted-passes = passes (g .steps) (decode b) c (refusal-held ∙ e)
 
       -- accepted: the answers and the bytes are those of the definitions
       pub made-done : (o : Answer) (after : List ℕ) → result o after ≡ written b (accepted (g .steps) (decode b) c) → Made g c b o after

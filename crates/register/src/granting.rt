@@ -37,8 +37,7 @@ pub fn grant_by(
     if n != 0 {
         return refused(n);
     }
-    let standing = block::count(block);
-    change::insert(
+    change::put_granted(
         block,
         giver as u8,
         receiver as u8,
@@ -46,5 +45,5 @@ pub fn grant_by(
         need as u16,
         bar as u16,
     );
-    answered((standing + 1) as i32, 0, 0)
+    answered(block::count(block) as i32, 0, 0)
 }

@@ -1,7 +1,7 @@
 -- Every call leaves a well-formed register well formed and a supported one supported. Assumes nothing.
 use mathlib.Core.Path.{_≡_, refl, sym, ap, subst, _∙_}
 use mathlib.Core.Logic.{_≢_, _⊎_, inl, inr}
-use mathlib.Core.Bool.{Bool, true, false, not, cond, _||_}
+use mathlib.Core.Bool.{Bool, true, false, not, cond, _&&_, _||_}
 use mathlib.Core.List.{List, [], _∷_, _++_, List·Memᴰ·head, List·Memᴰ·tail, List·Memᴰ·not-nil}
 use Prim.Native.Nat.{ℕ, suc, _+_, _≤_, _<_, zero-le, suc-le-suc}
 use native.Mathlib.Nat.{le-trans, le-refl}
@@ -15,23 +15,23 @@ use Rattle.rules.specs.Limit.{code, _≼_}
 use Rattle.rules.specs.Table.{TableRule, Below}
 use Rattle.rules.specs.Register.{Delegation, Register, reweigh, withDelegations}
 use Rattle.rules.specs.Support.{allowed, Carried, Supported}
-use Rattle.rules.specs.Pair.{isPair, reweighed}
+use Rattle.rules.specs.Pair.{isPair, stands, reweighed}
 use Rattle.rules.specs.Round.{settle}
-use Rattle.rules.specs.Remainder.{Within}
+use Rattle.rules.specs.Granted.{GrantedIn}
 use Rattle.rules.specs.Cut.{removal, lowering, named}
 use Rattle.rules.specs.WellFormed.{DelegationFormed, WellFormed}
 use Rattle.rules.specs.Call.{Call, enrol, grant, revoke, downgrade, askReach, askUse, fresh, enrolled}
-use Rattle.rules.specs.Refusal.{passed, held, refusalOf}
-use Rattle.rules.specs.CallStep.{Outcome, insert, cut, accepted, refused, callStep}
+use Rattle.rules.specs.Refusal.{pairStands, allStand, passed, held, refusalOf}
+use Rattle.rules.specs.CallStep.{Outcome, insert, afterGrant, cut, accepted, refused, callStep}
 use Rattle.rules.proofs.Lists.{filter-mem, filter-length, map-mem, eq→eqb, not-or-left, not-or-right, not-not, test-ne}
 use Rattle.rules.proofs.Chains.{mem-snoc}
 use Rattle.rules.proofs.Tables.{Below-refl}
 use Rattle.rules.proofs.Support.{carried-on, allowed-carried, carried-mono, carried-under, supported-under}
-use Rattle.rules.proofs.AtMost.{AtMost-refl}
 use Rattle.rules.proofs.Rounds.{settle-right, settle-best}
 use Rattle.rules.proofs.WellFormed.{formed-reweigh, settles-formed}
 use Rattle.rules.proofs.Refusals.{Passes, passes}
-use Rattle.rules.proofs.Pairs.{IsPair, none-stands, insert-mem, mem-insert, insert-length, insert-rising, rising-filter, rising-map}
+use Rattle.rules.proofs.Granting.{grant-leaves}
+use Rattle.rules.proofs.Pairs.{IsPair, none-stands, insert-mem, insert-length, insert-rising, rising-filter, rising-map}
 
 -- ── well formed ──
 pub removed-formed : (R : Register) (g r : ℕ) → WellFormed R → WellFormed (named R (removal g r))
@@ -126,11 +126,19 @@ insert-formed R d k l n f = record {
     good e (inl q) = subst (λ (x : Delegation). DelegationFormed (R .subjects) x) (sym q) k
     good e (inr m) = f .each e m
 
+grant-formed : (R : Register) (d : Delegation) → DelegationFormed (R .subjects) d → T (not (pairStands R d .1)) → T (not (allStand R d .1)) → WellFormed R → WellFormed (afterGrant R d)
+grant-formed R d k p q f = go (stands R (d .giver) (d .receiver)) refl q
+  where
+    go : (b : Bool) → stands R (d .giver) (d .receiver) ≡ b → T (not (not b && leb 256 (length (R .delegations))))
+        → WellFormed (cond b (reweighed R (d .giver) (d .receiver) (d .weight)) (withDelegations R (insert d (R .delegations))))
+    go true e x = reweighed-formed R (d .giver) (d .receiver) (d .weight) (k .weight) f
+    go false e x = insert-formed R d k (nleb→lt 256 (length (R .delegations)) x) (none-stands R (d .giver) (d .receiver) (subst (λ (y : Bool). T (not y)) (sym e) tt)) f
+
 cut-formed : (t : List ℤ) (C : Register) → WellFormed C → WellFormed (cut t C .left)
 unfolding cut
 cut-formed t C f = settles-formed t (settle t C .changed) C (settle t C .left) (settle-right t C) f
 
-accepted-formed : (t : List ℤ) (R : Register) (c : Call) → Passes (passed c ++ held t R c) → WellFormed R → WellFormed (accepted t R c .left)
+pub accepted-formed : (t : List ℤ) (R : Register) (c : Call) → Passes (passed c ++ held t R c) → WellFormed R → WellFormed (accepted t R c .left)
 unfolding accepted passed held
 accepted-formed t R (enrol m) p f = enrol-formed R m (nltb→le 65535 m (p 4)) (nleb→lt 64 (R .subjects) (p 10)) f
 accepted-formed t R (grant d) p f =
@@ -139,7 +147,7 @@ accepted-formed t R (grant d) p f =
     let n = d .need in
     let b = d .bar in
     let masks = not-or-left (ltb 65535 n || ltb 65535 b) (not (eqb (bitAnd n b) 0)) (p 4) in
-    insert-formed R d record {
+    grant-formed R d record {
       giver = nleb→lt (R .subjects) g (not-or-left (leb (R .subjects) g) (leb (R .subjects) r || false) (p 9));
       receiver = nleb→lt (R .subjects) r (not-or-left (leb (R .subjects) r) false (not-or-right (leb (R .subjects) g) (leb (R .subjects) r || false) (p 9)));
       differ = test-ne g r (p 5);
@@ -149,7 +157,7 @@ accepted-formed t R (grant d) p f =
       bar = nltb→le 65535 b (not-or-right (ltb 65535 n) (ltb 65535 b) masks);
       disjoint = eqb→eq (bitAnd n b) 0 (not-not (eqb (bitAnd n b) 0) (not-or-right (ltb 65535 n || ltb 65535 b) (not (eqb (bitAnd n b) 0)) (p 4)));
     }
-    (nleb→lt 256 (length (R .delegations)) (p 12)) (none-stands R g r (p 11)) f
+    (p 11) (p 12) f
 accepted-formed t R (revoke y g r) p f = cut-formed t (named R (removal g r)) (removed-formed R g r f)
 accepted-formed t R (downgrade y g r w) p f = cut-formed t (named R (lowering g r w)) (lowered-formed R g r w (nltb→le 255 w (p 3)) f)
 accepted-formed t R (askReach g r) p f = f
@@ -161,15 +169,12 @@ enrol-supported m R x f s d i =
     carried-on m R (enrolled R x) d (sym (List·getD-append (R .marks) (x ∷ []) 0 (d .receiver) (omega (arith, f .marked, f .each d i .receiver)))) (λ ds c h. c .standing) (s d i)
 
 module _ (t m : List ℤ) (rule : TableRule t) (rule′ : TableRule m) (below : Below t m) where
-  insert-under : (R : Register) (d : Delegation) → pos (d .weight) ≼ allowed t R d → Supported m R → Supported m (withDelegations R (insert d (R .delegations)))
-  insert-under R d h s e i = carried-mono m rule′ R (withDelegations R (insert d (R .delegations))) e within (old (insert-mem d (R .delegations) i))
+  grant-under : (R S : Register) (d : Delegation) → GrantedIn R S d → pos (d .weight) ≼ allowed t R d → Supported m R → Supported m S
+  grant-under R S d k h s e i = carried-mono m rule′ R S e (k .within) (old (k .only e i))
     where
-      within : Within R (withDelegations R (insert d (R .delegations)))
-      within = record { subjects = refl; marks = refl; held = λ x i. (x, mem-insert d (R .delegations) (inr i), AtMost-refl x) }
-
-      old : (e ≡ d) ⊎ (e ∈ R .delegations) → Carried m R e
-      old (inl q) = subst (λ (x : Delegation). Carried m R x) (sym q) (carried-under t m rule′ below R d (allowed-carried t rule R d h))
-      old (inr i) = s e i
+      old : (e ∈ R .delegations) ⊎ (e ≡ d) → Carried m R e
+      old (inl j) = s e j
+      old (inr q) = subst (λ (x : Delegation). Carried m R x) (sym q) (carried-under t m rule′ below R d (allowed-carried t rule R d h))
 
   cut-under : (C : Register) → Supported m (cut t C .left)
   unfolding cut
@@ -178,7 +183,7 @@ module _ (t m : List ℤ) (rule : TableRule t) (rule′ : TableRule m) (below : 
   accepted-under : (R : Register) (c : Call) → Passes (passed c ++ held t R c) → WellFormed R → Supported m R → Supported m (accepted t R c .left)
   unfolding accepted passed held
   accepted-under R (enrol x) p f s = enrol-supported m R x f s
-  accepted-under R (grant d) p f s = insert-under R d (nltb→le (code (allowed t R d)) (suc (d .weight)) (not-or-left (ltb (code (allowed t R d)) (suc (d .weight))) false (p 16))) s
+  accepted-under R (grant d) p f s = grant-under R (afterGrant R d) d (grant-leaves R d (f .rising) (p 11)) (nltb→le (code (allowed t R d)) (suc (d .weight)) (not-or-left (ltb (code (allowed t R d)) (suc (d .weight))) false (p 16))) s
   accepted-under R (revoke y g r) p f s = cut-under (named R (removal g r))
   accepted-under R (downgrade y g r w) p f s = cut-under (named R (lowering g r w))
   accepted-under R (askReach g r) p f s = s

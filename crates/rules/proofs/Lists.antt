@@ -129,6 +129,14 @@ module _ {A : Type 0} where
     any-mem (List·Memᴰ·head {x = y} {xs = ys} e) h = T-or-left (f y) (any f ys) (subst (λ (z : A). T (f z)) e h)
     any-mem (List·Memᴰ·tail {x = y} {xs = ys} m) h = T-or-right (f y) (any f ys) (any-mem m h)
 
+    pub mem-any : (xs : List A) → T (any f xs) → (x : A) × (x ∈ xs) × T (f x)
+    mem-any [] h = absurd h
+    mem-any (x ∷ xs) h = go (f x) refl (mem-any xs) h
+      where
+        go : (b : Bool) → f x ≡ b → (T (any f xs) → (y : A) × (y ∈ xs) × T (f y)) → T (b || any f xs) → (y : A) × (y ∈ (x ∷ xs)) × T (f y)
+        go true e ih k = (x, List·Memᴰ·head refl, subst T (sym e) tt)
+        go false e ih k = let (y, m, t) = ih k in (y, List·Memᴰ·tail m, t)
+
     pub filter-length : (xs : List A) → length (filter f xs) ≤ length xs
     filter-length [] = le-refl zero
     filter-length (x ∷ xs) = le-trans (keep-length (f x) x (filter f xs)) (suc-le-suc (filter-length xs))

@@ -14,7 +14,7 @@ use Rattle.rules.specs.Register.{Delegation, Register}
 use Rattle.rules.specs.Pair.{isPair, weightAt, stands}
 use Rattle.rules.specs.WellFormed.{Before, Rising}
 use Rattle.rules.specs.CallStep.{before, insert}
-use Rattle.rules.proofs.Lists.{T-left, T-right, T-both, T-or-left, T-or-right, either, eq→eqb, filter-mem, map-mem, not-or-left, not-or-right, test-ne}
+use Rattle.rules.proofs.Lists.{T-true, yes, T-left, T-right, T-both, T-or-left, T-or-right, either, eq→eqb, filter-mem, map-mem, not-or-left, not-or-right, test-ne}
 use Rattle.rules.proofs.WellFormed.{Before-trans, Before-pairs}
 
 -- ── what a pair's weight says ──
@@ -39,8 +39,11 @@ weight-stands g r (List·Memᴰ·tail {x = x} {xs = ds} m) p = go (weight-stands
     go h true = suc-le-suc zero-le
     go h false = h
 
+pub pair-stands : (R : Register) (g r : ℕ) (d : Delegation) → d ∈ R .delegations → IsPair g r d → stands R g r ≡ true
+pair-stands R g r d m p = T-true (stands R g r) (lt→ltb zero (code (weightAt (R .delegations) g r)) (weight-stands g r m p))
+
 pub none-stands : (R : Register) (g r : ℕ) → T (not (stands R g r)) → (d : Delegation) → d ∈ R .delegations → IsPair g r d → ⊥
-none-stands R g r h d m p = T-not (stands R g r) h (lt→ltb zero (code (weightAt (R .delegations) g r)) (weight-stands g r m p))
+none-stands R g r h d m p = T-not (stands R g r) h (yes (pair-stands R g r d m p))
 
 -- ── a delegation is added ──
 pub before-Before : (d e : Delegation) → T (before d e) → Before d e

@@ -21,15 +21,15 @@ use Rattle.rules.specs.Cut.{removal, lowering, named, isDropped, isLower
 use Rattle.rules.specs.WellFormed.{WellFormed}
 use Rattle.rules.specs.Call.{Call, enrol, grant, revoke, downgrade, askReach, askUse}
 use Rattle.rules.specs.Refusal.{passed, held}
-use Rattle.rules.specs.CallStep.{Outcome, cut, accepted, callStep}
+use Rattle.rules.specs.CallStep.{Outcome, afterGrant, cut, accepted, callStep}
 use Rattle.rules.specs.Ranges.{FromTo, CutInRange, InRange}
 use Rattle.rules.proofs.Chains.{limitFrom-top}
 use Rattle.rules.proofs.Reach.{reach-attained}
 use Rattle.rules.proofs.Refusals.{Passes}
-use Rattle.rules.proofs.Pairs.{insert-length}
-use Rattle.rules.proofs.Calls.{removed-formed, lowered-formed, callStep-cases}
+use Rattle.rules.proofs.Granting.{grant-leaves}
+use Rattle.rules.proofs.Calls.{removed-formed, lowered-formed, accepted-formed, callStep-cases}
 use Rattle.rules.proofs.Bound.{rounds-below}
-use Rattle.rules.proofs.Lists.{not-not}
+use Rattle.rules.proofs.Lists.{mem-length, not-not}
 
 -- ── two tests that no element passes together ──
 module _ {A : Type 0} (f g : A → Bool) (apart : (x : A) → T (f x) → T (not (g x))) where
@@ -89,9 +89,7 @@ use-range false = (0, refl, zero-le, zero-le)
 accepted-range : (t : List ℤ) → TableRule t → (R : Register) (c : Call) → Passes (passed c ++ held t R c) → WellFormed R → let o = accepted t R c in InRange c (o .first) (o .second) (o .third)
 unfolding accepted passed held
 accepted-range t rule R (enrol m) p f = ((R .subjects, refl, f .some, omega (arith, nleb→lt 64 (R .subjects) (p 10))), refl, refl)
-accepted-range t rule R (grant d) p f =
-    let e = insert-length d (R .delegations) in
-    ((_, refl, omega (arith, e), omega (arith, e, nleb→lt 256 (length (R .delegations)) (p 12))), refl, refl)
+accepted-range t rule R (grant d) p f = ((length (afterGrant R d .delegations), refl, mem-length (grant-leaves R d (f .rising) (p 11) .standing), accepted-formed t R (grant d) p f .few), refl, refl)
 accepted-range t rule R (revoke y g r) p f = cut-range t (named R (removal g r)) (removed-formed R g r f) (rounds-below t rule R (removal g r) f (not-not (stands R g r) (p 13)))
 accepted-range t rule R (downgrade y g r w) p f =
     cut-range t (named R (lowering g r w)) (lowered-formed R g r w (nltb→le 255 w (p 3)) f) (rounds-below t rule R (lowering g r w) f (nleb→lt (code (weightAt (R .delegations) g r)) (suc w) (p 15)))

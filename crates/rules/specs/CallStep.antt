@@ -1,4 +1,4 @@
--- What a call returns and leaves, on a register (document 01, 'Calls'). Assumes nothing.
+-- What a call returns and leaves, on a register (document 01, 'Calls'; document 02, C-12). Assumes nothing.
 use mathlib.Core.Bool.{Bool, true, false, cond, _&&_, _||_}
 use mathlib.Core.List.{List, [], _∷_}
 use Prim.Native.Nat.{ℕ}
@@ -7,7 +7,7 @@ use lib.ListN.{length}
 use lib.IntN.{ℤ, pos}
 use Rattle.rules.specs.Register.{Delegation, Register, withDelegations}
 use Rattle.rules.specs.Reach.{reach}
-use Rattle.rules.specs.Pair.{receives}
+use Rattle.rules.specs.Pair.{stands, reweighed, receives}
 use Rattle.rules.specs.Round.{settle, rounds}
 use Rattle.rules.specs.Cut.{removal, lowering, cutting, changed, dropped, lowered}
 use Rattle.rules.specs.Call.{Call, enrol, grant, revoke, downgrade, askReach, askUse, enrolled}
@@ -37,6 +37,10 @@ abbrev pub insert : Delegation → List Delegation → List Delegation
 insert d [] = d ∷ []
 insert d (e ∷ es) = cond (before d e) (d ∷ e ∷ es) (e ∷ insert d es)
 
+-- the register with d granted: the weight of its pair raised to d's, or d added
+abbrev pub afterGrant : Register → Delegation → Register
+afterGrant R d = cond (stands R (d .giver) (d .receiver)) (reweighed R (d .giver) (d .receiver) (d .weight)) (withDelegations R (insert d (R .delegations)))
+
 -- what rounds answer and leave, from the register C after the change that they follow
 unfoldable pub cut : List ℤ → Register → Outcome
 cut t C =
@@ -47,7 +51,7 @@ cut t C =
 unfoldable pub accepted : List ℤ → Register → Call → Outcome
 accepted t R (enrol m) = answered (pos (R .subjects)) (pos 0) (pos 0) (enrolled R m)
 accepted t R (grant d) =
-    let S = withDelegations R (insert d (R .delegations)) in
+    let S = afterGrant R d in
     answered (pos (length (S .delegations))) (pos 0) (pos 0) S
 accepted t R (revoke y g r) = cut t (changed R (cutting (removal g r)))
 accepted t R (downgrade y g r w) = cut t (changed R (cutting (lowering g r w)))

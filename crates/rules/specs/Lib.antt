@@ -15,6 +15,7 @@ pub mod WellFormed
 pub mod Call
 pub mod Refusal
 pub mod CallStep
+pub mod Granted
 pub mod Bound
 pub mod Ranges
 pub mod Trace

@@ -1,9 +1,10 @@
--- What stands for a pair of giver and receiver (document 01, 'Subjects, marks, weights'): at most one delegation in a well-formed register. Assumes nothing.
+-- What stands for a pair of giver and receiver (document 01, 'Subjects, marks, weights'; document 02, C-12): at most one delegation in a well-formed register. Assumes nothing.
 use mathlib.Core.Bool.{Bool, false, cond, _&&_, _||_}
 use mathlib.Core.List.{List, [], _∷_, map}
 use Prim.Native.Nat.{ℕ, zero}
 use lib.Dec.{eqb, ltb}
 use lib.IntN.{ℤ, pos}
+use Rattle.rules.specs.List.{any}
 use Rattle.rules.specs.Limit.{none, code}
 use Rattle.rules.specs.Register.{Delegation, Register, reweigh, withDelegations}
 
@@ -17,6 +18,14 @@ weightAt (d ∷ ds) g r = cond (isPair g r d) (pos (d .weight)) (weightAt ds g r
 
 abbrev pub stands : Register → ℕ → ℕ → Bool
 stands R g r = ltb zero (code (weightAt (R .delegations) g r))
+
+-- all but the weight is the same
+abbrev pub sameTerms : Delegation → Delegation → Bool
+sameTerms d e = isPair (d .giver) (d .receiver) e && eqb (e .need) (d .need) && eqb (e .bar) (d .bar)
+
+-- d raises what stands: the same terms at a smaller weight
+abbrev pub raises : Register → Delegation → Bool
+raises R d = any (λ e. sameTerms d e && ltb (e .weight) (d .weight)) (R .delegations)
 
 -- the register with the delegation of a pair at another weight
 abbrev pub reweighed : Register → ℕ → ℕ → ℕ → Register

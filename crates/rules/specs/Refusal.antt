@@ -1,6 +1,6 @@
--- Refusals (document 01, 'Turned back by what was passed' and 'Turned back by what the register holds'): each number with the test under which it applies, and for each call
+-- Refusals (document 01, 'Turned back by what was passed' and 'Turned back by what the register holds'; document 02, C-12): each number with the test under which it applies, and for each call
 -- two ordered lists of them. The refusal is the first that applies of 1, `passed`, 8 and `held`; 1 and 8 speak of bytes and have no place in a register. Assumes nothing.
-use mathlib.Core.Bool.{Bool, cond, not, _||_}
+use mathlib.Core.Bool.{Bool, cond, not, _&&_, _||_}
 use mathlib.Core.List.{List, [], _∷_, _++_}
 use Prim.Native.Nat.{ℕ, suc}
 use lib.Bits.{bitAnd}
@@ -11,7 +11,7 @@ use Rattle.rules.specs.List.{filter, any}
 use Rattle.rules.specs.Limit.{code}
 use Rattle.rules.specs.Register.{Delegation, Register}
 use Rattle.rules.specs.Support.{allowed}
-use Rattle.rules.specs.Pair.{isPair, weightAt, stands}
+use Rattle.rules.specs.Pair.{isPair, weightAt, stands, raises}
 use Rattle.rules.specs.Call.{Call, enrol, grant, revoke, downgrade, askReach, askUse}
 
 -- the number of the first that applies, or 0
@@ -55,13 +55,13 @@ notEnrolled R xs = (9, any (λ x. leb (R .subjects) x) xs)
 abbrev pub allEnrolled : Register → ℕ × Bool
 allEnrolled R = (10, leb 64 (R .subjects))
 
--- 11: the pair stands
-abbrev pub pairStands : Register → ℕ → ℕ → ℕ × Bool
-pairStands R g r = (11, stands R g r)
+-- 11: the pair stands, and d does not raise it
+abbrev pub pairStands : Register → Delegation → ℕ × Bool
+pairStands R d = (11, stands R (d .giver) (d .receiver) && not (raises R d))
 
--- 12: 256 delegations stand
-abbrev pub allStand : Register → ℕ × Bool
-allStand R = (12, leb 256 (length (R .delegations)))
+-- 12: 256 delegations stand, and the pair is not among them
+abbrev pub allStand : Register → Delegation → ℕ × Bool
+allStand R d = (12, not (stands R (d .giver) (d .receiver)) && leb 256 (length (R .delegations)))
 
 -- 13: the pair does not stand
 abbrev pub noPair : Register → ℕ → ℕ → ℕ × Bool
@@ -91,7 +91,7 @@ passed (askUse r) = noSubject (r ∷ []) ∷ []
 
 unfoldable pub held : List ℤ → Register → Call → List (ℕ × Bool)
 held t R (enrol m) = allEnrolled R ∷ []
-held t R (grant d) = notEnrolled R (d .giver ∷ d .receiver ∷ []) ∷ pairStands R (d .giver) (d .receiver) ∷ allStand R ∷ overweight t R (d ∷ []) ∷ []
+held t R (grant d) = notEnrolled R (d .giver ∷ d .receiver ∷ []) ∷ pairStands R d ∷ allStand R d ∷ overweight t R (d ∷ []) ∷ []
 held t R (revoke y g r) = notEnrolled R (y ∷ g ∷ r ∷ []) ∷ noPair R g r ∷ mayNot y g ∷ []
 held t R (downgrade y g r w) = notEnrolled R (y ∷ g ∷ r ∷ []) ∷ noPair R g r ∷ mayNot y g ∷ notBelow R g r w ∷ []
 held t R (askReach g r) = notEnrolled R (g ∷ r ∷ []) ∷ []
