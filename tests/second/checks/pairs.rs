@@ -44,8 +44,8 @@ fn impossible(call: Call) -> Vec<Pair> {
     }
     pairs.extend(match call {
         // A standing pair names two enrolled subjects that differ, the
-        // receiver not the owner.
-        Call::Grant => vec![(2, 11), (5, 11), (6, 11), (9, 11)],
+        // receiver not the owner. 12 is for a pair that doesn't stand.
+        Call::Grant => vec![(2, 11), (5, 11), (6, 11), (9, 11), (11, 12)],
         // 15 compares with a standing pair. The subject above 63 or not
         // enrolled can still be by.
         Call::Downgrade => vec![(5, 15), (6, 15), (13, 15)],
