@@ -101,7 +101,7 @@ fn change(engine: &Engine, n: &Passed, text: &[u8], block: &mut [u8]) -> Outcome
     };
     let answers = match n.call {
         Call::Enrol => add_subject(n, &mut register),
-        Call::Grant => add_delegation(n, &mut register),
+        Call::Grant => set_delegation(n, &mut register),
         _ => cut(engine, &table, n, &mut register),
     };
     block.copy_from_slice(&encode(&register));
@@ -125,8 +125,9 @@ fn add_subject(n: &Passed, register: &mut Register) -> [i32; 3] {
     [register.marks.len() as i32 - 1, 0, 0]
 }
 
-/// Answers the delegations now standing.
-fn add_delegation(n: &Passed, register: &mut Register) -> [i32; 3] {
+/// Adds the delegation, or raises the one that stands. Answers the delegations
+/// now standing.
+fn set_delegation(n: &Passed, register: &mut Register) -> [i32; 3] {
     let new = Delegation {
         giver: n.giver as u8,
         receiver: n.receiver as u8,
@@ -134,8 +135,9 @@ fn add_delegation(n: &Passed, register: &mut Register) -> [i32; 3] {
         need: n.need as u16,
         bar: n.bar as u16,
     };
-    if let Err(at) = register.place(n.giver, n.receiver) {
-        register.delegations.insert(at, new);
+    match register.place(n.giver, n.receiver) {
+        Ok(at) => register.delegations[at].weight = new.weight,
+        Err(at) => register.delegations.insert(at, new),
     }
     [register.delegations.len() as i32, 0, 0]
 }

@@ -2,7 +2,7 @@
 //! The refusal is the first that applies of: 1, passed in order, 7 and 17 for a
 //! lent table's text, 8, held in order. It is never a numeric minimum.
 
-use crate::block::{decode, Register, BLOCK_LEN, MOST_DELEGATIONS, MOST_SUBJECTS};
+use crate::block::{decode, Delegation, Register, BLOCK_LEN, MOST_DELEGATIONS, MOST_SUBJECTS};
 use crate::engine::Engine;
 use crate::table::{Table, OURS};
 
@@ -195,14 +195,19 @@ fn all_enrolled(_: &Passed, register: &Register) -> bool {
     register.marks.len() == MOST_SUBJECTS
 }
 
-/// 11: the pair stands.
+/// 11: the pair stands, and the grant is no raise of it.
 fn stands(n: &Passed, register: &Register) -> bool {
-    register.standing(n.giver, n.receiver).is_some()
+    register.standing(n.giver, n.receiver).is_some_and(|d| !raises(n, d))
 }
 
-/// 12: 256 delegations stand.
-fn full(_: &Passed, register: &Register) -> bool {
-    register.delegations.len() == MOST_DELEGATIONS
+/// Document 02, C-12: a grant with the same need and bar and a larger weight.
+fn raises(n: &Passed, standing: &Delegation) -> bool {
+    (n.need, n.bar) == (standing.need as u32, standing.bar as u32) && n.weight > standing.weight as u32
+}
+
+/// 12: 256 delegations stand, and the pair is not among them.
+fn full(n: &Passed, register: &Register) -> bool {
+    register.delegations.len() == MOST_DELEGATIONS && stands_not(n, register)
 }
 
 /// 13: the pair doesn't stand.

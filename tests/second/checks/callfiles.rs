@@ -58,6 +58,19 @@ fn whole_lengths() {
     assert_eq!(cut_off.lines().last(), Some(&format!("7 {}", exact.lines().count())[..]));
 }
 
+/// 256 delegations stand. A new pair gets 12, and raises are answered.
+#[test]
+fn a_full_register_is_raised_by_a_file() {
+    let files = callfiles::all();
+    let file = files.iter().find(|file| file.shows == "raises in a full register").unwrap();
+    let printed = printed(&file.input);
+    let lines: Vec<&str> = printed.lines().skip(1 + 19).collect();
+    assert_eq!(lines[255], "0 256 0 0");
+    let first = ["12 0 0 0", "11 0 0 0", "11 0 0 0", "0 256 0 0", "16 0 0 0", "0 256 0 0"];
+    let due = [&first[..], &["0 256 0 0", "16 0 0 0", "12 0 0 0", "0 0 1 2", "0 126 0 0"]].concat();
+    assert_eq!(lines[256..], due);
+}
+
 /// Every file of malformed lines ends with 7 and the line's number.
 #[test]
 fn malformed_files_end_with_7() {

@@ -4,7 +4,7 @@
 
 use super::same;
 use crate::faults::{ONE_ROUND, TEXT_LEFT_OUT, VISITED_ONCE};
-use generate::{lists, texts, unsupported};
+use generate::{lists, raises, texts, unsupported};
 use second::block::{decode, encode, well_formed, Register, BLOCK_LEN};
 use second::call::{self, Outcome};
 use second::casefile::{answer, answer_table};
@@ -43,12 +43,12 @@ fn first_applying(n: &Passed, text: &[u8], block: &[u8]) -> u32 {
 }
 
 /// Random lists of calls with an engine and with the definition.
-fn same_lists(engine: &Engine) -> Result<usize, String> {
+fn same_lists(engine: &Engine, draw: lists::Draw) -> Result<usize, String> {
     let mut random = Random::new(0x1157);
     let mut accepted = 0;
     for _ in 0..250 {
         let mut block = encode(&Register::fresh());
-        for n in lists::list(&mut random, &lists::CUT, 60) {
+        for n in lists::list(draw, &mut random, &lists::CUT, 60) {
             let mut literal = block.clone();
             let due = first_applying(&n, b"", &block);
             let found = checked(engine, &n, b"", &mut block)?;
@@ -63,9 +63,11 @@ fn same_lists(engine: &Engine) -> Result<usize, String> {
 
 #[test]
 fn lists_are_literal() {
-    assert!(same_lists(&FAST).unwrap() > 5000);
-    assert!(same_lists(&VISITED_ONCE).is_err());
-    assert!(same_lists(&ONE_ROUND).is_err());
+    for draw in [lists::likely, raises::likely as lists::Draw] {
+        assert!(same_lists(&FAST, draw).unwrap() > 5000);
+        assert!(same_lists(&VISITED_ONCE, draw).is_err());
+        assert!(same_lists(&ONE_ROUND, draw).is_err());
+    }
 }
 
 /// Any text: empty, refused, or of a table that passes.
@@ -79,7 +81,7 @@ fn any_text(random: &mut Random, refused: &[Vec<u8>]) -> Vec<u8> {
 
 /// Lists of calls from blocks that are not supported, each call lent another
 /// text, with an engine and with the definition.
-fn same_lists_under_tables(engine: &Engine) -> Result<usize, String> {
+fn same_lists_under_tables(engine: &Engine, draw: lists::Draw) -> Result<usize, String> {
     let mut random = Random::new(0x7AB5);
     let refused = texts::refused_at_the_end();
     let mut accepted = 0;
@@ -89,7 +91,7 @@ fn same_lists_under_tables(engine: &Engine) -> Result<usize, String> {
             let text = any_text(&mut random, &refused);
             let call = random.pick(&lists::CUT);
             let register = decode(&block).ok_or("not well formed")?;
-            let n = lists::likely(&mut random, call, &Table::read(&text).unwrap_or(OURS), &register);
+            let n = draw(&mut random, call, &Table::read(&text).unwrap_or(OURS), &register);
             let mut literal = block.clone();
             let due = first_applying(&n, &text, &block);
             let found = checked(engine, &n, &text, &mut block)?;
@@ -104,10 +106,12 @@ fn same_lists_under_tables(engine: &Engine) -> Result<usize, String> {
 
 #[test]
 fn lists_under_tables_are_literal() {
-    assert!(same_lists_under_tables(&FAST).unwrap() > 2000);
-    assert!(same_lists_under_tables(&VISITED_ONCE).is_err());
-    assert!(same_lists_under_tables(&ONE_ROUND).is_err());
-    assert!(same_lists_under_tables(&TEXT_LEFT_OUT).is_err());
+    for draw in [lists::likely, raises::likely as lists::Draw] {
+        assert!(same_lists_under_tables(&FAST, draw).unwrap() > 2000);
+        assert!(same_lists_under_tables(&VISITED_ONCE, draw).is_err());
+        assert!(same_lists_under_tables(&ONE_ROUND, draw).is_err());
+        assert!(same_lists_under_tables(&TEXT_LEFT_OUT, draw).is_err());
+    }
 }
 
 /// From random well-formed blocks that are not supported.

@@ -13,6 +13,8 @@ mod generated;
 mod hosts;
 mod listfiles;
 mod pairs;
+mod raisecases;
+mod raises;
 mod relaxed;
 mod searches;
 mod tables;

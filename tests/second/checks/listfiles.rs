@@ -78,6 +78,18 @@ fn a_list_is_judged_by_the_tables_of_its_calls() {
     assert_ne!(expected_lines(&TEXT_LEFT_OUT, &list), expected);
 }
 
+/// 1-2 stands at 0 and is granted at 8: under the table that falls by two, the two
+/// texts that are refused, the level one and ours.
+#[test]
+fn the_raises_of_a_list_are_judged_by_their_tables() {
+    let list = textlists::raised();
+    let expected = expected_lines(&FAST, &list);
+    let first = ["16 0 0 0", "7 0 0 0", "17 0 0 0", "16 0 0 0", "0 2 0 0"];
+    let due = [&first[..], &["0 2 0 0", "11 0 0 0", "16 0 0 0", "0 2 0 0", "0 0 1 2"]].concat();
+    assert_eq!(answers(&expected)[6..], due);
+    assert_ne!(expected_lines(&TEXT_LEFT_OUT, &list), expected);
+}
+
 /// Seven calls for each place of a text: 0 where it passes, 7 or 17 where it does
 /// not, and use as without one.
 #[test]

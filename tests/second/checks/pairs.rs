@@ -44,8 +44,8 @@ fn impossible(call: Call) -> Vec<Pair> {
     }
     pairs.extend(match call {
         // A standing pair names two enrolled subjects that differ, the
-        // receiver not the owner.
-        Call::Grant => vec![(2, 11), (5, 11), (6, 11), (9, 11)],
+        // receiver not the owner. 12 is for a pair that doesn't stand.
+        Call::Grant => vec![(2, 11), (5, 11), (6, 11), (9, 11), (11, 12)],
         // 15 compares with a standing pair. The subject above 63 or not
         // enrolled can still be by.
         Call::Downgrade => vec![(5, 15), (6, 15), (13, 15)],
@@ -73,12 +73,25 @@ fn never_alone(call: Call) -> &'static [u32] {
     }
 }
 
-/// What the generated cases realise for each call.
+/// What cases realise of the refusals of a call.
 #[derive(Default)]
-struct Realised {
-    pairs: BTreeSet<Pair>,
-    alone: BTreeSet<u32>,
-    returned: BTreeSet<u32>,
+pub struct Realised {
+    pub pairs: BTreeSet<Pair>,
+    pub alone: BTreeSet<u32>,
+    pub returned: BTreeSet<u32>,
+}
+
+impl Realised {
+    /// A case to which these apply at once, and the number that it returns.
+    pub fn add(&mut self, numbers: &[u32], returned: u32) {
+        if let [number] = numbers {
+            self.alone.insert(*number);
+        }
+        for (at, &first) in numbers.iter().enumerate() {
+            self.pairs.extend(numbers[at + 1..].iter().map(|&second| (first, second)));
+        }
+        self.returned.insert(returned);
+    }
 }
 
 fn realised() -> BTreeMap<Call, Realised> {
@@ -88,14 +101,8 @@ fn realised() -> BTreeMap<Call, Realised> {
         for case in cases(kind) {
             block = case.block.clone().unwrap_or(block);
             let numbers = applying(&FAST, &case.passed, case.lent(), &block, case.passed.weight as usize);
-            let of_call = all.entry(case.passed.call).or_default();
-            if let [number] = numbers[..] {
-                of_call.alone.insert(number);
-            }
-            for (at, &first) in numbers.iter().enumerate() {
-                of_call.pairs.extend(numbers[at + 1..].iter().map(|&second| (first, second)));
-            }
-            of_call.returned.insert(answer_table(&FAST, &case.passed, case.lent(), &mut block).refusal);
+            let returned = answer_table(&FAST, &case.passed, case.lent(), &mut block).refusal;
+            all.entry(case.passed.call).or_default().add(&numbers, returned);
         }
     }
     all

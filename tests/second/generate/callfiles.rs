@@ -18,6 +18,7 @@ pub fn all() -> Vec<CallFile> {
     all.extend(numbers());
     all.extend(whole_length());
     all.extend(random_lists());
+    all.extend(raised());
     all
 }
 
@@ -131,12 +132,26 @@ fn filled(length: usize) -> Vec<u8> {
     input
 }
 
+/// Grants for standing pairs: named ones, in a full register, and drawn ones.
+fn raised() -> Vec<CallFile> {
+    let mut files: Vec<CallFile> = Vec::new();
+    files.extend(raises::examples().iter().map(|example| file(example.name, &example.calls())));
+    files.push(file("raises in a full register", &raises::on_full_calls()));
+    let mut random = Random::new(0xF11F);
+    for at in 1..=8 {
+        let calls = lists::list(raises::likely, &mut random, &lists::FILE, 80);
+        files.push(file(&format!("a random list of calls with raises, {at}"), &calls));
+    }
+    files
+}
+
 fn random_lists() -> Vec<CallFile> {
     let mut random = Random::new(0xF11E);
     let mut files = Vec::new();
     for at in 1..=24 {
         let length = if at % 4 == 0 { 400 } else { 80 };
-        files.push(file(&format!("a random list of calls, {at}"), &lists::list(&mut random, &lists::FILE, length)));
+        let calls = lists::list(lists::likely, &mut random, &lists::FILE, length);
+        files.push(file(&format!("a random list of calls, {at}"), &calls));
     }
     files
 }

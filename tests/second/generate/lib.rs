@@ -1,5 +1,5 @@
 //! The cases that every implementation is compared on: block-level ones in
-//! four kinds, lists of calls, and call files.
+//! five kinds, lists of calls, and call files.
 
 pub mod broken;
 pub mod callfiles;
@@ -10,6 +10,7 @@ pub mod limits;
 pub mod listfiles;
 pub mod lists;
 pub mod malformed;
+pub mod raises;
 pub mod refusals;
 pub mod rounds;
 pub mod slow;
@@ -35,7 +36,7 @@ pub struct Kind {
     pub calls: &'static [Call],
 }
 
-pub const KINDS: [Kind; 4] = [
+pub const KINDS: [Kind; 5] = [
     Kind {
         name: "base",
         added: &[Call::Open, Call::Enrol, Call::Use],
@@ -52,12 +53,15 @@ pub const KINDS: [Kind; 4] = [
         calls: &second::refusal::CALLS,
     },
     Kind { name: "table", added: &tables::CALLS, calls: &tables::CALLS },
+    Kind { name: "raise", added: &[], calls: &second::refusal::CALLS },
 ];
 
 /// All cases of a kind, in a fixed order.
 pub fn cases(kind: &Kind) -> Vec<Case> {
-    if kind.name == "table" {
-        return tables::cases();
+    match kind.name {
+        "table" => return tables::cases(),
+        "raise" => return raises::cases(),
+        _ => {}
     }
     let mut cases = Vec::new();
     cases.extend(examples::cases(kind));

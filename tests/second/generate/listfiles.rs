@@ -18,8 +18,10 @@ pub fn all() -> Vec<List> {
     all.extend(parts_of_calls());
     all.extend(wrong_lengths());
     all.extend(no_calls());
-    all.extend(random_lists());
+    all.extend(random_lists(0x4E91, lists::likely));
     all.extend(textlists::all());
+    all.extend(raises::examples().iter().map(|example| list(&example.calls())));
+    all.extend(random_lists(0x4E92, raises::likely));
     all
 }
 
@@ -97,7 +99,8 @@ fn no_calls() -> Vec<List> {
     lists
 }
 
-fn random_lists() -> Vec<List> {
-    let mut random = Random::new(0x4E91);
-    [30, 30, 30, 30, MOST_CALLS].map(|length| list(&lists::list(&mut random, &lists::FILE, length))).to_vec()
+fn random_lists(seed: u64, draw: lists::Draw) -> Vec<List> {
+    let mut random = Random::new(seed);
+    let mut drawn = |length| list(&lists::list(draw, &mut random, &lists::FILE, length));
+    [30, 30, 30, 30, MOST_CALLS].map(|length| drawn(length)).to_vec()
 }

@@ -35,7 +35,7 @@ pub fn cases(kind: &Kind) -> Vec<Case> {
     for _ in 0..lists {
         let block = any_bytes(&mut random);
         cases.push(on(&block, open()));
-        cases.extend(list(&mut random, calls, length).into_iter().map(next));
+        cases.extend(list(likely, &mut random, calls, length).into_iter().map(next));
     }
     cases
 }
@@ -50,24 +50,27 @@ fn any_bytes(random: &mut Random) -> Vec<u8> {
     block
 }
 
+/// Draws a call on a register under a table.
+pub type Draw = fn(&mut Random, Call, &Table, &Register) -> Passed;
+
 /// A list of calls from a fresh register.
-pub fn list(random: &mut Random, calls: &[Call], length: usize) -> Vec<Passed> {
+pub fn list(draw: Draw, random: &mut Random, calls: &[Call], length: usize) -> Vec<Passed> {
     let mut block = encode(&Register::fresh());
     let mut list = Vec::new();
     let subjects = random.range(2, 7);
     while list.len() < length {
         let call = if list.len() < subjects as usize { Call::Enrol } else { random.pick(calls) };
-        list.push(drawn(random, call, b"", &mut block));
+        list.push(drawn(draw, random, call, b"", &mut block));
     }
     list
 }
 
-/// A plausible call under the table of a text, or ours; the block is left as the
-/// call leaves it.
-pub fn drawn(random: &mut Random, call: Call, text: &[u8], block: &mut [u8]) -> Passed {
+/// A call drawn under the table of a text, or ours; the block is left as the call
+/// leaves it.
+pub fn drawn(draw: Draw, random: &mut Random, call: Call, text: &[u8], block: &mut [u8]) -> Passed {
     let table = Table::read(text).unwrap_or(OURS);
     let register = decode(block).unwrap_or(Register::fresh());
-    let n = likely(random, call, &table, &register);
+    let n = draw(random, call, &table, &register);
     answer_table(&FAST, &n, text, block);
     n
 }

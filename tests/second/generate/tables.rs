@@ -118,6 +118,7 @@ fn passing() -> Vec<Case> {
         cases.extend(lent(&table.text(), on_ways()));
         cases.extend(lent(&table.text(), on_path()));
         cases.extend(lent(&table.text(), on_cycle()));
+        cases.extend(lent(&table.text(), raises::under(&table)));
     }
     cases
 }
@@ -203,7 +204,7 @@ const DRAWN: [Call; 9] = [
 fn drawn(random: &mut Random, text: &[u8], block: &mut Vec<u8>) -> Case {
     let before = block.clone();
     let call = random.pick(&DRAWN);
-    let n = lists::drawn(random, call, text, block);
+    let n = lists::drawn(lists::likely, random, call, text, block);
     Case { text: Some(text.to_vec()), ..on(&before, n) }
 }
 

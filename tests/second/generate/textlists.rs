@@ -22,7 +22,9 @@ pub fn all() -> Vec<List> {
     all.extend(wrong_lengths());
     all.push(longest_texts());
     all.extend(outside(b"", &[(0, 1), (1, 0), (1, MOST), (MOST, MOST)]));
-    all.extend(random_lists());
+    all.extend(random_lists(0x4E97, lists::likely));
+    all.push(raised());
+    all.extend(random_lists(0x4E98, raises::likely));
     all
 }
 
@@ -63,6 +65,22 @@ pub fn example() -> List {
     calls.push((grant_of(&tables::EXAMPLE[3]), two));
     calls.push((tables::EXAMPLE_CUT, two));
     calls.extend([(reach(2, 3), two), (reach(2, 3), (0, 0)), (use_right(3), two)]);
+    under(&texts(), &calls)
+}
+
+/// A standing pair granted again under each of the four texts and under ours, which
+/// alone allows it; then the owner's, and the first once more under two texts.
+pub fn raised() -> List {
+    let ours = (0, 0);
+    let mut places = places(&four());
+    let (two, level) = (places[0], places[3]);
+    places.push(ours);
+    let mut calls: Vec<(Passed, Place)> = (0..3).map(|_| (enrol(0), ours)).collect();
+    calls.extend([(grant(0, 1, 9, 0, 0), two), (grant(1, 2, 5, 0, 0), level), (grant(1, 2, 0, 0, 0), level)]);
+    calls.extend(places.into_iter().map(|place| (grant(1, 2, 8, 0, 0), place)));
+    calls.extend([two, ours].map(|place| (grant(0, 1, 255, 0, 0), place)));
+    calls.extend([level, two].map(|place| (grant(1, 2, 255, 0, 0), place)));
+    calls.push((downgrade(0, 0, 1, 9), two));
     under(&texts(), &calls)
 }
 
@@ -159,26 +177,26 @@ fn wrong_lengths() -> Vec<List> {
 }
 
 /// Lists in which the table changes from call to call.
-fn random_lists() -> Vec<List> {
-    let mut random = Random::new(0x4E97);
+fn random_lists(seed: u64, draw: lists::Draw) -> Vec<List> {
+    let mut random = Random::new(seed);
     let mut lists = Vec::new();
     for _ in 0..2 {
         let [malformed, _] = texts::refused_at_the_end();
         let mut texts: Vec<Vec<u8>> = (0..3).map(|_| random_table(&mut random).text()).collect();
         texts.extend([malformed, Vec::new()]);
-        lists.extend([30, 30, 60].map(|length| drawn(&mut random, &texts, length)));
+        lists.extend([30, 30, 60].map(|length| drawn(&mut random, draw, &texts, length)));
     }
     lists
 }
 
-fn drawn(random: &mut Random, texts: &[Vec<u8>], length: usize) -> List {
+fn drawn(random: &mut Random, draw: lists::Draw, texts: &[Vec<u8>], length: usize) -> List {
     let places = places(texts);
     let mut block = encode(&Register::fresh());
     let mut calls = Vec::new();
     while calls.len() < length {
         let at = random.below(texts.len() as u32) as usize;
         let call = if calls.len() < 5 { Call::Enrol } else { random.pick(&lists::FILE) };
-        calls.push((lists::drawn(random, call, &texts[at], &mut block), places[at]));
+        calls.push((lists::drawn(draw, random, call, &texts[at], &mut block), places[at]));
     }
     under(&texts.concat(), &calls)
 }
