@@ -78,7 +78,7 @@ compare: $(compare)
 
 # The comparison with a fault put in on purpose, once for each: it must find them all.
 self-test: $(compare)
-	$(compare) self-test $(SEED) 2000
+	$(compare) self-test $(SEED) 5000
 
 $(compare): $(wildcard tests/compare/*.rs) $(readers) $(second) $(archive)
 	@mkdir -p $(@D)

@@ -40,6 +40,8 @@ fn rows() -> Vec<Row> {
     let block = encode(&full);
     let mut before_last = full.clone();
     let last = before_last.delegations.pop().expect("256 delegations");
+    let mut lighter = full.clone();
+    lighter.delegations[MOST_DELEGATIONS - 1].weight = 254;
     let deep = deep_block();
     let small = encode(&eight());
     vec![
@@ -47,6 +49,7 @@ fn rows() -> Vec<Row> {
         row("use, full register", &block, passed(Call::Use, 0, 0, 63, 0), 0),
         row("reach, full register", &block, passed(Call::Reach, 0, 63, 62, 0), 0),
         row("grant of the 256th delegation", &encode(&before_last), grant_of(&last), 0),
+        row("raise in a full register", &encode(&lighter), grant_of(&last), 0),
         row("revoke, full register, one round", &block, revoke_of(&last), 1),
         row("  the same, all marks equal", &encode(&equal_marks(full)), revoke_of(&last), 1),
         row("  all limits distinct, one round", &encode(&descending()), passed(Call::Revoke, 0, 0, 5, 0), 1),

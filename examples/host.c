@@ -1,6 +1,6 @@
 /* A host of the seat register: a maker passes a right to two distributors, both pass it to a dealer,
  * the dealer to a firm. Then one distributor is cut off, and the dealer keeps what the other gives.
- * After each cut the host says which delegations fell or were lowered. */
+ * After each cut the host says which delegations fell or were lowered. At last the dealer is raised. */
 #include <inttypes.h>
 #include <stdio.h>
 #include <stdlib.h>
@@ -126,5 +126,11 @@ int main(void)
     print_cut();
     may_use(DEALER);
     may_use(FIRM);
+
+    /* A raise: the pair and the condition that stand, and more weight. Nothing else changes, so what
+     * the firm had doesn't come back by itself; but the dealer can pass the right on again. */
+    grant(SOUTH, DEALER, 2, 0);
+    may_use(FIRM);
+    reach(DEALER, FIRM);
     return EXIT_SUCCESS;
 }

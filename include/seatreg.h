@@ -4,7 +4,8 @@
  * enrolled and numbered from 1. A delegation has a giver, a receiver and a weight: how many further
  * steps the right may travel from the receiver. It may have a condition on marks. When a delegation
  * is cut, all that can still stand on another chain from the owner stays, as heavy as it can.
- * What every call does is defined in docs/01-scope.md; here is what a host needs.
+ * What every call does is defined in docs/01-scope.md and docs/02-change-requests.md; here is what a
+ * host needs.
  *
  * THE BLOCK. A register is 2,180 bytes that the host owns. There is nothing else: no state between
  * calls, no allocation, no file, no clock. The bytes mean the same on every machine, so a block may
@@ -63,8 +64,8 @@
 /* The version of this header and of the archive that comes with it, as text and as a number: 10,000
  * times the first part, plus 100 times the second, plus the third. README.md, 'Versions', says which
  * changes raise which part. */
-#define SEATREG_VERSION "1.1.0"
-#define SEATREG_VERSION_NUMBER 10100
+#define SEATREG_VERSION "1.2.0"
+#define SEATREG_VERSION_NUMBER 10200
 
 /* Where the compiler has such attributes, it warns of a host that doesn't look at what a call
  * returns, and of a pointer that it can see to be null. */
@@ -137,8 +138,8 @@ static inline const char *seatreg_refusal_text(uint32_t refusal)
         "the block is not well formed",
         "a named subject, by included, isn't enrolled",
         "64 subjects are enrolled",
-        "a delegation for this pair stands already",
-        "256 delegations stand",
+        "a delegation for this pair stands, and this is no raise",
+        "256 delegations stand and the pair is not among them",
         "no delegation for this pair stands",
         "by is neither the giver nor the owner",
         "the new weight isn't below the present one",
@@ -164,15 +165,18 @@ SEATREG_CALL uint32_t seatreg_enrol(uint8_t *block, size_t block_len,
                                     uint32_t marks,
                                     uint8_t *answers, size_t answers_len);
 
-/* Grants: a new delegation. Accepted only where some chain of delegations from the owner to the
- * giver carries the weight, all of whose conditions the receiver meets.
+/* Grants: adds a delegation; raises the weight where the pair stands with the same need and bar and
+ * the weight is larger; the count stays. Accepted only where some chain of delegations from the owner
+ * to the giver carries the weight, all of whose conditions the receiver meets.
  *   giver, receiver: the pair; at most one delegation stands for it.
- *   weight: 0 to 255.
+ *   weight: 0 to 255. A grant never lowers: for a pair that stands, an equal or smaller one gets 11.
  *   need, bar: the condition on receivers further on. The marks must have all of need and none of
- *     bar; 0 and 0 is met by all. It doesn't bind this receiver itself.
+ *     bar; 0 and 0 is met by all. It doesn't bind this receiver itself. A grant for a pair that stands
+ *     with another condition gets 11.
  *   Refusals in order: 1, 2, 3, 4, 5, 6, 8, 9, 11, 12, 16.
  *   Answers: how many delegations stand now, 0, 0.
- *   Block: the delegation is added. */
+ *   Block: the delegation is added, or its weight raised. No other delegation changes: what the
+ *     receiver passed on keeps its weight. */
 SEATREG_CALL uint32_t seatreg_grant(uint8_t *block, size_t block_len,
                                     uint32_t giver, uint32_t receiver, uint32_t weight, uint32_t need, uint32_t bar,
                                     uint8_t *answers, size_t answers_len);
@@ -218,11 +222,12 @@ SEATREG_CALL uint32_t seatreg_downgrade(uint8_t *block, size_t block_len,
  *   table: its text, as THE STEP TABLE says; only read. With table_len 0 it is ours, and the call does
  *     what the one without a table does. */
 
-/* Grants under a table.
+/* Grants under a table: adds a delegation; raises the weight where the pair stands with the same need
+ * and bar and the weight is larger; the count stays.
  *   giver, receiver, weight, need, bar: as for seatreg_grant.
  *   Refusals in order: 1, 2, 3, 4, 5, 6, 7, 17, 8, 9, 11, 12, 16.
  *   Answers: how many delegations stand now, 0, 0.
- *   Block: the delegation is added. */
+ *   Block: as for seatreg_grant. */
 SEATREG_CALL uint32_t seatreg_grant_table(uint8_t *block, size_t block_len,
                                           uint32_t giver, uint32_t receiver, uint32_t weight, uint32_t need, uint32_t bar,
                                           const uint8_t *table, size_t table_len,

@@ -7,7 +7,8 @@ use crate::fault::Fault;
 use crate::lent::Lent;
 use crate::readers::{due, read, Listed};
 use crate::report::{Case, Part, PARTS};
-use second::block::BLOCK_LEN;
+use crate::standing::{Left, Standing};
+use second::block::{encode, BLOCK_LEN};
 use second::engine::FAST;
 use second::host::host_call_table;
 use second::random::Random;
@@ -36,9 +37,13 @@ impl Buffers {
         let lent = bytes.and_then(fault.text);
         self.lend(random, &due_block, lent.unwrap_or_default(), &due_answers);
 
-        let number = self.enter(&(fault.before)(&passed), lent.is_some());
-        (fault.after)(number, self);
         let due = host_call_table(&FAST, &passed, bytes.unwrap_or_default(), &mut due_block, &mut due_answers);
+        let standing = Standing::of(&passed, &text.table, block, due);
+        let number = match standing.as_ref().filter(|standing| (fault.when)(standing)) {
+            Some(standing) => self.leave(&(fault.does)(standing)),
+            None => self.enter(&(fault.before)(&passed), lent.is_some()),
+        };
+        (fault.after)(number, self);
         let listed_right = number != 0 || due != 0 || self.listed_right(fault.listed);
 
         let same = |part: &Part| match part {
@@ -54,7 +59,7 @@ impl Buffers {
         if block_length == BLOCK_LEN {
             *block = due_block;
         }
-        Case { passed, text, block_length, number, due, due_answers, differs }
+        Case { passed, text, block_length, standing, number, due, due_answers, differs }
     }
 
     /// Lends these bytes, each buffer at some alignment and among guard bytes of some value.
@@ -71,6 +76,15 @@ impl Buffers {
             return entry_call_table(n, &mut self.block, &mut self.table, &mut self.answers);
         }
         entry_call(n, &mut self.block, &mut self.answers)
+    }
+
+    /// For the self test: the buffers as a wrong call leaves them, and the number that it returns.
+    fn leave(&mut self, left: &Left) -> u32 {
+        if left.number == 0 {
+            self.block.write(&encode(&left.register));
+            self.answers.write(&[left.answer, 0, 0].map(i32::to_le_bytes).concat());
+        }
+        left.number
     }
 
     /// After an accepted call the readers list what the second implementation decodes.

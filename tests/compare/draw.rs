@@ -7,7 +7,7 @@ use second::callfile::{from_values, used_columns, values_of};
 use second::random::{random_masks, random_register, Random, Shape};
 use second::refusal::{takes_table, Call, Passed};
 use second::search::reach_table;
-use second::table::Table;
+use second::table::{Table, OURS};
 
 /// What the calls of a list are made on.
 #[derive(Clone, Copy, Debug, PartialEq, Eq)]
@@ -50,6 +50,8 @@ pub struct List {
     fills: bool,
     /// Most calls are cuts.
     cuts: bool,
+    /// Most calls are grants for a standing pair.
+    raises: bool,
     conditions: u32,
     tables: Tables,
     /// The register of the last well-formed block.
@@ -63,7 +65,8 @@ impl List {
             0..=12 => List::fresh(random, conditions, (2, 8), (20, 90)),
             13..=17 => List::fresh(random, conditions, (9, 30), (80, 250)),
             18..=19 => List { fills: true, ..List::fresh(random, conditions, (40, 66), (380, 480)) },
-            20..=59 => List { left: random.range(2, 10), ..List::on_register(random, conditions, Kind::Formed) },
+            20..=54 => List { left: random.range(2, 10), ..List::on_register(random, conditions, Kind::Formed) },
+            55..=59 => List { left: random.range(10, 20), raises: true, ..List::on_full(random, conditions) },
             60..=79 => List { left: random.range(2, 10), cuts: true, ..List::on_dense(random) },
             80..=96 => List { left: random.range(10, 40), ..List::on_register(random, conditions, Kind::Spoiled) },
             _ => List { kind: Kind::Noise, opens: false, ..List::fresh(random, conditions, (0, 0), (5, 20)) },
@@ -79,6 +82,7 @@ impl List {
             left: random.range(calls.0, calls.1),
             fills: false,
             cuts: false,
+            raises: false,
             conditions,
             tables: Tables::draw(random),
             register: Register::fresh(),
@@ -98,9 +102,25 @@ impl List {
         List::on_shape(random, Kind::Formed, &shape)
     }
 
+    /// On a well-formed register in which 256 delegations stand.
+    fn on_full(random: &mut Random, conditions: u32) -> List {
+        let (subjects, weights) = (random.pick(&[24, 40, 64]), random.pick(&[&WEIGHTS[..], &HEAVY]));
+        let shape = Shape { subjects, delegations: 1000, weights, marks: MARKS, conditions };
+        let mut register = random_register(random, &shape);
+        while register.delegations.len() > MOST_DELEGATIONS {
+            let at = random.below(register.delegations.len() as u32);
+            register.delegations.remove(at as usize);
+        }
+        List::on_drawn(random, Kind::Formed, register, conditions)
+    }
+
     fn on_shape(random: &mut Random, kind: Kind, shape: &Shape) -> List {
         let register = random_register(random, shape);
-        let list = List::fresh(random, shape.conditions, (0, 0), (1, 1));
+        List::on_drawn(random, kind, register, shape.conditions)
+    }
+
+    fn on_drawn(random: &mut Random, kind: Kind, register: Register, conditions: u32) -> List {
+        let list = List::fresh(random, conditions, (0, 0), (1, 1));
         List { kind, first: encode(&register), opens: false, register, ..list }
     }
 
@@ -126,7 +146,10 @@ impl List {
         }
         let call = self.call(random);
         let text = if takes_table(call) { self.tables.next(random) } else { Text::without() };
-        let n = plausible(random, call, &self.register, self.conditions, &text.table);
+        let n = match call {
+            Call::Grant if self.names_standing(random) => standing_grant(random, &self.register, &text.table),
+            _ => plausible(random, call, &self.register, self.conditions, &text.table),
+        };
         let passed = if random.chance(5) { with_odd_number(random, &n) } else { n };
         Some(Drawn { passed, text })
     }
@@ -137,12 +160,14 @@ impl List {
             return Call::Enrol;
         }
         self.left -= 1;
-        let filling = self.fills && self.register.delegations.len() < MOST_DELEGATIONS;
-        if filling && random.chance(98) {
+        if self.is_filling() && random.chance(98) {
             return Call::Grant;
         }
         if self.cuts && random.chance(70) {
             return random.pick(&[Call::Revoke, Call::Downgrade]);
+        }
+        if self.raises && random.chance(70) {
+            return Call::Grant;
         }
         match random.below(200) {
             0..=79 => Call::Grant,
@@ -153,6 +178,20 @@ impl List {
             186..=198 => Call::Enrol,
             _ => Call::Open,
         }
+    }
+
+    fn is_filling(&self) -> bool {
+        self.fills && self.register.delegations.len() < MOST_DELEGATIONS
+    }
+
+    /// Whether a grant is for a pair that stands.
+    fn names_standing(&self, random: &mut Random) -> bool {
+        let of_100 = match (self.raises, self.is_filling()) {
+            (true, _) => 90,
+            (_, true) => 5,
+            _ => 25,
+        };
+        !self.register.delegations.is_empty() && random.chance(of_100)
     }
 }
 
@@ -272,6 +311,44 @@ fn grant_weight(random: &mut Random, reach: u32) -> u32 {
         4 => reach / 2,
         5 => reach.min(random.below(12)),
         _ => reach,
+    }
+}
+
+/// A grant for a pair that stands: many are raises, the others differ from one by little.
+fn standing_grant(random: &mut Random, register: &Register, table: &Table) -> Passed {
+    let standing = random.pick(&register.delegations);
+    let (giver, receiver) = (standing.giver as u32, standing.receiver as u32);
+    let reach = |table: &Table| reach_table(table, register, giver, receiver).max(0) as u32;
+    let weight = match random.below(10) {
+        0 => reach(&OURS),
+        _ => raised_weight(random, standing.weight as u32, reach(table)),
+    };
+    let (need, bar) = near_condition(random, standing.need as u32, standing.bar as u32);
+    Passed { giver, receiver, weight, need, bar, ..blank(Call::Grant) }
+}
+
+/// Most are above what stands, and within the reach where there is room for that.
+fn raised_weight(random: &mut Random, present: u32, reach: u32) -> u32 {
+    let weight = match random.below(10) {
+        0 => present,
+        1 => random.below(present + 1),
+        2 => random.below(256),
+        3 => present + 1,
+        4 | 5 => reach.max(present) + 1,
+        6 | 7 => reach,
+        _ => random.range(present + 1, reach.max(present + 1)),
+    };
+    weight.min(255)
+}
+
+/// Most often the condition that stands, else with another need, another bar, or the two exchanged.
+fn near_condition(random: &mut Random, need: u32, bar: u32) -> (u32, u32) {
+    let mark = random.pick(&[1, 2, 4, 0x8000]);
+    match random.below(12) {
+        0 => ((need ^ mark) & !bar, bar),
+        1 => (need, (bar ^ mark) & !need),
+        2 => (bar, need),
+        _ => (need, bar),
     }
 }
 

@@ -4,6 +4,7 @@
 use crate::buffers::Buffers;
 use crate::readers::{Delegation, Listed};
 use crate::report::{Part, Report};
+use crate::standing::{Left, Standing};
 use second::refusal::Passed;
 use std::mem::swap;
 
@@ -13,12 +14,15 @@ pub struct Fault {
     pub before: fn(&Passed) -> Passed,
     /// What is lent in place of a table's text; nothing calls the entry point that takes none.
     pub text: fn(&[u8]) -> Option<&[u8]>,
+    /// For which grants for a standing pair the entry point is not called, and what these do.
+    pub when: fn(&Standing) -> bool,
+    pub does: fn(&Standing) -> Left,
     /// What happens to the lent buffers after a call that returned a number.
     pub after: fn(u32, &mut Buffers),
     /// What happens to what the header's readers gave.
     pub listed: fn(&mut Listed),
     /// The parts in which differences are due; no other part has any.
-    parts: &'static [Part],
+    pub parts: &'static [Part],
 }
 
 /// A fault that changes nothing, for those that differ from it.
@@ -26,6 +30,8 @@ pub const NONE: Fault = Fault {
     name: "none",
     before: |n| *n,
     text: |text| Some(text),
+    when: |_| false,
+    does: Standing::raised,
     after: |_, _| (),
     listed: |_| (),
     parts: &[],

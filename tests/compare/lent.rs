@@ -49,6 +49,11 @@ impl Lent {
         before.iter().chain(&rest[self.length..]).all(|&byte| byte == self.guard)
     }
 
+    /// For the self test: writes these bytes in place of the content, which is as long.
+    pub fn write(&mut self, content: &[u8]) {
+        self.bytes[self.start..self.start + self.length].copy_from_slice(content);
+    }
+
     /// For the self test: changes the first guard byte after the content.
     pub fn break_guard(&mut self) {
         self.bytes[self.start + self.length] ^= 1;

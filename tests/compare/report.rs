@@ -2,6 +2,7 @@
 
 use crate::draw::{Kind, KINDS};
 use crate::entry::{Entry, ENTRIES};
+use crate::standing::{Standing, NUMBERS};
 use crate::tables::{Text, TextKind, TEXT_KINDS};
 use second::block::BLOCK_LEN;
 use second::host::ANSWERS_LEN;
@@ -29,6 +30,8 @@ pub struct Case {
     pub passed: Passed,
     pub text: Text,
     pub block_length: usize,
+    /// Of a grant for a standing pair.
+    pub standing: Option<Standing>,
     /// What the entry point returned, and what the second implementation did.
     pub number: u32,
     pub due: u32,
@@ -48,6 +51,7 @@ pub struct Report {
     of_text: [u64; TEXT_KINDS.len()],
     /// Under our table, and under others.
     cuts: [Cuts; 2],
+    standing: [StandingGrants; 2],
     /// How often an entry point, by its place in `ENTRIES`, returned a number.
     returned: BTreeMap<(usize, u32), u64>,
     shows: bool,
@@ -74,6 +78,40 @@ impl Cuts {
     }
 }
 
+/// What the grants for a standing pair returned, each of `NUMBERS` so often.
+#[derive(Clone, Copy, Default)]
+struct StandingGrants {
+    returned: [u64; NUMBERS.len()],
+    /// Of these, in a full register.
+    full: [u64; NUMBERS.len()],
+}
+
+impl StandingGrants {
+    fn add(&mut self, standing: &Standing, due: u32) {
+        if let Some(place) = NUMBERS.iter().position(|&number| number == due) {
+            self.returned[place] += 1;
+            self.full[place] += standing.is_full() as u64;
+        }
+    }
+
+    /// The numbers that were not returned, each with where.
+    fn missing(&self) -> Vec<(u32, &'static str)> {
+        let mut missing = Vec::new();
+        for (place, &number) in NUMBERS.iter().enumerate() {
+            if self.returned[place] == 0 {
+                missing.push((number, "any register"));
+            }
+            if self.full[place] == 0 {
+                missing.push((number, "a full register"));
+            }
+        }
+        missing
+    }
+}
+
+/// The tables by which cuts and grants for a standing pair are counted.
+const TABLES: [&str; 2] = ["our table", "others"];
+
 impl Report {
     /// An empty one; `shows` prints the first differences as they are added.
     pub fn new(shows: bool) -> Report {
@@ -86,6 +124,7 @@ impl Report {
             answers_lengths: 0,
             of_text: [0; TEXT_KINDS.len()],
             cuts: [Cuts::default(); 2],
+            standing: [StandingGrants::default(); 2],
             returned: BTreeMap::new(),
             shows,
         }
@@ -102,8 +141,12 @@ impl Report {
         if let Some(place) = ENTRIES.iter().position(|&other| other == entry) {
             *self.returned.entry((place, case.due)).or_insert(0) += 1;
         }
+        let table = (text == TextKind::Other) as usize;
         if matches!(call, Call::Revoke | Call::Downgrade) && case.due == 0 {
-            self.cuts[(text == TextKind::Other) as usize].add(&case.due_answers);
+            self.cuts[table].add(&case.due_answers);
+        }
+        if let Some(standing) = &case.standing {
+            self.standing[table].add(standing, case.due);
         }
         if case.differs.is_empty() {
             return;
@@ -144,7 +187,12 @@ impl Report {
         let [without, empty, ours, other, broken, malformed] = self.of_text;
         println!("tables: {without} without a text, {empty} empty, {ours} ours, {other} others that pass");
         println!("        {broken} that break a rule, {malformed} of another form");
-        for (table, cuts) in ["our table", "others"].iter().zip(self.cuts) {
+        for (table, grants) in TABLES.iter().zip(self.standing) {
+            let texts = |[a, b, c]: [u64; 3]| format!("{a} accepted, {b} with 11, {c} with 16");
+            println!("grants for a standing pair under {table}: {}", texts(grants.returned));
+            println!("        in a full register: {}", texts(grants.full));
+        }
+        for (table, cuts) in TABLES.iter().zip(self.cuts) {
             let Cuts { dropped, lowered, rounds, most } = cuts;
             let counts = format!("{dropped} dropped, {lowered} lowered, {rounds} had 3 rounds or more, {most} the most");
             println!("cuts under {table}: {counts}");
@@ -157,14 +205,18 @@ impl Report {
         println!("compare: {} cases, {} differences, seed {seed}", self.cases, self.different);
     }
 
-    /// The numbers that a call can return and did not.
-    fn missing(&self) -> Vec<String> {
+    /// The numbers that a call can return and did not; of grants for a standing pair also by table and register.
+    pub fn missing(&self) -> Vec<String> {
         let mut missing = Vec::new();
         for (place, &entry) in ENTRIES.iter().enumerate() {
             let mut numbers = refusals(entry);
             numbers.push(0);
             numbers.retain(|&number| !self.returned.contains_key(&(place, number)));
             missing.extend(numbers.iter().map(|number| format!("{} {number}", name(entry))));
+        }
+        for (table, grants) in TABLES.iter().zip(self.standing) {
+            let absent = grants.missing().into_iter();
+            missing.extend(absent.map(|(number, place)| format!("{number} for a standing pair, {table}, {place}")));
         }
         missing
     }

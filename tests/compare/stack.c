@@ -95,6 +95,13 @@ static void build_before_last_grant(void)
     build(SEATREG_MOST_SUBJECTS, SEATREG_MOST_DELEGATIONS - 1);
 }
 
+/* The last delegation stands, with the least weight. */
+static void build_before_raise(void)
+{
+    build_before_last_grant();
+    grant(4, 8, SEATREG_USE_ONLY, 0, 0);
+}
+
 /* The register of the deepest cut, as tests/second/generate/rounds.rs explains it: 256 delegations
  * among subjects 0 to 23. A walk of 230 links goes from side to side. */
 enum { SIDE = 11, LINKS = 230, END = 23, BACK = 2 };
@@ -171,6 +178,7 @@ static const struct row rows[] = {
     {"open", build_full, open_anew, 0, 0},
     {"enrol, the 64th subject", build_before_last_subject, enrol_last, 0, 0},
     {"grant, the 256th delegation", build_before_last_grant, grant_last, 0, 0},
+    {"grant, a raise, full register", build_before_raise, grant_last, 0, 0},
     {"reach, full register", build_full, reach_last, 0, 0},
     {"use, full register", build_full, use_last, 0, 0},
     {"revoke, full register", build_full, revoke_first, 1, 0},
@@ -178,6 +186,7 @@ static const struct row rows[] = {
     {"downgrade, full register", build_full, downgrade_first, 1, 0},
     {"downgrade, 485 rounds", build_deep, downgrade_deep, 485, 0},
     {"grant with a table", build_before_last_grant, grant_last_table, 0, 0},
+    {"  a raise, full register", build_before_raise, grant_last_table, 0, 0},
     {"  refused with 7", build_before_last_grant, grant_last_table, 0, SEATREG_MALFORMED},
     {"reach with a table", build_full, reach_last_table, 0, 0},
     {"  refused with 7", build_full, reach_last_table, 0, SEATREG_MALFORMED},
