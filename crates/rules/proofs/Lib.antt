@@ -23,3 +23,4 @@ pub mod Search
 pub mod Links
 pub mod Answers
 pub mod BadOutcomes
+pub mod BadGrants

@@ -6,12 +6,13 @@ use mathlib.Core.List.{List, [], _∷_, _++_}
 use Prim.Native.Nat.{ℕ}
 use native.Mathlib.Omega.{arith}
 use borrow.Author.Tests.{eq-eqb, ne-eqb}
-use lib.Dec.{T, ltb, eqb, ltb→lt}
+use lib.Dec.{T, ltb, eqb, ltb→lt, T-not}
 use lib.IntN.{ℤ}
+use Rattle.rules.specs.List.{any}
 use Rattle.rules.specs.Register.{Register}
 use Rattle.rules.specs.Call.{Call, enrol, grant, revoke, downgrade, askReach, askUse}
 use Rattle.rules.specs.Refusal.{firstOf, passed, held, refusalOf}
-use Rattle.rules.proofs.Lists.{T-left, T-right, eqOr}
+use Rattle.rules.proofs.Lists.{T-left, T-right, T-both, yes, eq→eqb, not-or-left, not-or-right, eqOr}
 
 -- the test that has the number n, the first of them if there are several; false if there is none
 abbrev pub testOf : ℕ → List (ℕ × Bool) → Bool
@@ -52,6 +53,18 @@ firstOf-left ps qs h e = go (eqOr (firstOf ps) 0)
     go : (firstOf ps ≡ 0) ⊎ (firstOf ps ≢ 0) → firstOf ps ≡ 0
     go (inl z) = z
     go (inr k) = sym (firstOf-some ps qs (firstOf ps) h refl k) ∙ e
+
+-- a test with this number applies
+abbrev pub applies : ℕ → List (ℕ × Bool) → Bool
+applies n ps = any (λ p. eqb (p .0) n && p .1) ps
+
+pub firstOf-other : (ps : List (ℕ × Bool)) (n : ℕ) → T (not (applies n ps)) → n ≢ 0 → firstOf ps ≢ n
+firstOf-other [] n h k e = k (sym e)
+firstOf-other (p ∷ ps) n h k e = go (p .1) refl (firstOf-other ps n (not-or-right (eqb (p .0) n && p .1) (applies n ps) h) k) e
+  where
+    go : (b : Bool) → p .1 ≡ b → firstOf ps ≢ n → cond b (p .0) (firstOf ps) ≢ n
+    go true q ih x = T-not (eqb (p .0) n && p .1) (not-or-left (eqb (p .0) n && p .1) (applies n ps) h) (T-both (eqb (p .0) n) (p .1) (eq→eqb x) (yes q))
+    go false q ih x = ih x
 
 pub passes-of : (ps : List (ℕ × Bool)) → T (numbered ps) → firstOf ps ≡ 0 → Passes ps
 passes-of [] h e n = tt

@@ -1,4 +1,4 @@
--- P1 to P8 of document 01 ('Register examples'), as lists of calls with what document 01 says comes out; and a list in which the step table changes from call to call. Assumes nothing.
+-- P1 to P8 of document 01 ('Register examples'), as lists of calls with what document 01 says comes out; one of document 02's C-12; and a list in which the step table changes from call to call. Assumes nothing.
 use mathlib.Core.Bool.{cond}
 use mathlib.Core.List.{List, [], _∷_, _++_, map}
 use Prim.Native.Nat.{ℕ, zero, suc}
@@ -127,8 +127,17 @@ P8 = record {
   standing = entry 0 1 254 ∷ entry 1 2 253 ∷ [];
 }
 
+-- document 02, C-12: a dealer earns more depth, and nobody is revoked; each grant above the reach is refused with 16, each that is no raise with 11; a cut takes a raise back
+abbrev pub raising : Example
+raising = record {
+  given = enrol 0 ∷ enrol 0 ∷ enrol 0 ∷ plain 0 1 5 ∷ plain 1 2 4 ∷ plain 2 3 2 ∷ [];
+  calls = plain 2 3 3 ∷ plain 1 2 5 ∷ plain 1 2 4 ∷ plain 1 2 3 ∷ grant (needing 2 3 4 1) ∷ plain 0 1 9 ∷ plain 1 2 8 ∷ downgrade 0 0 1 4 ∷ [];
+  printed = one (pos 3) ∷ line 16 (pos 0) (pos 0) (pos 0) ∷ line 11 (pos 0) (pos 0) (pos 0) ∷ line 11 (pos 0) (pos 0) (pos 0) ∷ line 11 (pos 0) (pos 0) (pos 0) ∷ one (pos 3) ∷ one (pos 3) ∷ line 0 (pos 0) (pos 2) (pos 2) ∷ [];
+  standing = entry 0 1 4 ∷ entry 1 2 3 ∷ entry 2 3 2 ∷ [];
+}
+
 abbrev pub examples : List Example
-examples = P1 ∷ P2 ∷ P3-with ∷ P3-without ∷ P4 ∷ P5 ∷ P6 ∷ P7 ∷ P8 ∷ []
+examples = P1 ∷ P2 ∷ P3-with ∷ P3-without ∷ P4 ∷ P5 ∷ P6 ∷ P7 ∷ P8 ∷ raising ∷ []
 
 -- ── several refusals at once: the first in the order of the call's lists is returned ──
 
