@@ -63,7 +63,7 @@ module _ (b : List ℕ) (bytes : IsBytes b) (formed : wellFormed b ≡ true) whe
         let l = found-stands b bytes formed g r j e s in (
           j,
           place ∙ ap (leading (λ d. not (before (granted g r 0 0 0) d))) (sym (delegations-held b bytes formed))
-          ∙ pair-past g r (granted g r 0 0 0) (refl, refl) ds (held-formed b bytes formed .rising) (place-inside b bytes formed g r j e l),
+              ∙ pair-past g r (granted g r 0 0 0) (refl, refl) ds (held-formed b bytes formed .rising) (place-inside b bytes formed g r j e l),
           pair-held b bytes formed g r j e l,
         )
 
