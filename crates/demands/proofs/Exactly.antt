@@ -1,12 +1,12 @@
 -- Demand 2, as theorems about the calls on bytes. Assumes nothing.
 use mathlib.Core.Path.{_≡_, sym, ap, subst, _∙_}
-use mathlib.Core.Logic.{_⊎_, inl, inr}
-use mathlib.Core.Bool.{Bool, false, not, _&&_}
+use mathlib.Core.Logic.{_≢_, _⊎_, inl, inr}
+use mathlib.Core.Bool.{Bool, true, false, not, _&&_}
 use mathlib.Core.List.{List, [], _∷_, _++_}
 use Prim.Native.Nat.{ℕ, suc}
 use native.Mathlib.Omega.{arith}
 use borrow.Author.Tests.{le-ltb}
-use lib.Dec.{T, ltb, nltb→le}
+use lib.Dec.{T, ltb, nltb→le, not-T}
 use lib.IntN.{ℤ, pos}
 use Rattle.rules.specs.List.{_∈_}
 use Rattle.rules.specs.Limit.{none, code, _≼_}
@@ -14,14 +14,14 @@ use Rattle.rules.specs.Table.{TableRule}
 use Rattle.rules.specs.Register.{Delegation, Register}
 use Rattle.rules.specs.Chain.{limit, IsChain}
 use Rattle.rules.specs.Reach.{IsReach, reach}
-use Rattle.rules.specs.Support.{allowed}
-use Rattle.rules.specs.Pair.{isPair, raises}
+use Rattle.rules.specs.Support.{allowed, Carried}
+use Rattle.rules.specs.Pair.{isPair, stands, raises}
 use Rattle.rules.specs.Call.{grant, askReach}
 use Rattle.rules.specs.Refusal.{firstOf, held, notEnrolled, pairStands, allStand, overweight}
 use Rattle.rules.specs.CallStep.{accepted}
-use Rattle.rules.specs.Granted.{GrantedIn}
+use Rattle.rules.specs.Granted.{GrantedIn, Raises}
 use Rattle.rules.proofs.Table.{steps-rule}
-use Rattle.rules.proofs.Lists.{T-true, not-or-left, not-not}
+use Rattle.rules.proofs.Lists.{either, T-true, unset, not-or-left, not-not}
 use Rattle.rules.proofs.Refusals.{firstOf-left, firstOf-none, passes-of}
 use Rattle.rules.proofs.Reach.{reach-is, reach-only}
 use Rattle.rules.proofs.Support.{allowed-carried, carried-allowed}
@@ -30,14 +30,15 @@ use Rattle.rules.proofs.Granting.{one-raised, raising, grant-leaves}
 use Rattle.rules.proofs.Calls.{accepted-refusal}
 use Rattle.block.specs.Bytes.{IsBytes}
 use Rattle.block.specs.Block.{decode}
+use Rattle.block.specs.WellFormed.{wellFormed}
 use Rattle.block.proofs.Held.{held-formed}
 use Rattle.steptable.specs.TableText.{ours, given}
 use Rattle.steptable.specs.declared.Given.{Given}
 use Rattle.steptable.proofs.Right.{given-keeps}
 use Rattle.register.specs.CallOn.{Result, callOn}
-use Rattle.demands.specs.Exactly.{Grantable, GrantExactly, Raisable, RaiseExactly, GrantKeeps, RaiseByte, ReachAnswer, ReachExactly}
-use Rattle.refusals.proofs.EarlyTests.{early-none, none-early}
-use Rattle.register.proofs.Made.{callOn-accepted}
+use Rattle.demands.specs.Exactly.{Grantable, GrantExactly, Before11, Raisable, RaiseAnswer, RaiseExactly, GrantKeeps, RaiseByte, ReachAnswer, ReachExactly}
+use Rattle.refusals.proofs.EarlyTests.{early-none, none-early, refused-held}
+use Rattle.register.proofs.Made.{callOn-accepted, made-refused}
 use Rattle.register.proofs.GrantWays.{grant-register, raise-left}
 use Rattle.register.proofs.Through.{accepted-through}
 
@@ -71,29 +72,64 @@ module _ (g : Given) (rule : TableRule (g .steps)) (b : List ℕ) (d : Delegatio
   pub grant-exactly : GrantExactly g b d
   grant-exactly = record { only = grant-only; whenever = grant-whenever }
 
-  -- ── a pair that stands ──
-  module _ (bytes : IsBytes b) where
-    raise-only : (e : Delegation) → e ∈ decode b .delegations → T (isPair (d .giver) (d .receiver) e) → callOn g b (grant d) .refusal ≡ 0 → Raisable g b d e
-    raise-only e m p z =
+  -- refused by what the register holds
+  refused-with : Before11 g b d → (n : ℕ) → firstOf (held (g .steps) (decode b) (grant d)) ≡ n → n ≢ 0 → callOn g b (grant d) .refusal ≡ n
+  refused-with k n e z =
+      let h = early-none (g .refusal) b (grant d) (k .early) in
+      sym (ap (λ (r : Result). r .refusal) (made-refused g (grant d) b n (sym (refused-held g b (grant d) h ∙ e)) z))
+
+  -- ── e stands for the pair ──
+  module _ (bytes : IsBytes b) (e : Delegation) (m : e ∈ decode b .delegations) (p : T (isPair (d .giver) (d .receiver) e)) where
+    abbrev enrolled : List (ℕ × Bool)
+    enrolled = notEnrolled (decode b) (d .giver ∷ d .receiver ∷ []) ∷ []
+
+    pair : stands (decode b) (d .giver) (d .receiver) ≡ true
+    pair = pair-stands (decode b) (d .giver) (d .receiver) e m (test-pair (d .giver) (d .receiver) e p)
+
+    -- what d raises is e
+    raise-one : wellFormed b ≡ true → T (raises (decode b) d) → Raises d e
+    raise-one formed h = one-raised (decode b) (held-formed b bytes formed .rising) d e m p h
+
+    raise-only : callOn g b (grant d) .refusal ≡ 0 → Raisable g b d e
+    raise-only z =
         let k = grant-only z in
-        let f = held-formed b bytes (accepted-through g b (grant d) z .early .formed) in
-        let s = pair-stands (decode b) (d .giver) (d .receiver) e m (test-pair (d .giver) (d .receiver) e p) in
-        let h = subst (λ (x : Bool). T (not (x && not (raises (decode b) d)))) s (passes-of tests tt (k .held) 11) in
+        let h = subst (λ (x : Bool). T (not (x && not (raises (decode b) d)))) pair (passes-of tests tt (k .held) 11) in
         record {
-          early = k .early;
-          enrolled = firstOf-left (notEnrolled (decode b) (d .giver ∷ d .receiver ∷ []) ∷ []) (pairStands (decode b) d ∷ allStand (decode b) d ∷ []) tt (k .held);
-          raises = one-raised (decode b) (f .rising) d e m p (not-not (raises (decode b) d) h);
+          before = record { early = k .early; enrolled = firstOf-left enrolled (pairStands (decode b) d ∷ allStand (decode b) d ∷ []) tt (k .held) };
+          raises = raise-one (accepted-through g b (grant d) z .early .formed) (not-not (raises (decode b) d) h);
           carried = k .carried;
         }
 
-    raise-whenever : (e : Delegation) → e ∈ decode b .delegations → T (isPair (d .giver) (d .receiver) e) → Raisable g b d e → callOn g b (grant d) .refusal ≡ 0
-    raise-whenever e m p k =
-        let s = pair-stands (decode b) (d .giver) (d .receiver) e m (test-pair (d .giver) (d .receiver) e p) in
-        let r = T-true (raises (decode b) d) (raising (decode b) d e m (k .raises)) in
-        grant-whenever record { early = k .early; held = firstOf-none (notEnrolled (decode b) (d .giver ∷ d .receiver ∷ []) ∷ []) (pairStands (decode b) d ∷ allStand (decode b) d ∷ []) tt (k .enrolled) ∙ rw (s, r); carried = k .carried }
+    module _ (x : Raises d e) where
+      raise-test : raises (decode b) d ≡ true
+      raise-test = T-true (raises (decode b) d) (raising (decode b) d e m x)
 
-    pub raise-exactly : RaiseExactly g b d
-    raise-exactly = record { only = raise-only; whenever = raise-whenever }
+      raise-whenever : Before11 g b d → Carried (g .steps) (decode b) d → callOn g b (grant d) .refusal ≡ 0
+      raise-whenever k c = grant-whenever record { early = k .early; held = firstOf-none enrolled (pairStands (decode b) d ∷ allStand (decode b) d ∷ []) tt (k .enrolled) ∙ rw (pair, raise-test); carried = c }
+
+      raise-sixteen : Before11 g b d → (Carried (g .steps) (decode b) d → ⊥) → callOn g b (grant d) .refusal ≡ 16
+      unfolding held
+      raise-sixteen k c = refused-with k 16 (firstOf-none enrolled (pairStands (decode b) d ∷ allStand (decode b) d ∷ last) tt (k .enrolled) ∙ rw (pair, raise-test, heavy (either over))) (λ z. omega arith)
+        where
+          over : Bool
+          over = ltb (code (allowed (g .steps) (decode b) d)) (suc (d .weight))
+
+          heavy : T over ⊎ T (not over) → over ≡ true
+          heavy (inl h) = T-true over h
+          heavy (inr h) = absurd (c (allowed-carried (g .steps) rule (decode b) d (nltb→le (code (allowed (g .steps) (decode b) d)) (suc (d .weight)) h)))
+
+    raise-eleven : Before11 g b d → (Raises d e → ⊥) → callOn g b (grant d) .refusal ≡ 11
+    unfolding held
+    raise-eleven k n = refused-with k 11 (firstOf-none enrolled (pairStands (decode b) d ∷ allStand (decode b) d ∷ last) tt (k .enrolled) ∙ rw (pair, other)) (λ z. omega arith)
+      where
+        other : raises (decode b) d ≡ false
+        other = unset (raises (decode b) d) (not-T (raises (decode b) d) (λ h. n (raise-one (early-none (g .refusal) b (grant d) (k .early) .formed) h)))
+
+    raise-answer : RaiseAnswer g b d e
+    raise-answer = record { only = raise-only; whenever = λ k. raise-whenever (k .raises) (k .before) (k .carried); sixteen = λ k x c. raise-sixteen x k c; eleven = raise-eleven }
+
+  pub raise-exactly : IsBytes b → RaiseExactly g b d
+  raise-exactly bytes e m p = raise-answer bytes e m p
 
 -- ── what a grant leaves ──
 module _ (g : Given) (b : List ℕ) (bytes : IsBytes b) (d : Delegation) where

@@ -33,17 +33,27 @@ pub record GrantExactly (g : Given) (b : List ℕ) (d : Delegation) : Type 0 whe
   pub only : callOn g b (grant d) .refusal ≡ 0 → Grantable g b d
   pub whenever : Grantable g b d → callOn g b (grant d) .refusal ≡ 0
 
--- d can raise e: no refusal up to 9 applies, all but the weight is the same, that is larger, and some chain carries it
-pub record Raisable (g : Given) (b : List ℕ) (d e : Delegation) : Type 0 where
+-- no refusal of a grant before 11 applies
+pub record Before11 (g : Given) (b : List ℕ) (d : Delegation) : Type 0 where
   pub early : firstOf (early (g .refusal) b (grant d)) ≡ 0
   pub enrolled : firstOf (notEnrolled (decode b) (d .giver ∷ d .receiver ∷ []) ∷ []) ≡ 0
+
+-- d can raise e: none of these applies, all but the weight is the same, that is larger, and some chain carries it
+pub record Raisable (g : Given) (b : List ℕ) (d e : Delegation) : Type 0 where
+  pub before : Before11 g b d
   pub raises : Raises d e
   pub carried : Carried (g .steps) (decode b) d
 
--- where e stands for the pair of d, the grant is accepted exactly when d can raise e, however many delegations stand
-pub record RaiseExactly (g : Given) (b : List ℕ) (d : Delegation) : Type 0 where
-  pub only : (e : Delegation) → e ∈ decode b .delegations → T (isPair (d .giver) (d .receiver) e) → callOn g b (grant d) .refusal ≡ 0 → Raisable g b d e
-  pub whenever : (e : Delegation) → e ∈ decode b .delegations → T (isPair (d .giver) (d .receiver) e) → Raisable g b d e → callOn g b (grant d) .refusal ≡ 0
+-- a grant is accepted exactly when it can raise e, however many delegations stand; past the refusals before 11 it gets 16 where it raises e and no chain carries it, and 11 where it does not raise e
+pub record RaiseAnswer (g : Given) (b : List ℕ) (d e : Delegation) : Type 0 where
+  pub only : callOn g b (grant d) .refusal ≡ 0 → Raisable g b d e
+  pub whenever : Raisable g b d e → callOn g b (grant d) .refusal ≡ 0
+  pub sixteen : Before11 g b d → Raises d e → (Carried (g .steps) (decode b) d → ⊥) → callOn g b (grant d) .refusal ≡ 16
+  pub eleven : Before11 g b d → (Raises d e → ⊥) → callOn g b (grant d) .refusal ≡ 11
+
+-- of every grant for whose pair a delegation e stands
+abbrev pub RaiseExactly : Given → List ℕ → Delegation → Type 0
+RaiseExactly g b d = (e : Delegation) → e ∈ decode b .delegations → T (isPair (d .giver) (d .receiver) e) → RaiseAnswer g b d e
 
 -- an accepted grant drops nothing, lowers nothing and changes no condition; what it names stands as granted, and nothing else is heavier or new
 abbrev pub GrantKeeps : Given → List ℕ → Delegation → Type 0

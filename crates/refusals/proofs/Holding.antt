@@ -7,16 +7,16 @@ use Prim.Native.Nat.{ℕ, suc, _≤_, _<_}
 use native.Mathlib.Omega.{arith}
 use borrow.Author.Tests.{leb-false, lt-ltb, le-ltb, le-leb, lt-leb}
 use lib.Dec.{T, leb, ltb, eqb, leb→le, nleb→lt, ltb→lt, nltb→le}
-use lib.ListN.{length, getD}
+use lib.ListN.{length}
 use lib.IntN.{ℤ, pos}
 use lib.Signed.{ltZ}
 use Rattle.rules.specs.Limit.{none, code}
-use Rattle.rules.specs.Register.{Delegation, Register, noDelegation}
+use Rattle.rules.specs.Register.{Delegation, Register, granted, noDelegation}
 use Rattle.rules.specs.Reach.{reach}
-use Rattle.rules.specs.Pair.{isPair, weightAt, stands, raises}
+use Rattle.rules.specs.Pair.{isPair, weightAt, stands, isRaise, raises}
 use Rattle.rules.specs.Call.{grant}
 use Rattle.rules.specs.Refusal.{firstOf, pairStands, allStand, overweight, held}
-use Rattle.rules.proofs.Lists.{either, T-true, yes, any-mem}
+use Rattle.rules.proofs.Lists.{either, T-true, any-mem}
 use Rattle.rules.proofs.Refusals.{passes-of}
 use Rattle.rules.proofs.Support.{allowed-reach}
 use Rattle.block.specs.Bytes.{IsBytes, leading}
@@ -26,7 +26,8 @@ use Rattle.block.proofs.Held.{held-formed, subjects-held, count-held, record-he
 use Rattle.block.proofs.PairPlace.{weightAt-found, weightAt-missing}
 use Rattle.block.specs.Records.{delegationAt, delegationsTo}
 use Rattle.rules.proofs.Signed.{below-weight}
-use Rattle.rules.proofs.Granting.{isRaise, raises-test, one-raised}
+use Rattle.rules.proofs.Granting.{raises-test, one-raised}
+use Rattle.rules.proofs.Pairs.{pair-test, test-pair}
 use Rattle.refusals.specs.Joined.{orElse}
 use Rattle.refusals.specs.Checked.{BothEnrolled}
 use Rattle.refusals.proofs.Joining.{else-none}
@@ -96,6 +97,10 @@ grant-room t b bytes formed d e s =
     let p = passes-of (held t (decode b) (grant d)) tt e in
     subst (λ (k : ℕ). k < 256) (count-held b bytes formed) (nleb→lt 256 (length (decode b .delegations)) (subst (λ (x : Bool). T (not (not x && leb 256 (length (decode b .delegations))))) s (p 12)))
 
+-- a grant for the pair of e raises it by these three tests
+pub own-raise : (e : Delegation) (w n b : ℕ) → (eqb (e .need) n && eqb (e .bar) b && ltb (e .weight) w) ≡ isRaise (granted (e .giver) (e .receiver) w n b) e
+own-raise e w n b = sym (rw (T-true (isPair (e .giver) (e .receiver) e) (pair-test (e .giver) (e .receiver) e (refl, refl))))
+
 -- ── the tests of 11 and 12, as the code makes them; k is the pair's place ──
 module _ (b : List ℕ) (bytes : IsBytes b) (formed : wellFormed b ≡ true) (d : Delegation) (n k : ℕ) (place : k ≡ leading (λ e. not (isPair (d .giver) (d .receiver) e)) (delegationsTo b (countIn b))) where
   abbrev both : Bool → ℕ
@@ -111,12 +116,12 @@ module _ (b : List ℕ) (bytes : IsBytes b) (formed : wellFormed b ≡ true) (d 
     abbrev e : Delegation
     e = delegationAt b k
 
-    pair : isPair (d .giver) (d .receiver) e ≡ true
-    pair = T-true (isPair (d .giver) (d .receiver) e) (pair-held b bytes formed (d .giver) (d .receiver) k place found)
+    pair : T (isPair (d .giver) (d .receiver) e)
+    pair = pair-held b bytes formed (d .giver) (d .receiver) k place found
 
     -- the record found is the only one that could be raised
     raise-test : raises (decode b) d ≡ isRaise d e
-    raise-test = go (raises (decode b) d) (isRaise d e) (λ h. raises-test d e (one-raised (decode b) (held-formed b bytes formed .rising) d e (record-held b bytes formed k found) (yes pair) h)) (λ t. any-mem (isRaise d) (record-held b bytes formed k found) t)
+    raise-test = go (raises (decode b) d) (isRaise d e) (λ h. raises-test d e (one-raised (decode b) (held-formed b bytes formed .rising) d e (record-held b bytes formed k found) pair h)) (λ t. any-mem (isRaise d) (record-held b bytes formed k found) t)
       where
         go : (x y : Bool) → (T x → T y) → (T y → T x) → x ≡ y
         go true true f g = refl
@@ -124,9 +129,13 @@ module _ (b : List ℕ) (bytes : IsBytes b) (formed : wellFormed b ≡ true) (d 
         go true false f g = absurd (f tt)
         go false true f g = absurd (g tt)
 
-    pub place-found : orElse n (11, not (eqb (e .need) (d .need) && eqb (e .bar) (d .bar) && ltb (e .weight) (d .weight))) ≡ orElse (orElse n (pairStands (decode b) d)) (allStand (decode b) d)
+    -- a grant of d's numbers for the pair of that record is d
+    own : granted (e .giver) (e .receiver) (d .weight) (d .need) (d .bar) ≡ d
+    own = let (g, r) = test-pair (d .giver) (d .receiver) e pair in λ j. granted (g j) (r j) (d .weight) (d .need) (d .bar)
+
+    pub place-found : orElse n (11, not (isRaise (granted (e .giver) (e .receiver) (d .weight) (d .need) (d .bar)) e)) ≡ orElse (orElse n (pairStands (decode b) d)) (allStand (decode b) d)
     place-found =
-        ap (λ (x : Bool). orElse n (11, not (x && eqb (e .need) (d .need) && eqb (e .bar) (d .bar) && ltb (e .weight) (d .weight)))) (sym pair)
+        ap (λ (x : Delegation). orElse n (11, not (isRaise x e))) own
         ∙ ap (λ (x : Bool). orElse n (11, not x)) (sym raise-test)
         ∙ else-none (orElse n (11, not (raises (decode b) d))) 12
         ∙ ap both (sym (stands-found b bytes formed (d .giver) (d .receiver) k place found))

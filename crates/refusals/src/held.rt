@@ -1,12 +1,12 @@
 // Refusals by what the register holds, on a well-formed block: the number of the first that applies, or 0. Each test has one number and is joined to those before it.
 ghost use mathlib.Core.Path.{_≡_};
-ghost use mathlib.Core.Bool.{true, not, _&&_, _||_};
+ghost use mathlib.Core.Bool.{true, not, _||_};
 ghost use mathlib.Core.List.{List, [], _∷_};
 ghost use Prim.Native.Nat.{_≤_};
-ghost use lib.Dec.{leb, ltb, eqb};
+ghost use lib.Dec.{leb};
 ghost use lib.IntN.{ℤ};
 ghost use Rattle.rules.specs.Table.{TableRule};
-ghost use Rattle.rules.specs.Pair.{stands};
+ghost use Rattle.rules.specs.Pair.{stands, isRaise};
 ghost use Rattle.rules.specs.Register.{granted};
 ghost use Rattle.rules.specs.Call.{grant, revoke, downgrade, askReach};
 ghost use Rattle.rules.specs.Refusal.{firstOf, notEnrolled, allEnrolled, pairStands, allStand, mayNot, notBelow, overweight, held};
@@ -64,10 +64,10 @@ pub fn all_enrolled(n: u32, block: &[u8]) -> u32
     )
 }
 
-// Record `k` is raised by a grant of these numbers for its pair: the same need and bar, and a larger weight.
+// A grant of these numbers for the pair of record `k` raises it.
 fn is_raise(block: &[u8], k: usize, weight: u32, need: u32, bar: u32) -> bool
     requires { ⌜ HasRecord (now block) k ⌝ }
-    ensures { λ r. ⌜ r ≡ (eqb (delegationAt (now (block .entry)) k .need) need && eqb (delegationAt (now (block .entry)) k .bar) bar && ltb (delegationAt (now (block .entry)) k .weight) weight) ⌝ }
+    ensures { λ r. ⌜ (let e = delegationAt (now (block .entry)) k in r ≡ isRaise (granted (e .giver) (e .receiver) weight need bar) e) ⌝ }
 {
     if block::need(block, k) as u32 != need {
         return false;

@@ -3,12 +3,12 @@ use mathlib.Core.Path.{_≡_, refl, sym, ap, subst, _∙_}
 use mathlib.Core.Logic.{_⊎_, inl, inr}
 use mathlib.Core.Bool.{Bool, true, false, not, cond, _&&_}
 use mathlib.Core.List.{List, map, List·Memᴰ·head, List·Memᴰ·tail}
-use Prim.Native.Nat.{ℕ, _<_}
+use Prim.Native.Nat.{ℕ}
 use native.Mathlib.Omega.{arith}
 use lib.Dec.{T, ltb, eqb, eqb→eq, ltb→lt, lt→ltb}
 use Rattle.rules.specs.List.{_∈_}
 use Rattle.rules.specs.Register.{Delegation, Register, reweigh, withDelegations}
-use Rattle.rules.specs.Pair.{isPair, stands, sameTerms, raises, reweighed}
+use Rattle.rules.specs.Pair.{isPair, stands, sameTerms, isRaise, raises, reweighed}
 use Rattle.rules.specs.Remainder.{AtMost}
 use Rattle.rules.specs.WellFormed.{Rising}
 use Rattle.rules.specs.Refusal.{pairStands}
@@ -29,9 +29,6 @@ pair-one r {d} {e} (List·Memᴰ·tail m) (List·Memᴰ·head {x = x} q) s =
 pair-one r (List·Memᴰ·tail m) (List·Memᴰ·tail n) s = pair-one (r .1) m n s
 
 -- ── d raises e ──
-abbrev pub isRaise : Delegation → Delegation → Bool
-isRaise d e = sameTerms d e && ltb (e .weight) (d .weight)
-
 test-raises : (d e : Delegation) → T (isRaise d e) → Raises d e
 test-raises d e h =
     let terms = T-left (sameTerms d e) (ltb (e .weight) (d .weight)) h in

@@ -23,9 +23,13 @@ stands R g r = ltb zero (code (weightAt (R .delegations) g r))
 abbrev pub sameTerms : Delegation → Delegation → Bool
 sameTerms d e = isPair (d .giver) (d .receiver) e && eqb (e .need) (d .need) && eqb (e .bar) (d .bar)
 
--- d raises what stands: the same terms at a smaller weight
+-- d raises e: the same terms at a larger weight
+abbrev pub isRaise : Delegation → Delegation → Bool
+isRaise d e = sameTerms d e && ltb (e .weight) (d .weight)
+
+-- d raises what stands
 abbrev pub raises : Register → Delegation → Bool
-raises R d = any (λ e. sameTerms d e && ltb (e .weight) (d .weight)) (R .delegations)
+raises R d = any (isRaise d) (R .delegations)
 
 -- the register with the delegation of a pair at another weight
 abbrev pub reweighed : Register → ℕ → ℕ → ℕ → Register

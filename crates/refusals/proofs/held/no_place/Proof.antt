@@ -1,6 +1,5 @@
 -- `refusals::no_place` joins the tests of 11 and 12. Assumes nothing.
 use borrow.Author.Needs.{needs}
-use mathlib.Core.Path.{_∙_}
 use native.Mathlib.Omega.{arith}
 use Rattle.rules.specs.Register.{Delegation, granted}
 use Rattle.block.specs.Bytes.{IsBytes}
