@@ -14,8 +14,8 @@ part="program"
 . tests/step.sh
 
 # The listing, malformed lines, examples, a cut of 485 rounds, large numbers, 64
-# subjects, the last byte missing, a random list.
-files="000 017 044 071 077 081 084 085 087 090 114"
+# subjects, the last byte missing, a random list, raises.
+files="000 017 044 071 077 081 084 085 087 090 114 117"
 
 # The calls of 65,536 bytes, all accepted.
 longest="crates/cases/data/088.calls"
@@ -56,7 +56,7 @@ runs() {
         target/bin/seatcalls < <(cat "$input") 2>>"$out/errors" | cmp - "${input%.calls}.out" || return 1
         ran=$((ran + 1))
     done
-    test "$ran" -eq 15 && ! test -s "$out/errors"
+    test "$ran" -eq 16 && ! test -s "$out/errors"
 }
 
 # The last run wrote this line to standard error.

@@ -1,5 +1,5 @@
--- P1 to P8 on bytes: the trace of the calls on bytes is the trace of the definitions, written; so the calls on bytes make of each example what
--- document 01 says of it. And the trace is the one that demand 3 cites. Assumes nothing.
+-- The examples on bytes: the trace of the calls on bytes is the trace of the definitions, written; so the calls on bytes make of each example what
+-- is said of it. And the trace is the one that demand 3 cites. Assumes nothing.
 use mathlib.Core.Path.{_≡_, refl, ap, _∙_}
 use mathlib.Core.List.{List, [], _∷_, _++_, map}
 use Prim.Native.Nat.{ℕ, zero, suc}
