@@ -21,11 +21,12 @@ use Rattle.rules.specs.Refusal.{passed, held, refusalOf}
 use Rattle.rules.specs.CallStep.{Outcome, answered, refused, accepted, callStep}
 use Rattle.rules.specs.Trace.{PlaceRight}
 use Rattle.rules.specs.History.{registerAt, CutsRight}
-use Rattle.rules.specs.Examples.{P2, entry, needing, plain, two, twos, twos-given}
+use Rattle.rules.specs.Examples.{P2, entry, needing, plain, two, twos}
 use Rattle.rules.proofs.Lists.{T-true, T-both, no, eq→eqb, any-mem}
 use Rattle.rules.proofs.Refusals.{applies, firstOf-other}
 use Rattle.rules.proofs.Pairs.{pair-stands}
 use Rattle.rules.proofs.Granting.{raised}
+use Rattle.rules.proofs.BadOutcomes.{P2-left, twos-left}
 
 -- a call on a register by a table, and what a wrong program returns and leaves
 pub record Wrong : Type 0 where
@@ -35,9 +36,6 @@ pub record Wrong : Type 0 where
   pub outcome : Outcome
 
 -- ── on P2's register ──
-abbrev P2-left : List Delegation → Register
-P2-left ds = record { subjects = 5; marks = 0 ∷ 0 ∷ 0 ∷ 0 ∷ 0 ∷ []; delegations = ds }
-
 abbrev others : List Delegation
 others = entry 0 2 3 ∷ entry 1 3 4 ∷ entry 2 3 2 ∷ entry 3 4 3 ∷ []
 
@@ -106,9 +104,6 @@ abbrev reach-compared : Wrong
 reach-compared = record { table = steps; register = unsupported 4 9; call = plain 1 2 5; outcome = refused 16 (unsupported 4 9) }
 
 -- judged by our table in place of the one given
-abbrev twos-left : ℕ → Register
-twos-left w = record { subjects = 5; marks = 0 ∷ 0 ∷ 0 ∷ 0 ∷ 0 ∷ []; delegations = entry 0 1 9 ∷ entry 0 4 1 ∷ entry 1 2 8 ∷ entry 2 3 w ∷ [] }
-
 abbrev by-ours : Wrong
 by-ours = record { table = twos; register = twos-left 6; call = plain 2 3 7; outcome = count 4 (twos-left 7) }
 
@@ -142,8 +137,8 @@ pub not-granted-so : (w : Wrong) → w ∈ wrong-grants → PlaceRight (callStep
 not-granted-so w m r =
     no none-as-defined (any-mem asDefined m (subst (λ (o : Outcome). T (same (numbers o) (numbers (w .outcome)))) (r .outcome) (same-refl (numbers (w .outcome)))))
 
--- the registers are those that the examples lead to
-pub grants-on : _≡_ {A = List Register} (P2-register ∷ twos-left 6 ∷ []) (registerAt steps (P2 .given) 9 ∷ registerAt steps twos-given 8 ∷ [])
+-- the register is that of P2
+pub grants-on : P2-register ≡ registerAt steps (P2 .given) 9
 unfolding larger next step steps meets limitFrom goesOn chains reach allowed passed held refusalOf accepted callStep
 grants-on = refl
 

@@ -81,7 +81,7 @@ not-one-round r =
     omega (arith, ap code P5-unsupported)
 
 -- ── a cut that goes too deep: P2 ──
-abbrev P2-left : List Delegation → Register
+abbrev pub P2-left : List Delegation → Register
 P2-left ds = record { subjects = 5; marks = 0 ∷ 0 ∷ 0 ∷ 0 ∷ 0 ∷ []; delegations = ds }
 
 abbrev P2-cut : Register
@@ -208,8 +208,11 @@ pub not-first-chain : IsReach steps P3-register 3 4 (pos 1) → ⊥
 not-first-chain r = let e = pos-inj (sym P3-reach ∙ reach-only steps P3-register 3 4 (pos 1) r) in omega arith
 
 -- ── support by one table claimed of another: what our table granted is not supported by twos ──
+abbrev pub twos-left : ℕ → Register
+twos-left w = record { subjects = 5; marks = 0 ∷ 0 ∷ 0 ∷ 0 ∷ 0 ∷ []; delegations = entry 0 1 9 ∷ entry 0 4 1 ∷ entry 1 2 8 ∷ entry 2 3 w ∷ [] }
+
 abbrev twos-register : Register
-twos-register = record { subjects = 5; marks = 0 ∷ 0 ∷ 0 ∷ 0 ∷ 0 ∷ []; delegations = entry 0 1 9 ∷ entry 0 4 1 ∷ entry 1 2 8 ∷ entry 2 3 6 ∷ [] }
+twos-register = twos-left 6
 
 twos-granted : registerAt steps twos-given 8 ≡ twos-register
 unfolding larger next step steps meets limitFrom goesOn chains reach allowed passed held refusalOf accepted callStep
