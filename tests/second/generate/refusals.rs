@@ -2,19 +2,29 @@
 //! to some call from a list of candidates.
 
 use super::*;
-use second::block::{encode, BLOCK_LEN, ZERO_AT};
+use second::block::{decode, encode, BLOCK_LEN, MOST_DELEGATIONS, ZERO_AT};
 use second::engine::FAST;
 use second::refusal::applying;
 use std::collections::BTreeSet;
 
-/// One case for each block and each set of refusals that apply at once.
+/// The refusals that apply at once. Of a grant also whether its pair stands and
+/// whether 256 delegations do, since a raise gets neither 11 nor 12.
+pub fn told(n: &Passed, text: &[u8], block: &[u8]) -> (Vec<u32>, bool, bool) {
+    let numbers = applying(&FAST, n, text, block, n.weight as usize);
+    let register = decode(block).filter(|_| n.call == Call::Grant);
+    let stands = register.as_ref().is_some_and(|register| register.standing(n.giver, n.receiver).is_some());
+    let full = register.is_some_and(|register| register.delegations.len() == MOST_DELEGATIONS);
+    (numbers, stands, full)
+}
+
+/// One case for each block and what `told` says of it.
 pub fn cases(kind: &Kind) -> Vec<Case> {
     let mut cases = Vec::new();
     for &call in kind.added {
         for block in blocks() {
             let mut seen = BTreeSet::new();
             for n in candidates(call) {
-                if seen.insert(applying(&FAST, &n, b"", &block, n.weight as usize)) {
+                if seen.insert(told(&n, b"", &block)) {
                     cases.push(on(&block, n));
                 }
             }

@@ -5,7 +5,6 @@ use second::block::encode;
 use second::cut::settle;
 use second::engine::FAST;
 use second::random::{random_register, random_table, Random, Shape};
-use second::refusal::applying;
 use second::table::OURS;
 use std::collections::BTreeSet;
 
@@ -84,13 +83,13 @@ fn refusals() -> Vec<Case> {
     cases
 }
 
-/// One case for each set of refusals that apply at once.
+/// One case for each that `told` tells from the others.
 fn at_once(call: Call, text: &[u8]) -> Vec<Case> {
     let mut seen = BTreeSet::new();
     let mut cases = Vec::new();
     for block in refusals::blocks() {
         let candidates = refusals::candidates(call).into_iter();
-        let new = candidates.filter(|n| seen.insert(applying(&FAST, n, text, &block, n.weight as usize)));
+        let new = candidates.filter(|n| seen.insert(refusals::told(n, text, &block)));
         cases.extend(new.map(|n| on(&block, n)));
     }
     cases
