@@ -10,7 +10,7 @@ use lib.ListN.{length, getD, take, drop, length-append, length-drop}
 use lib.Seq.{sets, sets-eq, take-at, drop-at, take-take, take-append-le, drop-append-add, drop-append-seam, drop-drop, length-take-le}
 use Rattle.rules.specs.List.{_∈_, keep, filter}
 use Rattle.rules.specs.Register.{Delegation, reweigh}
-use Rattle.rules.specs.Pair.{isPair}
+use Rattle.rules.specs.Pair.{isPair, setFor}
 use Rattle.rules.specs.WellFormed.{Rising}
 use Rattle.rules.specs.CallStep.{before, insert}
 use Rattle.block.specs.Layout.{recordSize}
@@ -105,7 +105,7 @@ module _ (g r : ℕ) where
       go false q h = λ j. d ∷ h j
 
   module _ (w : ℕ) where
-    untouched : (d : Delegation) → T (not (isPair g r d)) → cond (isPair g r d) (reweigh d w) d ≡ d
+    untouched : (d : Delegation) → T (not (isPair g r d)) → setFor g r w d ≡ d
     untouched d h = go (isPair g r d) h
       where
         go : (b : Bool) → T (not b) → cond b (reweigh d w) d ≡ d
@@ -113,16 +113,16 @@ module _ (g r : ℕ) where
         go false t = refl
 
     pub map-pair : (ds : List Delegation) (z : Delegation) → Rising ds → pairPlace g r ds < length ds
-        → map (λ d. cond (isPair g r d) (reweigh d w) d) ds ≡ take (pairPlace g r ds) ds ++ (reweigh (getD ds (pairPlace g r ds) z) w ∷ drop (suc (pairPlace g r ds)) ds)
+        → map (setFor g r w) ds ≡ take (pairPlace g r ds) ds ++ (reweigh (getD ds (pairPlace g r ds) z) w ∷ drop (suc (pairPlace g r ds)) ds)
     map-pair [] z s l = absurd (not-suc-le-zero l)
     map-pair (d ∷ ds) z s l = go (isPair g r d) refl (map-pair ds z (s .1)) l
       where
         go : (b : Bool) → isPair g r d ≡ b
-            → (pairPlace g r ds < length ds → map (λ e. cond (isPair g r e) (reweigh e w) e) ds ≡ take (pairPlace g r ds) ds ++ (reweigh (getD ds (pairPlace g r ds) z) w ∷ drop (suc (pairPlace g r ds)) ds))
+            → (pairPlace g r ds < length ds → map (setFor g r w) ds ≡ take (pairPlace g r ds) ds ++ (reweigh (getD ds (pairPlace g r ds) z) w ∷ drop (suc (pairPlace g r ds)) ds))
             → cond (not b) (suc (pairPlace g r ds)) zero < suc (length ds)
             → let k = cond (not b) (suc (pairPlace g r ds)) zero in
-            cond b (reweigh d w) d ∷ map (λ e. cond (isPair g r e) (reweigh e w) e) ds ≡ take k (d ∷ ds) ++ (reweigh (getD (d ∷ ds) k z) w ∷ drop (suc k) (d ∷ ds))
+            cond b (reweigh d w) d ∷ map (setFor g r w) ds ≡ take k (d ∷ ds) ++ (reweigh (getD (d ∷ ds) k z) w ∷ drop (suc k) (d ∷ ds))
         go true q ih m =
-            let e = map-all (λ x. cond (isPair g r x) (reweigh x w) x) ds (λ x i. untouched x (others g r d ds s (subst T (sym q) tt) x i)) in
+            let e = map-all (setFor g r w) ds (λ x i. untouched x (others g r d ds s (subst T (sym q) tt) x i)) in
             λ j. reweigh d w ∷ e j
         go false q ih m = let e = ih (le-of-suc-le-suc m) in λ j. d ∷ e j

@@ -14,7 +14,7 @@ use Rattle.rules.specs.Limit.{code, _≼_}
 use Rattle.rules.specs.Table.{steps, TableRule}
 use Rattle.rules.specs.Register.{Delegation, Register, reweigh}
 use Rattle.rules.specs.Support.{allowed}
-use Rattle.rules.specs.Pair.{isPair, weightAt}
+use Rattle.rules.specs.Pair.{isPair, weightAt, setFor}
 use Rattle.rules.specs.Round.{capped, round, settle, SettlesIn}
 use Rattle.rules.specs.Cut.{Cut, removal, lowering, named}
 use Rattle.rules.specs.WellFormed.{WellFormed}
@@ -133,7 +133,7 @@ named-few R (lowering g r w) f n =
     let (d, m, p, q) = pair-found g r (R .delegations) (omega arith) in
     let l : w < 255 = omega (arith, ap code q, f .each d m .weight) in
     let f′ = lowered-formed R g r w (omega arith) f in
-    let m′ = mem-map (λ (x : Delegation). cond (isPair g r x) (reweigh x w) x) m in
+    let m′ = mem-map (setFor g r w) m in
     (omega (arith, not-all _ _ m′ (light d (isPair g r d) p l), f′ .few), f′)
   where
     light : (d : Delegation) (b : Bool) → T b → w < 255 → cond b (reweigh d w) d .weight < 255

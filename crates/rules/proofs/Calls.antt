@@ -15,7 +15,7 @@ use Rattle.rules.specs.Limit.{code, _≼_}
 use Rattle.rules.specs.Table.{TableRule, Below}
 use Rattle.rules.specs.Register.{Delegation, Register, reweigh, withDelegations}
 use Rattle.rules.specs.Support.{allowed, Carried, Supported}
-use Rattle.rules.specs.Pair.{isPair, stands, reweighed}
+use Rattle.rules.specs.Pair.{isPair, stands, setFor, reweighed}
 use Rattle.rules.specs.Round.{settle}
 use Rattle.rules.specs.Granted.{GrantedIn}
 use Rattle.rules.specs.Cut.{removal, lowering, named}
@@ -54,16 +54,13 @@ reweighed-formed R g r w h f = record {
   marked = f .marked;
   marks = f .marks;
   owner = f .owner;
-  few = subst (λ (n : ℕ). n ≤ 256) (sym (length-map (R .delegations) setTo)) (f .few);
-  rising = rising-map setTo (λ d. pair d (isPair g r d)) (R .delegations) (f .rising);
+  few = subst (λ (n : ℕ). n ≤ 256) (sym (length-map (R .delegations) (setFor g r w))) (f .few);
+  rising = rising-map (setFor g r w) (λ d. pair d (isPair g r d)) (R .delegations) (f .rising);
   each = λ e m.
-      let (d, m′, q) = map-mem setTo (R .delegations) m in
+      let (d, m′, q) = map-mem (setFor g r w) (R .delegations) m in
       subst (λ (x : Delegation). DelegationFormed (R .subjects) x) (sym q) (formed d (isPair g r d) (f .each d m′));
 }
   where
-    setTo : Delegation → Delegation
-    setTo d = cond (isPair g r d) (reweigh d w) d
-
     pair : (d : Delegation) (b : Bool) → IsPair (d .giver) (d .receiver) (cond b (reweigh d w) d)
     pair d true = (refl, refl)
     pair d false = (refl, refl)

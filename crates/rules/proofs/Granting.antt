@@ -8,7 +8,7 @@ use native.Mathlib.Omega.{arith}
 use lib.Dec.{T, ltb, eqb, eqb→eq, ltb→lt, lt→ltb}
 use Rattle.rules.specs.List.{_∈_}
 use Rattle.rules.specs.Register.{Delegation, Register, reweigh, withDelegations}
-use Rattle.rules.specs.Pair.{isPair, stands, sameTerms, isRaise, raises, reweighed}
+use Rattle.rules.specs.Pair.{isPair, stands, sameTerms, isRaise, raises, setFor, reweighed}
 use Rattle.rules.specs.Remainder.{AtMost}
 use Rattle.rules.specs.WellFormed.{Rising}
 use Rattle.rules.specs.Refusal.{pairStands}
@@ -67,7 +67,7 @@ one-raised R rising d e m p h =
 -- ── what is left ──
 module _ (R : Register) (d : Delegation) where
   abbrev setTo : Delegation → Delegation
-  setTo e = cond (isPair (d .giver) (d .receiver) e) (reweigh e (d .weight)) e
+  setTo = setFor (d .giver) (d .receiver) (d .weight)
 
   -- d raises y, which is left as d
   raise-leaves : Rising (R .delegations) → (y : Delegation) → y ∈ R .delegations → Raises d y → GrantedIn R (reweighed R (d .giver) (d .receiver) (d .weight)) d

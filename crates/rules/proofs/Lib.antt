@@ -11,6 +11,7 @@ pub mod Rounds
 pub mod WellFormed
 pub mod Refusals
 pub mod Pairs
+pub mod OwnPair
 pub mod Granting
 pub mod Calls
 pub mod Firm

@@ -31,9 +31,13 @@ isRaise d e = sameTerms d e && ltb (e .weight) (d .weight)
 abbrev pub raises : Register → Delegation → Bool
 raises R d = any (isRaise d) (R .delegations)
 
--- the register with the delegation of a pair at another weight
+-- a delegation of the pair at another weight, any other as it is
+abbrev pub setFor : ℕ → ℕ → ℕ → Delegation → Delegation
+setFor g r w d = cond (isPair g r d) (reweigh d w) d
+
+-- the register with the delegation of the pair at another weight
 abbrev pub reweighed : Register → ℕ → ℕ → ℕ → Register
-reweighed R g r w = withDelegations R (map (λ d. cond (isPair g r d) (reweigh d w) d) (R .delegations))
+reweighed R g r w = withDelegations R (map (setFor g r w) (R .delegations))
 
 -- some delegation to r stands
 abbrev pub receives : ℕ → List Delegation → Bool
