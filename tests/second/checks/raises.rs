@@ -37,6 +37,13 @@ fn answered(first: i32) -> Line {
     (0, [first, 0, 0])
 }
 
+/// Both engines answer an example with these lines.
+fn answers(at: usize, due: &[Line]) {
+    for engine in [&FAST, &LITERAL] {
+        assert_eq!(lines(engine, at), due);
+    }
+}
+
 /// 0-1:5, 1-2:4, 2-3:2. 2-3 is raised to 3, 1-2 is not raised to 5, and the same
 /// weight, a smaller one and another need get 11. 0-1 is raised to 9, and 1-2 to 8.
 #[test]
@@ -45,8 +52,7 @@ fn raises_within_the_reach_and_above_it() {
         answered(3), refused(16), refused(11), refused(11), refused(11), answered(3), answered(3), answered(3),
         answered(7),
     ];
-    assert_eq!(lines(&FAST, 0), due);
-    assert_eq!(lines(&LITERAL, 0), due);
+    answers(0, &due);
 }
 
 /// 2-3 can be raised once 1-2 was, and that once 0-1 was.
@@ -56,8 +62,7 @@ fn a_customers_raise_waits_for_the_dealers() {
         refused(16), refused(16), answered(3), refused(16), answered(3), answered(3), answered(3), refused(11),
         answered(255),
     ];
-    assert_eq!(lines(&FAST, 1), due);
-    assert_eq!(lines(&LITERAL, 1), due);
+    answers(1, &due);
 }
 
 /// All three are raised, and 0-1 downgraded lowers the other two. 1-2 is lowered and
@@ -68,8 +73,7 @@ fn cuts_take_raises_back() {
         answered(3), answered(3), answered(3), (0, [0, 2, 2]), refused(16), refused(11), (0, [0, 1, 2]), answered(3),
         answered(3), (0, [2, 0, 2]), answered(0), answered(1), answered(2),
     ];
-    assert_eq!(lines(&FAST, 2), due);
-    assert_eq!(lines(&LITERAL, 2), due);
+    answers(2, &due);
 }
 
 /// What is due for a grant for a standing pair whose numbers are within their limits.

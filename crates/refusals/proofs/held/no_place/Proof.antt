@@ -4,7 +4,7 @@ use native.Mathlib.Omega.{arith}
 use Rattle.rules.specs.Register.{Delegation, granted}
 use Rattle.block.specs.Bytes.{IsBytes}
 use Rattle.block.proofs.Bytes.{fits-bytes}
-use Rattle.block.proofs.Held.{size-held, count-most}
+use Rattle.block.proofs.Held.{size-held, count-most, has-head, has-records}
 use Rattle.refusals.proofs.Holding.{place-missing, place-found}
 use Rattle.refusals.proofs.held.no_place.Statement.{statement}
 use Rattle.refusals.proofs.held.no_place.Tie as tie
@@ -16,7 +16,7 @@ bytes : (c : tie.After-shared-slice-known) → IsBytes (c .before .args .block .
 bytes c = fits-bytes (c .before .args .block .now) (c .shared-slice-known .given)
 
 count-requires : tie.Need-count-requires
-count-requires c κs = let s = c .before in omega (arith, size-held (s .args .block .now) (bytes c) (s .pre .formed))
+count-requires c κs = let s = c .before in has-head (s .args .block .now) (bytes c) (s .pre .formed)
 
 cast-find : tie.Need-cast-find
 cast-find c = let s = c .before .before in omega (arith, s .pre .numbers .0 .0)
@@ -25,11 +25,7 @@ cast-find-2 : tie.Need-cast-find-2
 cast-find-2 c = let s = c .before .before in omega (arith, s .pre .numbers .0 .1 .0)
 
 find-requires : tie.Need-find-requires
-find-requires c κs =
-    let k = c .before in
-    let s = k .before in
-    let b = s .args .block .now in
-    omega (arith, size-held b (bytes k) (s .pre .formed), count-most b (bytes k) (s .pre .formed), c .count .ensures)
+find-requires c κs = let s = c .before .before in rw (c .count .ensures) (has-records (s .args .block .now) (bytes (c .before)) (s .pre .formed))
 
 tested-requires : tie.Need-tested-requires
 tested-requires c κs = search needs
