@@ -1,5 +1,5 @@
 -- A text that passes is that of a well-formed register; any other is refused with 7 or with 8. Assumes nothing.
-use mathlib.Core.Path.{_≡_, refl, sym, ap, _∙_}
+use mathlib.Core.Path.{_≡_, refl}
 use mathlib.Core.Logic.{_⊎_, inl, inr}
 use mathlib.Core.Bool.{Bool, true, false, _&&_}
 use mathlib.Core.List.{List, [], _∷_, map}
@@ -17,7 +17,7 @@ use Rattle.block.specs.Bytes.{IsBytes}
 use Rattle.block.specs.Block.{decode, encode}
 use Rattle.block.specs.WellFormed.{wellFormed}
 use Rattle.block.proofs.Held.{held-formed}
-use Rattle.regfile.specs.FileText.{fileText, Filed, passingFile, subjectsOf, delegationsOf, isFile, valueAt, delegationOf, blockOf, judged, filed}
+use Rattle.regfile.specs.FileText.{fileText, passingFile, subjectsOf, delegationsOf, isFile, valueAt, delegationOf, blockOf, judged, filed}
 
 -- the refusal of a text is 0, 7 or 8
 judged-number : (x y : Bool) (R : Register) → let n = judged x y R .refusal in (n ≡ 0) ⊎ ((n ≡ 7) ⊎ (n ≡ 8))

@@ -4,10 +4,7 @@ use mathlib.Core.Logic.{_≢_, _⊎_, inl, inr}
 use mathlib.Core.Bool.{Bool, true, false, cond}
 use mathlib.Core.List.{List}
 use Prim.Native.Nat.{ℕ}
-use native.Mathlib.Omega.{arith}
-use lib.IntN.{ℤ}
 use lib.ListN.{length}
-use Rattle.rules.specs.Table.{TableRule}
 use Rattle.rules.specs.Register.{Register}
 use Rattle.rules.specs.Support.{Supported}
 use Rattle.rules.specs.WellFormed.{WellFormed}
@@ -26,8 +23,9 @@ use Rattle.regfile.specs.FileText.{Filed, passingFile, fileText, filed, FiledRi
 use Rattle.regfile.proofs.Passing.{Passing, filed-number, filed-passing}
 use Rattle.register.specs.CallOn.{Result}
 use Rattle.transfer.specs.FileOn.{readRefusal, holding, readOn}
-use Rattle.transfer.specs.RoundTrip.{reading, Readable, RoundTrip}
-use Rattle.transfer.proofs.Reading.{Through, read-through, read-heavy, read-accepted, read-refused, read-same}
+use Rattle.transfer.specs.RoundTrip.{reading, RoundTrip}
+use Rattle.transfer.proofs.Weighed.{light-supported, supported-light}
+use Rattle.transfer.proofs.Reading.{Through, read-through, read-heavy, read-accepted, read-same}
 
 -- ── an accepted read ──
 
@@ -79,17 +77,12 @@ module _ (text table before : List ℕ) (accepted : reading text table before .r
   pub read-is-bytes : IsBytes (reading text table before .bytes)
   read-is-bytes = subst IsBytes (sym read-bytes) (bytes-encode (read-passed .register) (read-passed .passing .formed))
 
+  pub read-supported : Supported (given table .steps) (decode (reading text table before .bytes))
+  read-supported = subst (Supported (given table .steps)) (sym read-register) (light-supported (given table .steps) (given-keeps table) (read-passed .register) (read-passed .light))
+
 -- ── a register's text ──
 
-abbrev pub Weighed : Type 0
-Weighed = (t : List ℤ) → TableRule t → (R : Register) → (tooHeavy t R (R .delegations) ≡ false → Supported t R) × (Supported t R → tooHeavy t R (R .delegations) ≡ false)
-
-module _ (right : FiledRight) (weighed : Weighed) where
-  pub read-supported : (text table before : List ℕ) (e : reading text table before .refusal ≡ 0) → Supported (given table .steps) (decode (reading text table before .bytes))
-  read-supported text table before e =
-      let a = read-passed text table before e in
-      subst (Supported (given table .steps)) (sym (read-register text table before e)) (weighed (given table .steps) (given-keeps table) (a .register) .0 (a .light))
-
+module _ (right : FiledRight) where
   module _ (R : Register) (f : WellFormed R) (table before : List ℕ) (long : length before ≡ blockSize) (passes : given table .refusal ≡ 0) where
     written-number : reading (fileText R) table before .refusal ≡ cond (tooHeavy (given table .steps) R (R .delegations)) 18 0
     written-number =
@@ -98,20 +91,20 @@ module _ (right : FiledRight) (weighed : Weighed) where
         ∙ read-heavy (given table) (passingFile R) before long passes refl
 
     pub written-read : Supported (given table .steps) R → reading (fileText R) table before .refusal ≡ 0
-    written-read s = written-number ∙ ap (λ (x : Bool). cond x 18 0) (weighed (given table .steps) (given-keeps table) R .1 s)
+    written-read s = written-number ∙ ap (λ (x : Bool). cond x 18 0) (supported-light (given table .steps) (given-keeps table) R s)
 
     pub written-left : Supported (given table .steps) R → reading (fileText R) table before .bytes ≡ encode R
     written-left s =
         ap (λ (r : Result). r .bytes)
         (ap (λ (x : Filed). readOn (given table) x before) (right .formed R f)
-        ∙ read-accepted (given table) (passingFile R) before (read-heavy (given table) (passingFile R) before long passes refl ∙ ap (λ (x : Bool). cond x 18 0) (weighed (given table .steps) (given-keeps table) R .1 s)))
+        ∙ read-accepted (given table) (passingFile R) before (read-heavy (given table) (passingFile R) before long passes refl ∙ ap (λ (x : Bool). cond x 18 0) (supported-light (given table .steps) (given-keeps table) R s)))
 
     pub written-refused : (Supported (given table .steps) R → ⊥) → reading (fileText R) table before .refusal ≡ 18
     written-refused n = written-number ∙ go (tooHeavy (given table .steps) R (R .delegations)) refl
       where
         go : (x : Bool) → tooHeavy (given table .steps) R (R .delegations) ≡ x → _≡_ {A = ℕ} (cond x 18 0) 18
         go true e = refl
-        go false e = absurd (n (weighed (given table .steps) (given-keeps table) R .0 e))
+        go false e = absurd (n (light-supported (given table .steps) (given-keeps table) R e))
 
   pub round-trip : RoundTrip
   round-trip = record {
@@ -125,7 +118,7 @@ module _ (right : FiledRight) (weighed : Weighed) where
       register = a .register;
       formed = a .passing .formed;
       same = a .passing .same;
-      supported = weighed (given table .steps) (given-keeps table) (a .register) .0 (a .light);
+      supported = light-supported (given table .steps) (given-keeps table) (a .register) (a .light);
     };
     readable = λ text table before r. ap (λ (s : List ℕ). reading s table before .refusal) (r .same) ∙ written-read (r .register) (r .formed) table before (r .long) (r .passes) (r .supported);
   }
