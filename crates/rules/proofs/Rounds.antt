@@ -21,11 +21,11 @@ use Rattle.rules.proofs.AtMost.{AtMost-refl, AtMost-reweigh, AtMost-tra
 use Rattle.rules.proofs.Support.{allowed-mono, allowed-carried, carried-allowed}
 
 -- ── tests for equality ──
-equal-refl : (xs : List ℕ) → T (equal xs xs)
+pub equal-refl : (xs : List ℕ) → T (equal xs xs)
 equal-refl [] = tt
 equal-refl (x ∷ xs) = T-both (eqb x x) (equal xs xs) (eqb-refl x) (equal-refl xs)
 
-equal→eq : (xs ys : List ℕ) → T (equal xs ys) → xs ≡ ys
+pub equal→eq : (xs ys : List ℕ) → T (equal xs ys) → xs ≡ ys
 equal→eq [] [] h = refl
 equal→eq [] (y ∷ ys) h = absurd h
 equal→eq (x ∷ xs) [] h = absurd h
