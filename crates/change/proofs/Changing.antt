@@ -22,7 +22,7 @@ use Rattle.rules.proofs.Pairs.{test-pair, none-stands}
 use Rattle.change.specs.Place.{IsPlace}
 use Rattle.change.specs.Shift.{movedUp, movedDown}
 use Rattle.block.proofs.PairPlace.{leading-most, pairPlace, pair-past}
-use Rattle.block.proofs.Held.{leading-read, size-held, count-most, held-formed, held-written, subjects-held, delegations-held, count-held, record-held, place-held, place-inside, pair-held, found-stands}
+use Rattle.block.proofs.Held.{leading-read, size-held, count-most, held-formed, held-written, held-fitting, subjects-held, delegations-held, count-held, record-held, place-held, place-inside, pair-held, found-stands}
 use Rattle.change.proofs.Splice.{insert-leading, filter-pair, map-pair}
 use Rattle.change.proofs.Rewrite.{encode-insert, encode-remove, encode-reweigh, encode-enrol}
 use Rattle.block.specs.Records.{markPlace, recordPlace, delegationAt, delegationsTo}
@@ -44,7 +44,7 @@ module _ (b : List ℕ) (bytes : IsBytes b) (formed : wellFormed b ≡ true) whe
   -- one more subject
   pub enrol-held : (v : ℕ) → subjectsIn b < mostSubjects → sets (set b 0 (subjectsIn b + 1)) (markPlace (subjectsIn b)) (twoBytes v) ≡ encode (enrolled (decode b) v)
   enrol-held v l =
-      (λ j. sets (set ((held-written b bytes formed) j) 0 (n j + 1)) (markPlace (n j)) (twoBytes v)) ∙ encode-enrol (decode b) (held-formed b bytes formed) v (subst (λ (x : ℕ). x < mostSubjects) (sym (subjects-held b bytes formed)) l)
+      (λ j. sets (set ((held-written b bytes formed) j) 0 (n j + 1)) (markPlace (n j)) (twoBytes v)) ∙ encode-enrol (decode b) (held-fitting b bytes formed .fits) v (subst (λ (x : ℕ). x < mostSubjects) (sym (subjects-held b bytes formed)) l)
     where
       n : subjectsIn b ≡ decode b .subjects
       n = sym (subjects-held b bytes formed)
@@ -95,7 +95,7 @@ module _ (b : List ℕ) (bytes : IsBytes b) (formed : wellFormed b ≡ true) whe
         let ds = decode b .delegations in
         let q : k ≡ leading (λ x. not (before d x)) ds = e ∙ (λ i. leading (λ x. not (before d x)) (delegationsTo b (counted i))) ∙ ap (leading (λ x. not (before d x))) (sym (delegations-held b bytes formed)) in
         (λ j. sets (sets (movedUp ((held-written b bytes formed) j) (recordPlace k) (recordPlace (all j))) (recordPlace k) (recordBytes d)) countAt (twoBytes (all j + 1)))
-        ∙ encode-insert (decode b) (held-formed b bytes formed) d k (subst (λ (x : ℕ). x ≤ length ds) (sym q) (leading-most (λ x. not (before d x)) ds)) (subst (λ (x : ℕ). x < mostRecords) all l)
+        ∙ encode-insert (decode b) (held-fitting b bytes formed .fits) d k (subst (λ (x : ℕ). x ≤ length ds) (sym q) (leading-most (λ x. not (before d x)) ds)) (subst (λ (x : ℕ). x < mostRecords) all l)
         ∙ ap (λ (x : ℕ). encode (withDelegations (decode b) (take x ds ++ (d ∷ drop x ds)))) q
         ∙ ap (λ (x : List Delegation). encode (withDelegations (decode b) x)) (sym (insert-leading d ds))
 
@@ -113,7 +113,7 @@ module _ (b : List ℕ) (bytes : IsBytes b) (formed : wellFormed b ≡ true) whe
       remove-held =
           let ds = decode b .delegations in
           (λ j. sets (sets (movedDown ((held-written b bytes formed) j) (recordPlace k) (recordPlace (all j))) (recordPlace (all j - 1)) (recordBytes (granted 0 0 0 0 0))) countAt (twoBytes (all j - 1)))
-          ∙ encode-remove (decode b) (held-formed b bytes formed) k (omega (arith, place-below, all))
+          ∙ encode-remove (decode b) (held-fitting b bytes formed .fits) k (omega (arith, place-below, all))
           ∙ ap (λ (x : ℕ). encode (withDelegations (decode b) (take x ds ++ drop (suc x) ds))) (place-held b bytes formed g r k found)
           ∙ ap (λ (x : List Delegation). encode (withDelegations (decode b) x)) (sym (filter-pair g r ds ((held-formed b bytes formed) .rising)))
 
@@ -123,6 +123,6 @@ module _ (b : List ℕ) (bytes : IsBytes b) (formed : wellFormed b ≡ true) whe
           let ds = decode b .delegations in
           let l : k < length ds = omega (arith, place-below, all) in
           ap (λ (x : List ℕ). set x (recordPlace k + weightByte) w) (held-written b bytes formed)
-          ∙ encode-reweigh (decode b) (held-formed b bytes formed) k l w
+          ∙ encode-reweigh (decode b) (held-fitting b bytes formed .fits) k l w
           ∙ ap (λ (x : ℕ). encode (withDelegations (decode b) (take x ds ++ (reweigh (getD ds x (granted 0 0 0 0 0)) w ∷ drop (suc x) ds)))) (place-held b bytes formed g r k found)
           ∙ ap (λ (x : List Delegation). encode (withDelegations (decode b) x)) (sym (map-pair g r w ds (granted 0 0 0 0 0) ((held-formed b bytes formed) .rising) (subst (λ (x : ℕ). x < length ds) (place-held b bytes formed g r k found) l)))

@@ -8,15 +8,15 @@ use lib.ListN.{length, getD, take, drop, set, replicate, length-append, length-d
 use lib.Seq.{sets, sets-eq, length-take-le, drop-at, drop-cons, drop-drop, drop-append-add, drop-append-le, set-at, take-at}
 use Rattle.rules.specs.List.{concatMap}
 use Rattle.rules.specs.Register.{Delegation, Register, reweigh, withDelegations, granted}
-use Rattle.rules.specs.WellFormed.{WellFormed}
 use Rattle.rules.specs.Call.{fresh, enrolled}
 use Rattle.block.specs.Layout.{blockSize, mostSubjects, mostRecords, markSize, recordSize, marksSize, recordsSize, countAt, recordsAt, weightByte}
 use Rattle.block.specs.Bytes.{twoBytes, padded}
 use Rattle.block.specs.Block.{recordBytes, encode}
+use Rattle.block.specs.Fits.{Fits}
 use Rattle.block.specs.Records.{markPlace, recordPlace}
 use Rattle.change.specs.Shift.{movedUp, movedDown}
 use Rattle.block.proofs.Bytes.{length-written}
-use Rattle.block.proofs.Encode.{headOf, marksPart, middlePart, afterMarks, encode-records, encode-marks, record-wide, length-middlePart, records-encode, front-encode}
+use Rattle.block.proofs.Fitting.{headOf, marksPart, middlePart, afterMarks, encode-records, encode-marks, record-wide, length-middlePart, records-encode, front-encode}
 use Rattle.change.proofs.Splice.{spliced-in, spliced-out}
 
 pub concatMap-append : {A : Type 0} (f : A → List ℕ) (xs ys : List A) → concatMap f (xs ++ ys) ≡ concatMap f xs ++ concatMap f ys
@@ -36,7 +36,7 @@ size ds = length-written recordBytes recordSize record-wide ds
 abbrev pub zerosAfter : ℕ → List ℕ
 zerosAfter n = replicate (recordsSize - recordSize * n) 0
 
-module _ (R : Register) (f : WellFormed R) where
+module _ (R : Register) (f : Fits R) where
   -- the bytes before the records that follow `xs`, where n records are counted
   abbrev frontOf : ℕ → List Delegation → List ℕ
   frontOf n xs = (headOf (R .subjects) n ++ middlePart R) ++ concatMap recordBytes xs
