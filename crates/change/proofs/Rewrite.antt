@@ -4,15 +4,15 @@ use mathlib.Core.List.{List, [], _∷_, _++_, append-assoc}
 use Prim.Native.Nat.{ℕ, zero, suc, _+_, _*_, _-_, _≤_, _<_}
 use native.Mathlib.Nat.{not-suc-le-zero, le-of-suc-le-suc}
 use native.Mathlib.Omega.{arith}
-use lib.ListN.{length, getD, take, drop, set, replicate, length-append, length-drop, length-replicate, take-append-drop, replicate-append-replicate}
-use lib.Seq.{sets, sets-eq, length-take-le, drop-at, drop-cons, drop-drop, drop-append-add, drop-append-le, set-at, take-at}
+use lib.ListN.{length, getD, take, drop, set, replicate, length-append, length-drop, length-replicate, drop-of-length-le, take-append-drop, replicate-append-replicate}
+use lib.Seq.{sets, sets-eq, length-take-le, drop-at, drop-cons, drop-drop, drop-append-add, drop-append-le, set-at, take-all, take-at}
 use Rattle.rules.specs.List.{concatMap}
 use Rattle.rules.specs.Register.{Delegation, Register, reweigh, withDelegations, granted}
 use Rattle.rules.specs.Call.{fresh, enrolled}
 use Rattle.block.specs.Layout.{blockSize, mostSubjects, mostRecords, markSize, recordSize, marksSize, recordsSize, countAt, recordsAt, weightByte}
 use Rattle.block.specs.Bytes.{twoBytes, padded}
 use Rattle.block.specs.Block.{recordBytes, encode}
-use Rattle.block.specs.Fits.{Fits}
+use Rattle.block.specs.Fits.{Fits, empty}
 use Rattle.block.specs.Records.{markPlace, recordPlace}
 use Rattle.change.specs.Shift.{movedUp, movedDown}
 use Rattle.block.proofs.Bytes.{length-written}
@@ -35,6 +35,11 @@ size ds = length-written recordBytes recordSize record-wide ds
 -- the zeros after n records
 abbrev pub zerosAfter : ℕ → List ℕ
 zerosAfter n = replicate (recordsSize - recordSize * n) 0
+
+-- no bytes are between a place and itself
+none-moved : (b : List ℕ) (at : ℕ) → movedUp b at at ≡ b
+unfolding movedUp
+none-moved b at = let z : at - at ≡ 0 = omega arith in rw z (take-append-drop (at + recordSize) b)
 
 module _ (R : Register) (f : Fits R) where
   -- the bytes before the records that follow `xs`, where n records are counted
@@ -85,6 +90,15 @@ module _ (R : Register) (f : Fits R) where
       ∙ ap (λ (s : List ℕ). sets s countAt (twoBytes (n + 1))) (made ∙ ap (λ (z : List ℕ). frontOf n xs ++ (recordBytes d ++ (Y ++ z))) zs)
       ∙ count-set n (n + 1) xs (recordBytes d ++ (Y ++ zerosAfter (n + 1)))
       ∙ sym (encode-parts xs (d ∷ []) ys (n + 1) more)
+
+  -- a delegation put after all others
+  pub encode-append : (d : Delegation) → length (R .delegations) < mostRecords
+      → sets (sets (encode R) (recordPlace (length (R .delegations))) (recordBytes d)) countAt (twoBytes (length (R .delegations) + 1)) ≡ encode (withDelegations R (R .delegations ++ (d ∷ [])))
+  encode-append d room =
+      let n = length (R .delegations) in
+      ap (λ (s : List ℕ). sets (sets s (recordPlace n) (recordBytes d)) countAt (twoBytes (n + 1))) (sym (none-moved (encode R) (recordPlace n)))
+      ∙ encode-insert d n (omega arith) room
+      ∙ (λ i. encode (withDelegations R (take-all n (R .delegations) (omega arith) i ++ (d ∷ drop-of-length-le (R .delegations) {i = n} (omega arith) i))))
 
   -- the delegation at place k, and those after it
   module _ (k : ℕ) (l : k < length (R .delegations)) where
@@ -184,3 +198,8 @@ module _ (R : Register) (f : Fits R) where
 pub encode-fresh : set (replicate blockSize 0) 0 1 ≡ encode fresh
 unfolding encode
 encode-fresh = refl
+
+-- no subject and no delegation
+pub encode-empty : replicate blockSize 0 ≡ encode empty
+unfolding encode
+encode-empty = refl
