@@ -1,1 +1,2 @@
 pub mod FileRight
+pub mod Storing
