@@ -1,2 +1,3 @@
 pub mod FileRight
 pub mod Storing
+pub mod Rowing

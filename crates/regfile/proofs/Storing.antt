@@ -18,7 +18,11 @@ use Rattle.block.specs.Layout.{mostSubjects, mostRecords}
 use Rattle.block.specs.Block.{subjectsIn, countIn, decode, encode}
 use Rattle.block.specs.Fits.{DelegationFits, Fits, Fitting}
 use Rattle.block.proofs.Fitting.{fitting-subjects, fitting-count}
-use Rattle.text.specs.Text.{AllAllowed}
+use mir.Syntax.{w64}
+use mir.Val.{ofZ, toZ}
+use Rattle.text.specs.Text.{Allowed, AllAllowed}
+use Rattle.text.proofs.Signed.{kept, allowed-fits}
+use Rattle.text.proofs.Lines.{allowed-at}
 use Rattle.regfile.specs.FileText.{subjectColumns, delegationColumns, subjectRows, delegationRow, rowsOf, plainOf, valueAt, delegationOf}
 use Rattle.regfile.specs.Parsed.{withRow, Holds, Unformed, hasRoom, RowPut}
 use Rattle.regfile.proofs.FileRight.{length-subjects}
@@ -172,7 +176,7 @@ five-of (x ∷ y ∷ z ∷ u ∷ []) d h p q r s t = absurd (omega arith)
 five-of (x ∷ y ∷ z ∷ u ∷ v ∷ []) d h p q r s t = λ i. sym p i ∷ sym q i ∷ sym r i ∷ sym s i ∷ sym t i ∷ []
 five-of (x ∷ y ∷ z ∷ u ∷ v ∷ c ∷ cs) d h p q r s t = absurd (omega arith)
 
-room-fits : (d : Delegation) → T (hasRoom d) → DelegationFits d
+pub room-fits : (d : Delegation) → T (hasRoom d) → DelegationFits d
 room-fits d t =
     let w = leb (d .weight) 255 in
     let n = leb (d .need) 65535 in
@@ -242,3 +246,12 @@ module _ (b : List ℕ) (h : Fitting b) (row : List ℤ) where
             same = ap (λ (x : Delegation). map delegationRow (decode b .delegations ++ (x ∷ []))) (sym v) ∙ rows-more (decode b .delegations) d
                 ∙ ap (λ (r : List ℤ). map delegationRow (decode b .delegations) ++ (r ∷ [])) (sym same);
           }
+
+-- ── a column of a row ──
+module _ (row : List ℤ) (a : AllAllowed false row) (i : ℕ) (l : i < length row) where
+  -- it is read as it stands
+  pub column-held : toZ w64 (ofZ w64 (getD row i (pos 0))) ≡ getD row i (pos 0)
+  column-held = kept (getD row i (pos 0)) (allowed-fits false (getD row i (pos 0)) (allowed-at false row i l a))
+
+  pub column-plain : Allowed false (toZ w64 (ofZ w64 (getD row i (pos 0))))
+  column-plain = subst (Allowed false) (sym column-held) (allowed-at false row i l a)
