@@ -14,13 +14,15 @@ use Rattle.rules.specs.List.{_∈_, tabulate}
 use Rattle.rules.specs.Limit.{code}
 use Rattle.rules.specs.Pair.{isPair, stands}
 use Rattle.rules.specs.WellFormed.{WellFormed}
-use Rattle.rules.specs.Register.{Delegation, granted, noDelegation}
+use Rattle.rules.specs.Register.{Delegation, Register, granted, noDelegation}
 use Rattle.rules.proofs.Lists.{clash, either, getD-tabulate}
 use Rattle.block.specs.Layout.{blockSize, mostRecords}
 use Rattle.block.specs.Bytes.{IsBytes, readAll, leading}
 use Rattle.block.specs.Block.{subjectsIn, countIn, decode, encode}
 use Rattle.block.specs.WellFormed.{wellFormed}
+use Rattle.block.specs.Fits.{Fits, Fitting}
 use Rattle.block.proofs.Bytes.{length-tabulate, mem-tabulate}
+use Rattle.block.proofs.Fitting.{decode-encode, bytes-encode, formed-fits}
 use Rattle.block.proofs.Form.{Parts, parts, decode-formed, encode-decode}
 use Rattle.block.proofs.PairPlace.{leading-most, pairPlace, pair-at, weightAt-found, weightAt-missing}
 use Rattle.block.specs.Records.{HasHead, HasMarks, HasRecords, delegationAt, delegationsTo}
@@ -64,6 +66,9 @@ module _ (b : List ℕ) (bytes : IsBytes b) (formed : wellFormed b ≡ true) whe
   -- the block is the register that it holds, written
   pub held-written : b ≡ encode (decode b)
   held-written = sym (encode-decode b bytes rules-of)
+
+  pub held-fitting : Fitting b
+  held-fitting = record { fits = formed-fits (decode b) held-formed; written = held-written }
 
   pub subjects-held : decode b .subjects ≡ subjectsIn b
   unfolding decode
@@ -113,3 +118,7 @@ module _ (b : List ℕ) (bytes : IsBytes b) (formed : wellFormed b ≡ true) whe
         go : T (ltb k (countIn b)) ⊎ T (not (ltb k (countIn b))) → k < countIn b
         go (inl q) = ltb→lt k (countIn b) q
         go (inr q) = clash (sym s ∙ stands-missing (nltb→le k (countIn b) q))
+
+-- a register whose numbers have room is well formed where its block is
+pub fits-formed : (R : Register) → Fits R → wellFormed (encode R) ≡ true → WellFormed R
+fits-formed R f h = subst WellFormed (decode-encode R f) (held-formed (encode R) (bytes-encode R f) h)

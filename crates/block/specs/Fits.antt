@@ -1,6 +1,6 @@
 -- Registers whose numbers have room in a block, whatever rules they break (document 01, 'The block'). Assumes nothing.
 use mathlib.Core.Path.{_≡_}
-use mathlib.Core.List.{List}
+use mathlib.Core.List.{List, []}
 use Prim.Native.Nat.{ℕ, _≤_}
 use lib.ListN.{length}
 use Rattle.rules.specs.List.{_∈_}
@@ -27,3 +27,7 @@ pub record Fits (R : Register) : Type 0 where
 pub record Fitting (b : List ℕ) : Type 0 where
   pub fits : Fits (decode b)
   pub written : b ≡ encode (decode b)
+
+-- no subject and no delegation: no well-formed register, but its numbers have room
+abbrev pub empty : Register
+empty = record { subjects = 0; marks = []; delegations = [] }

@@ -1,1 +1,3 @@
-pub mod Passing
+pub mod FileRight
+pub mod Storing
+pub mod Rowing

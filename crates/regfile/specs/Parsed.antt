@@ -8,7 +8,7 @@ use lib.Dec.{eqb, leb}
 use lib.IntN.{ℤ}
 use lib.ListN.{length, drop}
 use Rattle.rules.specs.List.{concatMap}
-use Rattle.rules.specs.Register.{Register, withDelegations}
+use Rattle.rules.specs.Register.{Delegation, Register, withDelegations}
 use Rattle.rules.specs.WellFormed.{WellFormed}
 use Rattle.rules.specs.Call.{enrolled}
 use Rattle.block.specs.Block.{encode}
@@ -40,9 +40,9 @@ Unformed w rows = (S : Register) → WellFormed S → (more : List (List ℤ)) �
 
 -- ── one row ──
 
--- the numbers of a delegation have room in its bytes
-abbrev pub hasRoom : List ℤ → Bool
-hasRoom row = leb (valueAt row 0) 255 && (leb (valueAt row 1) 255 && (leb (valueAt row 2) 255 && (leb (valueAt row 3) 65535 && leb (valueAt row 4) 65535)))
+-- the test of DelegationFits
+abbrev pub hasRoom : Delegation → Bool
+hasRoom d = leb (d .giver) 255 && (leb (d .receiver) 255 && (leb (d .weight) 255 && (leb (d .need) 65535 && leb (d .bar) 65535)))
 
 -- a row stored after those of R, or left out
 pub record RowPut (w : ℕ) (R : Register) (row : List ℤ) (r : Bool) (after : List ℕ) : Type 0 where
