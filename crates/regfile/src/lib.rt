@@ -1,4 +1,7 @@
 // The text of a register: written from a block, and read into one.
+mod write;
+
+pub use write::render;
 
 // Where the text goes on after rows, and whether all of them have room in a block.
 pub struct Rows {
