@@ -1,3 +1,5 @@
 pub mod FileRight
 pub mod Storing
 pub mod Rowing
+pub mod Writing
+pub mod Sizes
