@@ -1,3 +1,4 @@
 pub mod FileRight
 pub mod Storing
 pub mod Rowing
+pub mod Parsing
