@@ -175,15 +175,15 @@ block-bytes : (ss ds : List (List ℤ)) → IsBytes (blockOf ss ds)
 unfolding blockOf
 block-bytes ss ds = cut-bytes (encode record { subjects = length ss; marks = map (λ row. valueAt row 1) ss; delegations = map delegationOf ds })
 
-subject-rows : (s : ℕ) (ms : List ℕ) → map (λ row. valueAt row 1) (subjectRows s ms) ≡ ms
-subject-rows s [] = refl
-subject-rows s (m ∷ ms) = ap (λ (x : List ℕ). m ∷ x) (subject-rows (suc s) ms)
+pub subject-marks : (s : ℕ) (ms : List ℕ) → map (λ row. valueAt row 1) (subjectRows s ms) ≡ ms
+subject-marks s [] = refl
+subject-marks s (m ∷ ms) = ap (λ (x : List ℕ). m ∷ x) (subject-marks (suc s) ms)
 
 pub length-subjects : (s : ℕ) (ms : List ℕ) → length (subjectRows s ms) ≡ length ms
 length-subjects s [] = refl
 length-subjects s (m ∷ ms) = ap suc (length-subjects (suc s) ms)
 
-delegation-rows : (ds : List Delegation) → map delegationOf (map delegationRow ds) ≡ ds
+pub delegation-rows : (ds : List Delegation) → map delegationOf (map delegationRow ds) ≡ ds
 delegation-rows [] = refl
 delegation-rows (d ∷ ds) = ap (λ (x : List Delegation). d ∷ x) (delegation-rows ds)
 
@@ -192,7 +192,7 @@ module _ (R : Register) (f : WellFormed R) where
   unfolding blockOf
   block-of =
       let n : length (subjectRows 0 (R .marks)) ≡ R .subjects = length-subjects 0 (R .marks) ∙ f .marked in
-      let m = subject-rows 0 (R .marks) in
+      let m = subject-marks 0 (R .marks) in
       let d = delegation-rows (R .delegations) in
       (λ i. map (λ x. x % 256) (encode record { subjects = n i; marks = m i; delegations = d i })) ∙ bytes-cut (encode R) (bytes-encode R f)
 
