@@ -3,7 +3,7 @@ use mathlib.Core.Path.{_≡_, refl, sym, ap, subst, _∙_}
 use mathlib.Core.Logic.{_≢_, _⊎_, inl, inr}
 use mathlib.Core.Bool.{Bool, true, false, cond, not}
 use mathlib.Core.List.{List}
-use Prim.Native.Nat.{ℕ, _≤_, zero-le, suc-le-suc}
+use Prim.Native.Nat.{ℕ, _≤_}
 use native.Mathlib.Omega.{arith}
 use borrow.Author.Tests.{eq-eqb, ne-eqb}
 use lib.Dec.{T, eqb, eqb→eq, T-not}
@@ -11,7 +11,6 @@ use lib.ListN.{length, drop, length-append, length-drop}
 use lib.Seq.{drop-at}
 use lib.IntN.{pos}
 use Rattle.rules.specs.Table.{TableRule}
-use Rattle.rules.specs.Register.{Register}
 use Rattle.rules.specs.WellFormed.{WellFormed}
 use Rattle.rules.specs.Call.{Call, fresh}
 use Rattle.rules.specs.Refusal.{firstOf}
@@ -31,7 +30,8 @@ use Rattle.block.proofs.Held.{held-formed}
 use Rattle.steptable.specs.TableText.{ours, given}
 use Rattle.steptable.specs.declared.Given.{Given}
 use Rattle.steptable.proofs.Right.{given-keeps}
-use Rattle.regfile.specs.FileText.{subjectNames, fileText, filed}
+use Rattle.regfile.specs.FileText.{fileText, filed}
+use Rattle.regfile.proofs.Sizes.{file-some, file-short}
 use Rattle.refusals.specs.Early.{early}
 use Rattle.register.specs.CallOn.{Result, turned, written, callOn, openOn}
 use Rattle.transfer.specs.FileOn.{WriteMade}
@@ -122,17 +122,13 @@ kept-read text table b = record {
 }
 
 -- ── write ──
-file-some : (R : Register) → 1 ≤ length (fileText R)
-unfolding fileText subjectNames
-file-some R = suc-le-suc zero-le
-
-module _ (short : (R : Register) → WellFormed R → length (fileText R) ≤ mostWritten) (b before : List ℕ) (o : Filled) (after : List ℕ) (bytes : IsBytes b) (made : WriteMade b before o after) where
+module _ (b before : List ℕ) (o : Filled) (after : List ℕ) (bytes : IsBytes b) (made : WriteMade b before o after) where
   write-range : o .refusal ≡ 0 → (1 ≤ o .length) × (o .length ≤ mostWritten) × (o .length ≤ length before)
   write-range e =
       let w = write-through b before (sym (made .refusal) ∙ e) in
       let n = made .text e .0 in
       let some = file-some (decode b) in
-      let most = short (decode b) (held-formed b bytes (w .formed)) in
+      let most = file-short (decode b) (held-formed b bytes (w .formed)) in
       (omega arith, omega arith, omega (arith, w .room))
 
   pub kept-write : KeptWrite before o after

@@ -1,4 +1,3 @@
-pub mod Weighed
 pub mod Writing
 pub mod Reading
 pub mod RoundTrip
