@@ -2,3 +2,5 @@ pub mod FileRight
 pub mod Storing
 pub mod Rowing
 pub mod Parsing
+pub mod Writing
+pub mod Sizes

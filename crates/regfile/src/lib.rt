@@ -1,7 +1,9 @@
 // The text of a register: written from a block, and read into one.
 mod read;
+mod write;
 
 pub use read::parse;
+pub use write::render;
 
 // Where the text goes on after rows, and whether all of them have room in a block.
 pub struct Rows {
