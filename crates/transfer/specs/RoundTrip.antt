@@ -14,7 +14,7 @@ use Rattle.block.specs.WellFormed.{wellFormed}
 use Rattle.steptable.specs.TableText.{given}
 use Rattle.regfile.specs.FileText.{fileText, filed}
 use Rattle.register.specs.CallOn.{Result}
-use Rattle.transfer.specs.FileOn.{holding, readOn}
+use Rattle.transfer.specs.FileOn.{readOn}
 
 -- a read of a text, with a step table's text, over a block
 abbrev pub reading : List ℕ → List ℕ → List ℕ → Result
