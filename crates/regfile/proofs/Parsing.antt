@@ -3,11 +3,11 @@ use mathlib.Core.Path.{_≡_, refl, sym, ap, subst, _∙_}
 use mathlib.Core.Logic.{_≢_, _⊎_, inl, inr}
 use mathlib.Core.Bool.{Bool, true, false}
 use mathlib.Core.List.{List, [], _∷_, _++_, map, append-assoc, append-nil, List·Memᴰ·not-nil}
-use Prim.Native.Nat.{ℕ, zero, suc, _+_, _≤_, _<_}
+use Prim.Native.Nat.{ℕ, zero, suc, _+_, _-_, _≤_, _<_}
 use native.Mathlib.Omega.{arith}
 use lib.IntN.{ℤ, pos, negsuc}
-use lib.ListN.{length, getD, drop, length-append, length-drop, drop-of-length-le}
-use lib.Seq.{drop-drop}
+use lib.ListN.{length, getD, take, drop, length-append, length-drop, drop-of-length-le}
+use lib.Seq.{drop-drop, take-all}
 use Rattle.rules.specs.List.{concatMap}
 use Rattle.rules.specs.Register.{Delegation, Register}
 use Rattle.rules.specs.WellFormed.{WellFormed}
@@ -25,7 +25,7 @@ use Rattle.text.proofs.Sizes.{line-long}
 use Rattle.text.proofs.Injective.{line-inj}
 use Rattle.text.specs.Rows.{rows}
 use Rattle.regfile.specs.FileText.{subjectNames, delegationNames, subjectColumns, delegationColumns, subjectRows, delegationRow, rowsOf, fileOf, fileText, AreRows, FileLines, Filed, refusedFile, passingFile, valueAt, delegationOf, filed}
-use Rattle.regfile.specs.Parsed.{withRow, withRows, Holds, Unformed, RowsRead, Parsed}
+use Rattle.regfile.specs.Parsed.{withRow, withRows, Holds, Unformed, RowsLent, RowsRead, Parsed}
 use Rattle.regfile.specs.declared.Rows.{Rows}
 use Rattle.regfile.proofs.FileRight.{filed-right, formed-lines, subject-marks, delegation-rows}
 
@@ -47,7 +47,7 @@ lines-unique w [] (y ∷ ys) s t a b m n e = absurd (m y (concatMap line ys ++ t
 lines-unique w (x ∷ xs) [] s t a b m n e = absurd (n x (concatMap line xs ++ s) (a .0) (a .1) (sym e ∙ append-assoc (line x) (concatMap line xs) s))
 lines-unique w (x ∷ xs) (y ∷ ys) s t a b m n e =
     let q = line-inj x y (concatMap line xs ++ s) (concatMap line ys ++ t) (a .0 ∙ sym (b .0)) (signed-too x (a .1)) (signed-too y (b .1))
-        (sym (append-assoc (line x) (concatMap line xs) s) ∙ e ∙ append-assoc (line y) (concatMap line ys) t) in
+    (sym (append-assoc (line x) (concatMap line xs) s) ∙ e ∙ append-assoc (line y) (concatMap line ys) t) in
     let r = lines-unique w xs ys s t (a .2) (b .2) m n (q .1) in
     (λ i. q .0 i ∷ r .0 i, r .1)
 
@@ -103,6 +103,19 @@ module _ (text : List ℕ) where
   unfolding subjectNames
   names-after s e = ap (drop 14) e
 
+  -- what the reading of the subjects' rows is lent
+  pub rows-lent : (n : Bool) → Begins text subjectNames n → n ≡ true → (b : List ℕ) → b ≡ encode empty → RowsLent text 14 (pos 0 ∷ pos 0 ∷ []) b true
+  unfolding subjectNames
+  rows-lent n m e b s = record {
+    within = omega (arith, ap length (m .yes e), length-append subjectNames (drop 14 text));
+    columns = inl refl;
+    block = λ t. subst Fitting (sym s) (encode-fitting empty empty-fits);
+  }
+
+  -- the part of the text from a place on
+  pub middle : (at : ℕ) (b : Bool) → Begins (take (length text - at) (drop at text)) delegationNames b → Begins (drop at text) delegationNames b
+  middle at b m = subst (λ (s : List ℕ). Begins s delegationNames b) (take-all (length text - at) (drop at text) (omega (arith, length-drop at text))) m
+
   module _ (b₀ b₁ : List ℕ) (start : b₀ ≡ encode empty) (r₁ : Rows) (m₁ : RowsRead text 14 subjectColumns (decode b₀) true r₁ b₁) where
     -- the text goes on after the subjects of every file
     module _ (ss ds : List (List ℤ)) (h : FileLines text ss ds) where
@@ -120,6 +133,15 @@ module _ (text : List ℕ) where
     middle-after s e =
         let k : r₁ .next + 32 ≡ 32 + r₁ .next = omega arith in
         sym (drop-drop 32 (r₁ .next) text) ∙ ap (drop 32) e
+
+    -- what the reading of the delegations' rows is lent
+    pub rows-lent-2 : (n : Bool) → Begins (drop (r₁ .next) text) delegationNames n → n ≡ true → RowsLent text (r₁ .next + 32) (pos 0 ∷ pos 0 ∷ pos 0 ∷ pos 0 ∷ pos 0 ∷ []) b₁ (r₁ .fits)
+    unfolding delegationNames
+    rows-lent-2 n m e = record {
+      within = omega (arith, ap length (m .yes e), length-append delegationNames (drop 32 (drop (r₁ .next) text)), length-drop (r₁ .next) text, m₁ .within);
+      columns = inr refl;
+      block = λ t. let h = m₁ .held t .1 in subst Fitting (sym (h .bytes)) (encode-fitting (withRows subjectColumns (decode b₀) (m₁ .rows)) (h .fits));
+    }
 
     module _ (b₂ : List ℕ) (r₂ : Rows) (m₂ : RowsRead text (r₁ .next + 32) delegationColumns (decode b₁) (r₁ .fits) r₂ b₂) where
       delegations-known : (ss ds : List (List ℤ)) → FileLines text ss ds → (m₂ .rows ≡ ds) × (drop (r₂ .next) text ≡ [])

@@ -140,7 +140,13 @@ pub fn parse(text: &[u8], b: &mut [u8]) -> u32
         return refusal::MALFORMED;
     }
     let mut delegation = [0i64; DELEGATION_COLUMNS];
-    let delegations = read_rows(text, middle + DELEGATION_NAMES_SIZE, &mut delegation, b, subjects.fits);
+    let delegations = read_rows(
+        text,
+        middle + DELEGATION_NAMES_SIZE,
+        &mut delegation,
+        b,
+        subjects.fits,
+    );
     if delegations.next < text.len() {
         return refusal::MALFORMED;
     }
