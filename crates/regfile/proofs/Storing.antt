@@ -1,19 +1,19 @@
 -- A row stored after those of a register, or one that no well-formed register has there. Assumes nothing.
 use mathlib.Core.Path.{_≡_, refl, sym, ap, subst, _∙_}
 use mathlib.Core.Logic.{_≢_, _⊎_, inl, inr}
-use mathlib.Core.Bool.{Bool, true, false, _&&_}
-use mathlib.Core.List.{List, [], _∷_, _++_, map, append-assoc, List·Memᴰ·head, List·Memᴰ·tail, List·Memᴰ·not-nil, List·Memᴰ·append-cases}
-use Prim.Native.Nat.{ℕ, zero, suc, _+_, _≤_, _<_}
+use mathlib.Core.Bool.{true, false, _&&_}
+use mathlib.Core.List.{List, [], _∷_, _++_, map, List·Memᴰ·head, List·Memᴰ·tail}
+use Prim.Native.Nat.{ℕ, suc, _+_, _≤_, _<_}
 use native.Mathlib.Nat.{add-zero, add-suc, suc-add, zero-add}
 use native.Mathlib.Omega.{arith}
 use lib.Dec.{T, leb, leb→le, le→leb}
 use lib.IntN.{ℤ, pos}
 use lib.ListN.{length, getD, drop, length-append, length-map}
 use Rattle.rules.specs.List.{_∈_}
-use Rattle.rules.specs.Register.{Delegation, Register, withDelegations, granted, fields}
-use Rattle.rules.specs.WellFormed.{DelegationFormed, WellFormed}
+use Rattle.rules.specs.Register.{Delegation, Register, withDelegations}
 use Rattle.rules.specs.Call.{enrolled}
 use Rattle.rules.proofs.Lists.{T-left, T-right, T-both, T-true, yes, clash, map-mem}
+use Rattle.rules.proofs.Chains.{mem-snoc}
 use Rattle.block.specs.Layout.{mostSubjects, mostRecords}
 use Rattle.block.specs.Block.{subjectsIn, countIn, decode, encode}
 use Rattle.block.specs.Fits.{DelegationFits, Fits, Fitting}
@@ -30,12 +30,11 @@ use Rattle.regfile.proofs.FileRight.{length-subjects}
 -- ── lists ──
 -- what holds of all and of one more holds of these
 all-more : {A : Type 0} (P : A → Type 0) (xs : List A) (y : A) → ((x : A) → x ∈ xs → P x) → P y → (x : A) → x ∈ (xs ++ (y ∷ [])) → P x
-all-more P xs y all one x m = go (List·Memᴰ·append-cases xs m)
+all-more P xs y all one x m = go (mem-snoc xs m)
   where
-    go : (x ∈ xs) ⊎ (x ∈ (y ∷ [])) → P x
+    go : (x ∈ xs) ⊎ (x ≡ y) → P x
     go (inl i) = all x i
-    go (inr (List·Memᴰ·head e)) = subst P (sym e) one
-    go (inr (List·Memᴰ·tail i)) = absurd (List·Memᴰ·not-nil i)
+    go (inr e) = subst P (sym e) one
 
 length-more : {A : Type 0} (xs : List A) (y : A) → length (xs ++ (y ∷ [])) ≡ suc (length xs)
 length-more xs y = length-append xs (y ∷ []) ∙ omega arith

@@ -25,7 +25,7 @@ use Rattle.regfile.proofs.FileRight.{filed-right, filed-number, filed-passing}
 use Rattle.register.specs.CallOn.{Result}
 use Rattle.transfer.specs.FileOn.{readRefusal, holding, readOn}
 use Rattle.transfer.specs.RoundTrip.{reading, RoundTrip}
-use Rattle.transfer.proofs.Reading.{Through, read-through, read-heavy, read-accepted, read-same}
+use Rattle.transfer.proofs.Reading.{read-through, read-heavy, read-accepted, read-same}
 
 -- ── an accepted read ──
 
