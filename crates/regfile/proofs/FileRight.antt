@@ -3,14 +3,14 @@ use mathlib.Core.Path.{_≡_, refl, sym, ap, subst, _∙_}
 use mathlib.Core.Logic.{_≢_, _⊎_, inl, inr}
 use mathlib.Core.Bool.{Bool, true, false, _&&_}
 use mathlib.Core.List.{List, [], _∷_, _++_, map, append-nil, append-assoc, List·Memᴰ·head, List·Memᴰ·tail}
-use Prim.Native.Nat.{ℕ, zero, suc, _+_, _%_, _≤_, _<_}
+use Prim.Native.Nat.{ℕ, zero, suc, _+_, _%_, _≤_}
 use native.Mathlib.Nat.{mod-lt, mod-eq-of-lt}
 use native.Mathlib.Omega.{arith}
-use lib.Dec.{T, leb, eqb, leb→le, le→leb, eqb→eq}
+use lib.Dec.{T, eqb, leb→le, le→leb, eqb→eq}
 use lib.IntN.{ℤ, pos, negsuc}
-use lib.ListN.{length, getD, drop}
+use lib.ListN.{length, drop}
 use Rattle.rules.specs.List.{_∈_, concatMap}
-use Rattle.rules.specs.Register.{Delegation, Register, fields}
+use Rattle.rules.specs.Register.{Delegation, Register}
 use Rattle.rules.specs.WellFormed.{DelegationFormed, WellFormed}
 use Rattle.rules.specs.Round.{equal}
 use Rattle.rules.proofs.Lists.{T-left, T-right, T-both, T-true, yes, eq→eqb}

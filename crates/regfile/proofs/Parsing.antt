@@ -1,15 +1,15 @@
 -- A whole text: refused by its form, by its numbers, or read. Assumes nothing.
 use mathlib.Core.Path.{_≡_, refl, sym, ap, subst, _∙_}
-use mathlib.Core.Logic.{_≢_, _⊎_, inl, inr}
+use mathlib.Core.Logic.{_≢_, inl, inr}
 use mathlib.Core.Bool.{Bool, true, false}
 use mathlib.Core.List.{List, [], _∷_, _++_, map, append-assoc, append-nil, List·Memᴰ·not-nil}
-use Prim.Native.Nat.{ℕ, zero, suc, _+_, _-_, _≤_, _<_}
+use Prim.Native.Nat.{ℕ, suc, _+_, _-_, _≤_, _<_}
 use native.Mathlib.Omega.{arith}
 use lib.IntN.{ℤ, pos, negsuc}
 use lib.ListN.{length, getD, take, drop, length-append, length-drop, drop-of-length-le}
 use lib.Seq.{drop-drop, take-all}
 use Rattle.rules.specs.List.{concatMap}
-use Rattle.rules.specs.Register.{Delegation, Register}
+use Rattle.rules.specs.Register.{Register}
 use Rattle.rules.specs.WellFormed.{WellFormed}
 use Rattle.rules.proofs.Lists.{clash, T-true}
 use Rattle.block.specs.Block.{decode, encode}
@@ -25,7 +25,7 @@ use Rattle.text.proofs.Sizes.{line-long}
 use Rattle.text.proofs.Injective.{line-inj}
 use Rattle.text.specs.Rows.{rows}
 use Rattle.regfile.specs.FileText.{subjectNames, delegationNames, subjectColumns, delegationColumns, subjectRows, delegationRow, rowsOf, fileOf, fileText, AreRows, FileLines, Filed, refusedFile, passingFile, valueAt, delegationOf, filed}
-use Rattle.regfile.specs.Parsed.{withRow, withRows, Holds, Unformed, RowsLent, RowsRead, Parsed}
+use Rattle.regfile.specs.Parsed.{withRow, withRows, Holds, RowsLent, RowsRead, Parsed}
 use Rattle.regfile.specs.declared.Rows.{Rows}
 use Rattle.regfile.proofs.FileRight.{filed-right, formed-lines, subject-marks, delegation-rows}
 

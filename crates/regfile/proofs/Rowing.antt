@@ -3,16 +3,15 @@ use mathlib.Core.Path.{_≡_, refl, sym, ap, subst, _∙_}
 use mathlib.Core.Logic.{_≢_, _⊎_, inl, inr}
 use mathlib.Core.Bool.{Bool, true, false}
 use mathlib.Core.List.{List, [], _∷_, _++_, append-assoc, append-nil}
-use Prim.Native.Nat.{ℕ, zero, suc, _+_, _-_, _≤_, _<_}
+use Prim.Native.Nat.{ℕ, _+_, _-_, _≤_, _<_}
 use native.Mathlib.Omega.{arith}
 use lib.IntN.{ℤ}
-use lib.ListN.{length, drop, length-append, length-drop, drop-of-length-le}
-use lib.Seq.{drop-drop}
+use lib.ListN.{length, drop, length-append, length-drop}
 use Rattle.rules.specs.List.{concatMap}
 use Rattle.rules.specs.Register.{Register}
 use Rattle.rules.proofs.Lists.{clash}
-use Rattle.block.specs.Block.{decode, encode}
-use Rattle.block.specs.Fits.{Fits, Fitting}
+use Rattle.block.specs.Block.{decode}
+use Rattle.block.specs.Fits.{Fitting}
 use Rattle.block.proofs.Fitting.{encode-fitting, decode-encode}
 use Rattle.text.specs.Text.{line, AllAllowed}
 use Rattle.text.specs.Read.{LineRead}

@@ -5,11 +5,10 @@ use Prim.Native.Nat.{ℕ, _-_}
 use lib.ListN.{length}
 use native.Mathlib.Omega.{arith}
 use borrow.Author.Tests.{not-true, not-false}
-use borrow.Author.Needs.{needs}
 use Rattle.block.specs.Block.{decode}
 use Rattle.regfile.specs.FileText.{subjectColumns, delegationColumns}
 use Rattle.regfile.specs.Parsed.{RowPut}
-use Rattle.regfile.proofs.Rowing.{Reading, rows-start, no-row, row-within, row-less, row-passed, row-fitting, row-put, text-end}
+use Rattle.regfile.proofs.Rowing.{Reading, rows-start, no-row, row-less, row-passed, row-fitting, row-put, text-end}
 use Rattle.regfile.proofs.read.read_rows.Statement.{statement}
 use Rattle.regfile.proofs.read.read_rows.Tie as tie
 
