@@ -49,7 +49,7 @@ module _ (w : ℕ) where
   rows-test [] h = tt
   rows-test (r ∷ rs) h = T-both (eqb (length r) w && allPlain r) (areRows w rs) (T-both (eqb (length r) w) (allPlain r) (eq→eqb (h .0)) (all-test r (h .1))) (rows-test rs (h .2))
 
-  test-rows : (rs : List (List ℤ)) → T (areRows w rs) → AreRows w rs
+  pub test-rows : (rs : List (List ℤ)) → T (areRows w rs) → AreRows w rs
   test-rows [] h = tt
   test-rows (r ∷ rs) h =
       let k = T-left (eqb (length r) w && allPlain r) (areRows w rs) h in
@@ -219,8 +219,7 @@ formed-lines R f = record {
 -- ── the lines of a text are determined ──
 pub lines-same : (text : List ℕ) (ss ds us es : List (List ℤ)) → FileLines text ss ds → FileLines text us es → (ss ≡ us) × (ds ≡ es)
 lines-same text ss ds us es h k =
-    let e : fileOf ss ds ≡ fileOf us es = sym (h .same) ∙ k .same in
-    (
+    let e : fileOf ss ds ≡ fileOf us es = sym (h .same) ∙ k .same in (
       sym (subjects-of ss ds (h .subjects) (h .delegations)) ∙ ap subjectsOf e ∙ subjects-of us es (k .subjects) (k .delegations),
       sym (delegations-of ss ds (h .subjects) (h .delegations)) ∙ ap delegationsOf e ∙ delegations-of us es (k .subjects) (k .delegations),
     )
