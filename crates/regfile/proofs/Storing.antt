@@ -2,18 +2,18 @@
 use mathlib.Core.Path.{_≡_, refl, sym, ap, subst, _∙_}
 use mathlib.Core.Logic.{_≢_, _⊎_, inl, inr}
 use mathlib.Core.Bool.{Bool, true, false, _&&_}
-use mathlib.Core.List.{List, [], _∷_, _++_, map, append-assoc, List·Memᴰ·head, List·Memᴰ·tail, List·Memᴰ·not-nil}
+use mathlib.Core.List.{List, [], _∷_, _++_, map, append-assoc, List·Memᴰ·head, List·Memᴰ·tail, List·Memᴰ·not-nil, List·Memᴰ·append-cases}
 use Prim.Native.Nat.{ℕ, zero, suc, _+_, _≤_, _<_}
 use native.Mathlib.Nat.{add-zero, add-suc, suc-add, zero-add}
 use native.Mathlib.Omega.{arith}
 use lib.Dec.{T, leb, leb→le, le→leb}
 use lib.IntN.{ℤ, pos}
-use lib.ListN.{length, getD, drop, length-append}
+use lib.ListN.{length, getD, drop, length-append, length-map}
 use Rattle.rules.specs.List.{_∈_}
 use Rattle.rules.specs.Register.{Delegation, Register, withDelegations, granted, fields}
 use Rattle.rules.specs.WellFormed.{DelegationFormed, WellFormed}
 use Rattle.rules.specs.Call.{enrolled}
-use Rattle.rules.proofs.Lists.{T-left, T-right, T-both, T-true, yes, clash}
+use Rattle.rules.proofs.Lists.{T-left, T-right, T-both, T-true, yes, clash, map-mem}
 use Rattle.block.specs.Layout.{mostSubjects, mostRecords}
 use Rattle.block.specs.Block.{subjectsIn, countIn, decode, encode}
 use Rattle.block.specs.Fits.{DelegationFits, Fits, Fitting}
@@ -28,15 +28,14 @@ use Rattle.regfile.specs.Parsed.{withRow, Holds, Unformed, hasRoom, RowP
 use Rattle.regfile.proofs.FileRight.{length-subjects}
 
 -- ── lists ──
-mem-last : {A : Type 0} (xs : List A) (y x : A) → x ∈ (xs ++ (y ∷ [])) → (x ∈ xs) ⊎ (x ≡ y)
-mem-last [] y x (List·Memᴰ·head e) = inr e
-mem-last [] y x (List·Memᴰ·tail m) = absurd (List·Memᴰ·not-nil m)
-mem-last (z ∷ xs) y x (List·Memᴰ·head e) = inl (List·Memᴰ·head e)
-mem-last (z ∷ xs) y x (List·Memᴰ·tail m) = go (mem-last xs y x m)
+-- what holds of all and of one more holds of these
+all-more : {A : Type 0} (P : A → Type 0) (xs : List A) (y : A) → ((x : A) → x ∈ xs → P x) → P y → (x : A) → x ∈ (xs ++ (y ∷ [])) → P x
+all-more P xs y all one x m = go (List·Memᴰ·append-cases xs m)
   where
-    go : (x ∈ xs) ⊎ (x ≡ y) → (x ∈ (z ∷ xs)) ⊎ (x ≡ y)
-    go (inl i) = inl (List·Memᴰ·tail i)
-    go (inr e) = inr e
+    go : (x ∈ xs) ⊎ (x ∈ (y ∷ [])) → P x
+    go (inl i) = all x i
+    go (inr (List·Memᴰ·head e)) = subst P (sym e) one
+    go (inr (List·Memᴰ·tail i)) = absurd (List·Memᴰ·not-nil i)
 
 length-more : {A : Type 0} (xs : List A) (y : A) → length (xs ++ (y ∷ [])) ≡ suc (length xs)
 length-more xs y = length-append xs (y ∷ []) ∙ omega arith
@@ -124,14 +123,10 @@ module _ (b : List ℕ) (h : Fitting b) (row : List ℤ) where
     enrolled-fits = record {
       most = omega (arith, room, fitting-subjects b h);
       marked = length-more (decode b .marks) m ∙ ap suc (h .fits .marked);
-      marks = λ x i. go x (mem-last (decode b .marks) m x i);
+      marks = all-more (λ (x : ℕ). x ≤ 65535) (decode b .marks) m (h .fits .marks) small;
       few = h .fits .few;
       each = h .fits .each;
     }
-      where
-        go : (x : ℕ) → (x ∈ decode b .marks) ⊎ (x ≡ m) → x ≤ 65535
-        go x (inl i) = h .fits .marks x i
-        go x (inr e) = omega (arith, e)
 
     pub subject-put : (after : List ℕ) → after ≡ encode (enrolled (decode b) m) → RowPut subjectColumns (decode b) row true after
     subject-put after e = record { put = λ t. held; out = λ t. clash t }
@@ -155,15 +150,6 @@ module _ (b : List ℕ) (h : Fitting b) (row : List ℤ) where
 rows-more : (ds : List Delegation) (d : Delegation) → map delegationRow (ds ++ (d ∷ [])) ≡ map delegationRow ds ++ (delegationRow d ∷ [])
 rows-more [] d = refl
 rows-more (e ∷ ds) d = ap (λ (t : List (List ℤ)). delegationRow e ∷ t) (rows-more ds d)
-
-row-of : (ds : List Delegation) (row : List ℤ) → row ∈ map delegationRow ds → (d : Delegation) × (d ∈ ds) × (row ≡ delegationRow d)
-row-of [] row m = absurd (List·Memᴰ·not-nil m)
-row-of (d ∷ ds) row (List·Memᴰ·head e) = (d, List·Memᴰ·head refl, e)
-row-of (d ∷ ds) row (List·Memᴰ·tail m) = let (e, i, q) = row-of ds row m in (e, List·Memᴰ·tail i, q)
-
-length-rows : (ds : List Delegation) → length (map delegationRow ds) ≡ length ds
-length-rows [] = refl
-length-rows (d ∷ ds) = ap suc (length-rows ds)
 
 -- a row of five plain numbers is that of a delegation
 pub five-of : (row : List ℤ) (d : Delegation) → length row ≡ 5 → pos (d .giver) ≡ getD row 0 (pos 0) → pos (d .receiver) ≡ getD row 1 (pos 0) → pos (d .weight) ≡ getD row 2 (pos 0) → pos (d .need) ≡ getD row 3 (pos 0) → pos (d .bar) ≡ getD row 4 (pos 0)
@@ -208,12 +194,12 @@ module _ (b : List ℕ) (h : Fitting b) (row : List ℤ) where
 
   pub delegations-full : mostRecords ≤ countIn b → RowPut delegationColumns (decode b) row false b
   delegations-full l = left-out b h row delegationColumns b (λ S f more e.
-      absurd (omega (arith, l, fitting-count b h, standing S more e .long, f .few, length-rows (S .delegations), length-rows (decode b .delegations))))
+      absurd (omega (arith, l, fitting-count b h, standing S more e .long, f .few, length-map (S .delegations) delegationRow, length-map (decode b .delegations) delegationRow)))
 
   module _ (d : Delegation) (same : row ≡ delegationRow d) where
     pub delegation-large : hasRoom d ≡ false → RowPut delegationColumns (decode b) row false b
     delegation-large n = left-out b h row delegationColumns b (λ S f more e.
-        let (x, i, q) = row-of (S .delegations) row (standing S more e .inside) in
+        let (x, i, q) = map-mem delegationRow (S .delegations) (standing S more e .inside) in
         let k = f .each x i in
         let y : d ≡ x = ap delegationOf (sym same ∙ q) in
         let t = fits-room x record { giver = omega (arith, k .giver, f .most); receiver = omega (arith, k .receiver, f .most); weight = k .weight; need = k .need; bar = k .bar } in
@@ -226,12 +212,8 @@ module _ (b : List ℕ) (h : Fitting b) (row : List ℤ) where
         marked = h .fits .marked;
         marks = h .fits .marks;
         few = omega (arith, room, fitting-count b h, length-more (decode b .delegations) d);
-        each = λ x i. go x (mem-last (decode b .delegations) d x i);
+        each = all-more DelegationFits (decode b .delegations) d (h .fits .each) (room-fits d (yes t));
       }
-        where
-          go : (x : Delegation) → (x ∈ decode b .delegations) ⊎ (x ≡ d) → DelegationFits x
-          go x (inl i) = h .fits .each x i
-          go x (inr e) = subst DelegationFits (sym e) (room-fits d (yes t))
 
       pub delegation-put : (after : List ℕ) → after ≡ encode (withDelegations (decode b) (decode b .delegations ++ (d ∷ []))) → RowPut delegationColumns (decode b) row true after
       delegation-put after e = record { put = λ u. held; out = λ u. clash u }

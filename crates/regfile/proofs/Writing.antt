@@ -28,6 +28,7 @@ use Rattle.block.specs.WellFormed.{wellFormed}
 use Rattle.block.proofs.Held.{rules-of, has-marks, has-records, held-formed, subjects-held, count-held, marks-held, delegation-held}
 use Rattle.change.proofs.Rewrite.{concatMap-append}
 use Rattle.regfile.specs.FileText.{subjectNames, delegationNames, subjectRows, delegationRow, subjectColumns, delegationColumns, rowsOf, fileText}
+use Rattle.regfile.proofs.FileRight.{length-subjects}
 
 -- ── one row, as the machine holds it ──
 
@@ -65,16 +66,12 @@ subject-row s i [] l = absurd (not-suc-le-zero l)
 subject-row s zero (m ∷ ms) l = rw add-zero
 subject-row s (suc i) (m ∷ ms) l = let e : suc s + i ≡ s + suc i = omega arith in subject-row (suc s) i ms (le-of-suc-le-suc l) ∙ ap (λ (k : ℕ). map pos (k ∷ getD ms i 0 ∷ [])) e
 
-subject-rows : (s : ℕ) (ms : List ℕ) → length (subjectRows s ms) ≡ length ms
-subject-rows s [] = refl
-subject-rows s (m ∷ ms) = ap suc (subject-rows (suc s) ms)
-
 module _ (b : List ℕ) (bytes : IsBytes b) (formed : wellFormed b ≡ true) where
   marks-count : length (decode b .marks) ≡ subjectsIn b
   marks-count = held-formed b bytes formed .marked ∙ subjects-held b bytes formed
 
   pub subject-count : length (rowsOf subjectColumns (decode b)) ≡ subjectsIn b
-  subject-count = subject-rows 0 (decode b .marks) ∙ marks-count
+  subject-count = length-subjects 0 (decode b .marks) ∙ marks-count
 
   pub delegation-count : length (rowsOf delegationColumns (decode b)) ≡ countIn b
   delegation-count = length-map (decode b .delegations) delegationRow ∙ count-held b bytes formed
