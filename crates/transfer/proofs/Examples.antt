@@ -1,5 +1,5 @@
 -- The examples of reads hold. Assumes nothing.
-use mathlib.Core.Path.{_≡_, refl, sym, ap, _∙_}
+use mathlib.Core.Path.{_≡_, refl, ap, _∙_}
 use mathlib.Core.Bool.{Bool, true, false, cond}
 use mathlib.Core.List.{List, []}
 use Prim.Native.Nat.{ℕ}
@@ -19,14 +19,13 @@ use Rattle.rules.specs.Examples.{two, twos}
 use Rattle.rules.proofs.Answers.{twos-rule}
 use Rattle.block.specs.Layout.{blockSize}
 use Rattle.text.specs.Text.{digits}
-use Rattle.steptable.specs.TableText.{tableText, AreNexts, Holds, passing, given}
-use Rattle.steptable.specs.declared.Given.{Given}
+use Rattle.steptable.specs.TableText.{tableText, AreNexts, passing, given}
 use Rattle.steptable.proofs.Right.{test-entries, given-right}
-use Rattle.regfile.specs.FileText.{subjectNames, delegationNames, fileText, Filed, passingFile, filed}
+use Rattle.regfile.specs.FileText.{subjectNames, delegationNames, fileText, passingFile}
 use Rattle.regfile.specs.Examples.{three, pairs, sample}
 use Rattle.regfile.proofs.FileRight.{filed-right}
 use Rattle.regfile.proofs.Examples.{pairs-formed, none-formed}
-use Rattle.register.specs.CallOn.{Result, turned}
+use Rattle.register.specs.CallOn.{turned}
 use Rattle.transfer.specs.FileOn.{holding, readOn}
 use Rattle.transfer.specs.RoundTrip.{reading}
 use Rattle.transfer.specs.Examples.{Examples}
@@ -56,16 +55,16 @@ twos-heavy : tooHeavy twos sample pairs ≡ true
 unfolding larger next two twos meets limitFrom goesOn chains reach allowed
 twos-heavy = refl
 
-twos-given : given (tableText twos) ≡ passing twos
-twos-given = given-right .passes (tableText twos) twos record { size = size; entries = entries; same = refl } twos-rule
-  where
-    size : length twos ≡ 256
-    unfolding two twos
-    size = refl
+twos-size : length twos ≡ 256
+unfolding two twos
+twos-size = refl
 
-    entries : AreNexts twos
-    unfolding two twos fromNone
-    entries = test-entries twos tt
+twos-entries : AreNexts twos
+unfolding two twos fromNone
+twos-entries = test-entries twos tt
+
+twos-given : given (tableText twos) ≡ passing twos
+twos-given = given-right .passes (tableText twos) twos record { size = twos-size; entries = twos-entries; same = refl } twos-rule
 
 pub examples-hold : Examples
 unfolding subjectNames delegationNames fileText digits
