@@ -13,6 +13,7 @@ pub mod judge;
 pub mod listfile;
 pub mod random;
 pub mod refusal;
+pub mod regfile;
 pub mod remainder;
 pub mod search;
 pub mod table;
