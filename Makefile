@@ -99,9 +99,9 @@ drawing: $(drawing)
 	$(drawing) > target/drawing/p5.svg
 	cp target/drawing/p5.svg docs/p5.svg
 
-$(drawing): $(wildcard docs/drawing/*.rs) tests/compare/entry.rs tests/compare/lent.rs $(second) $(generate) $(archive)
+$(drawing): $(wildcard docs/drawing/*.rs) tests/compare/entry.rs tests/compare/lent.rs $(readers) $(second) $(generate) $(archive)
 	@mkdir -p $(@D)
-	$(rust) -A dead_code --crate-name drawing docs/drawing/main.rs $(linked) -o $@
+	$(rust) -A dead_code --crate-name drawing docs/drawing/main.rs $(linked) -C link-arg=$(readers) -o $@
 
 $(generate): $(wildcard tests/second/generate/*.rs) $(second)
 	$(rust) --extern second=$(second) --crate-type rlib --crate-name generate tests/second/generate/lib.rs --out-dir $(@D)

@@ -42,6 +42,14 @@ extern "C" {
         block: *mut u8, block_len: usize, by: u32, giver: u32, receiver: u32, weight: u32,
         table: *const u8, table_len: usize, answers: *mut u8, answers_len: usize,
     ) -> u32;
+    fn seatreg_write(
+        block: *const u8, block_len: usize, text: *mut u8, text_len: usize,
+        answers: *mut u8, answers_len: usize,
+    ) -> u32;
+    fn seatreg_read(
+        block: *mut u8, block_len: usize, text: *const u8, text_len: usize,
+        table: *const u8, table_len: usize, answers: *mut u8, answers_len: usize,
+    ) -> u32;
 }
 
 /// An entry point: a call, lent a table's text or not.
@@ -110,4 +118,19 @@ pub fn entry_call_table(n: &Passed, block: &mut Lent, table: &mut Lent, answers:
             _ => unreachable!("the call takes no table"),
         }
     }
+}
+
+/// Writes the register of a block as text; answers the number returned.
+pub fn entry_write(block: &mut Lent, text: &mut Lent, answers: &mut Lent) -> u32 {
+    let (b, b_len, a, a_len) = (block.pointer(), block.len(), answers.pointer(), answers.len());
+    // Each pointer is valid for its length, and the three buffers lie apart.
+    unsafe { seatreg_write(b, b_len, text.pointer(), text.len(), a, a_len) }
+}
+
+/// Reads a register file into a block; answers the number returned.
+pub fn entry_read(block: &mut Lent, text: &mut Lent, table: &mut Lent, answers: &mut Lent) -> u32 {
+    let (b, b_len, a, a_len) = (block.pointer(), block.len(), answers.pointer(), answers.len());
+    let (t, t_len) = (table.pointer(), table.len());
+    // Each pointer is valid for its length, and the four buffers lie apart.
+    unsafe { seatreg_read(b, b_len, text.pointer(), text.len(), t, t_len, a, a_len) }
 }
