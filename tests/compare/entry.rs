@@ -52,35 +52,37 @@ extern "C" {
     ) -> u32;
 }
 
-/// An entry point: a call, lent a table's text or not.
+/// An entry point: a call, lent a table's text or not, or a call on a register file.
 #[derive(Clone, Copy, PartialEq, Eq)]
-pub struct Entry {
-    pub call: Call,
-    pub table: bool,
+pub enum Entry {
+    Without(Call),
+    WithTable(Call),
+    File(FileCall),
+}
+
+/// The calls on a register file. Read is lent a table's text, write is not.
+#[derive(Clone, Copy, Debug, PartialEq, Eq)]
+pub enum FileCall {
+    Write,
+    Read,
 }
 
 /// All of them, in the header's order.
-pub const ENTRIES: [Entry; 11] = [
-    without_table(Call::Open),
-    without_table(Call::Enrol),
-    without_table(Call::Grant),
-    without_table(Call::Reach),
-    without_table(Call::Use),
-    without_table(Call::Revoke),
-    without_table(Call::Downgrade),
-    with_table(Call::Grant),
-    with_table(Call::Reach),
-    with_table(Call::Revoke),
-    with_table(Call::Downgrade),
+pub const ENTRIES: [Entry; 13] = [
+    Entry::Without(Call::Open),
+    Entry::Without(Call::Enrol),
+    Entry::Without(Call::Grant),
+    Entry::Without(Call::Reach),
+    Entry::Without(Call::Use),
+    Entry::Without(Call::Revoke),
+    Entry::Without(Call::Downgrade),
+    Entry::WithTable(Call::Grant),
+    Entry::WithTable(Call::Reach),
+    Entry::WithTable(Call::Revoke),
+    Entry::WithTable(Call::Downgrade),
+    Entry::File(FileCall::Write),
+    Entry::File(FileCall::Read),
 ];
-
-const fn without_table(call: Call) -> Entry {
-    Entry { call, table: false }
-}
-
-const fn with_table(call: Call) -> Entry {
-    Entry { call, table: true }
-}
 
 /// Makes a call on two lent buffers; answers the number returned.
 pub fn entry_call(n: &Passed, block: &mut Lent, answers: &mut Lent) -> u32 {
