@@ -91,7 +91,7 @@ $(readers): tests/compare/readers.c $(header)
 bench: $(bench)
 	$(bench)
 
-$(bench): $(wildcard bench/*.rs) tests/compare/entry.rs tests/compare/lent.rs $(second) $(generate) $(archive)
+$(bench): $(wildcard bench/*.rs) tests/compare/contents.rs tests/compare/entry.rs tests/compare/lent.rs $(second) $(generate) $(archive)
 	@mkdir -p $(@D)
 	$(rust) -A dead_code --crate-name bench bench/main.rs $(linked) -o $@
 
