@@ -1,8 +1,8 @@
 #!/usr/bin/env bash
 # The C side: the archive, the header, a short comparison with the second
 # implementation on fixed random calls, its self test, the example hosts, the
-# host in README.md, the stack of every call, the drawing, a build of the
-# measurement, what is installed, and the tar file.
+# host in README.md, the stack of every call, a build of the measurement, what
+# is installed, and the tar file.
 set -euo pipefail
 
 here="$(cd "$(dirname "${BASH_SOURCE[0]}")" && pwd)"
@@ -195,13 +195,6 @@ stack() {
         ! grep -LF "$bound" README.md include/seatreg.h | grep .
 }
 
-# The committed drawing is what the archive's blocks give.
-drawing() {
-    make -s target/drawing/drawing &&
-        target/drawing/drawing >"$out/p5.svg" &&
-        cmp docs/p5.svg "$out/p5.svg"
-}
-
 # The whole host in README.md prints what the block after it says.
 readme() {
     rm -f "$out/readme.c" "$out/readme.expected" &&
@@ -283,7 +276,6 @@ step "hosts" make -s host
 step "hosts in 64 KiB of stack" small_stack
 step "host of README.md" readme
 step "stack of every call" stack
-step "drawing" drawing
 step "build of the measurement" make -s target/bench/bench
 step "hosts with what is installed" installed
 step "tar file" tarred
