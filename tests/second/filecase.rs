@@ -1,17 +1,17 @@
 //! Case files of the kind `file`: the calls of document 02's C-13, and others among
 //! them. A line is seven numbers, a register's file, a step table's text and a block:
 //! `call by giver receiver weight need bar FILE TABLE BLOCK`. Calls 0 to 7 are those
-//! of the other kinds, lent the table's text if it is not empty; 8 is write, with its
-//! buffer's length as the weight, and 9 is read. FILE, TABLE and BLOCK are `=`, the
-//! bytes that the line before left, or `LENGTH:BYTES`.
+//! of the other kinds, and those that take a table are lent the text; 8 is write,
+//! with its buffer's length as the weight, and 9 is read. FILE, TABLE and BLOCK are
+//! `=`, the bytes that the line before left, or `LENGTH:BYTES`.
 //! The expected line is `refusal first second third LEFT`, where LEFT is the block,
 //! for write the file: an accepted write leaves what it wrote in the place of the
 //! file before. It is `=` if no byte changed. Write is called three times, each time
 //! on a fresh buffer: by the function that counts its bytes, which gives the first
-//! answer, -1 if it is wrong about them or a byte past them changed; and twice by the
-//! one that hands back its part, which gives the second of the whole buffer
-//! afterwards and the third of the part. Accepted, these two are 1 if the bytes are
-//! those that were counted, and the rest is kept; refused, 0 if nothing was written.
+//! answer, -1 if a byte past them changed; and twice by the one that hands back its
+//! part, which gives the second of the whole buffer afterwards and the third of the
+//! part. Accepted, these two are 1 if the bytes are those that were counted, and the
+//! rest is kept; refused, 0 if nothing was written.
 
 use crate::call::Outcome;
 use crate::callfile::{from_values, joined, lines, read_values, values_of};

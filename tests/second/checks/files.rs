@@ -7,15 +7,17 @@ use generate::filetexts::{
     with_delegations, with_line, with_subjects, wrapped, DELEGATION, LAST, LAST_SUBJECT, OWNER, SUBJECT,
 };
 use generate::registerfiles::{changed, registers_of_other_kinds, small};
-use generate::{broken, full, texts, unsupported};
+use generate::{broken, full, listfiles, texts, unsupported};
 use second::block::{decode, encode, well_formed, Delegation, Register, BLOCK_LEN};
-use second::call::{Outcome, Written};
+use second::call::{run_table, Outcome, Written};
 use second::engine::{Engine, FAST, LITERAL};
 use second::host::{host_read, host_write};
+use second::listfile::{passed, NUMBERS};
 use second::random::{random_register, random_table, Random, Shape};
 use second::regfile::{applying_to_read, file_text, read, write, Rows, LEAST_TEXT, READ_REFUSALS};
 use second::remainder::is_supported;
 use second::table::{Table, OURS};
+use std::collections::BTreeSet;
 
 /// What a block holds before a read.
 const BEFORE: u8 = 0xA5;
@@ -144,10 +146,25 @@ fn large_registers_are_read_back() {
     assert!(supported > 1000 && lowered > 100, "{supported} {lowered}");
 }
 
-/// Every register of the other kinds of cases: 18 exactly where a round would change it.
+/// Every register that a recorded list of calls comes to, once.
+fn registers_of_lists() -> Vec<Register> {
+    let mut blocks = BTreeSet::new();
+    for list in listfiles::all().into_iter().filter(|list| list.refusal() == 0) {
+        let mut block = encode(&Register::fresh());
+        for call in list.numbers.chunks_exact(NUMBERS) {
+            let (Some(n), Some(text)) = (passed(call), list.text(call)) else { continue };
+            run_table(&FAST, &n, text, &mut block);
+            blocks.insert(block.clone());
+        }
+    }
+    blocks.iter().filter_map(|block| decode(block)).collect()
+}
+
+/// Every register of the other kinds of cases and of the lists: 18 exactly where a
+/// round would change it.
 #[test]
 fn registers_of_other_kinds_are_read_back() {
-    let registers = registers_of_other_kinds();
+    let registers = [registers_of_other_kinds(), registers_of_lists()].concat();
     let mut refused = 0;
     for register in &registers {
         let supported = settled(&OURS, register) == *register;
@@ -155,7 +172,17 @@ fn registers_of_other_kinds_are_read_back() {
         assert_eq!(read_by(&FAST, &written(&encode(register)), b""), due);
         refused += !supported as u32;
     }
-    assert!(registers.len() > 2000 && refused > 300, "{} {refused}", registers.len());
+    assert!(registers.len() > 2600 && refused > 300, "{} {refused}", registers.len());
+}
+
+/// Texts far longer than any register's file.
+#[test]
+fn long_texts_are_judged_by_their_lines() {
+    let long = |line: &str| format!("subject marks\n0 0\n{}\ngiver receiver weight need bar\n", line.repeat(200_000));
+    assert_eq!(["0 0\n", "1 65536\n", "4294967295 0\n"].map(|line| refusal(long(line).as_bytes())), [8; 3]);
+    assert_eq!(["0  0\n", "1 65536 \n", "4294967296 0\n"].map(|line| refusal(long(line).as_bytes())), [7; 3]);
+    assert_eq!(refusal(&[EXAMPLE, &b"1 2 8 0 0\n".repeat(100_000)].concat()), 8);
+    assert_eq!(refusal(&[EXAMPLE, &b"1 2 8 0 0\n".repeat(100_000), b"1"].concat()), 7);
 }
 
 /// What is due for a text before its table is looked at, by other means than the
