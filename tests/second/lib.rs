@@ -8,6 +8,7 @@ pub mod casefile;
 pub mod chain;
 pub mod cut;
 pub mod engine;
+pub mod filecase;
 pub mod host;
 pub mod judge;
 pub mod listfile;
