@@ -316,7 +316,8 @@ SEATREG_CALL uint32_t seatreg_write(const uint8_t *block, size_t block_len,
 
 /* Read: writes the block of a register file.
  *   text: the file, only read. text_len is its own length, after seatreg_write the first answer, and
- *     not that of a buffer in which it lies: whatever follows its last line gets 7.
+ *     not that of a buffer in which it lies: whatever follows its last line gets 7. It has no limit, but
+ *     a text longer than SEATREG_TEXT_SIZE is no register's file, and may be turned away unread.
  *   table: as for the calls above: the text of the table that the register is kept under, or table_len
  *     0 for ours. Every delegation of the file must be supported by it, else 18.
  *   Refusals in order: 1, 7, 17, 8, 18.
