@@ -8,7 +8,7 @@
  * host needs.
  *
  * THE BLOCK. A register is 2,180 bytes that the host owns. There is nothing else: no state between
- * calls, no allocation, no file, no clock. The bytes mean the same on every machine, so a block may
+ * calls, no allocation, no file opened, no clock. The bytes mean the same on every machine, so a block may
  * be copied, saved and loaded as it is. Change it by calls only. The readers at the end list what
  * it holds, and seatreg_write writes it as text.
  *
@@ -23,7 +23,7 @@
  *
  * THE STEP TABLE has a next for each weight: what a limit falls to at one step, -1 where nothing may
  * follow. In ours 0 gives -1, each other weight one less, and 255 keeps 255. The calls whose names end
- * in _table are lent another one, as text; all others use ours.
+ * in _table, and read, are lent one as text; all others that need a table use ours.
  *   - Its form: the line "weight next", then a line of a weight and its next for each of the weights 0
  *     to 255, in order. Numbers are decimal and at most 4,294,967,295, one space between, no leading
  *     zero, no sign but that of -1, which only a next may be. Every line ends with byte 10, the last
@@ -60,7 +60,7 @@
  *     weight, it is refused with 18. Another table may refuse what the right one supports, and accept
  *     what the next cut under the right one lowers or drops.
  *   - So every register is written, but one that the table doesn't support is not read back: 18. Where
- *     every call from open on was lent the same table, the register is supported by it. Where not,
+ *     every call from open on was made under the same table, the register is supported by it. Where not,
  *     store the block too.
  *
  * WHAT THE HOST MUST SEE TO. Nothing can check these, and what a call does without them is undefined.
