@@ -140,14 +140,14 @@ fn with_odd_line(random: &mut Random, text: &[u8]) -> Vec<u8> {
     let any = random.below(lines.len() as u32) as usize;
     let at = random.pick(&[any, any, any, empty, lines.len() - 1]);
     let line = lines[at].trim_end().to_string();
-    match random.below(16) {
+    match random.below(20) {
         0 => lines[at] = format!("{line}\r\n"),
         1 => lines[at] = format!("{line} \n"),
         2 => lines[at] = format!(" {line}\n"),
         3 => lines[at] = line.replacen(' ', "  ", 1) + "\n",
         4 => lines[at] = line.replacen(' ', "\t", 1) + "\n",
         5 => lines[at] = format!("{line}\n\n"),
-        6 => lines[at] = format!("{line}\n{line}\n"),
+        6 | 18 | 19 => lines[at] = format!("{line}\n{line}\n"),
         7 => lines[at] = line,
         8 => drop(lines.remove(at)),
         9 => lines[at] = format!("{line} 0\n"),
@@ -156,6 +156,7 @@ fn with_odd_line(random: &mut Random, text: &[u8]) -> Vec<u8> {
             lines.swap(at, next);
         }
         12 | 13 => lines[at] = with_column(random, &line, |number| format!("0{number}")),
+        14 | 15 => lines[at] = with_column(random, &line, too_large),
         _ => {
             let odd = odd_number(random);
             lines[at] = with_column(random, &line, |_| odd.to_string());
@@ -170,6 +171,11 @@ fn with_column(random: &mut Random, line: &str, change: impl Fn(&str) -> String)
     let at = random.below(columns.len() as u32) as usize;
     columns[at] = change(&columns[at]);
     columns.join(" ") + "\n"
+}
+
+/// The number with 4,294,967,296 added; what is no number stays.
+fn too_large(number: &str) -> String {
+    number.parse::<u64>().map_or(number.to_string(), |number| (number + (1 << 32)).to_string())
 }
 
 /// Files that differ by more: too many lines or none, a part twice or missing, bytes after the end.

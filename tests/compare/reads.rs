@@ -22,8 +22,13 @@ const ACCEPTED: &[Part] = &[Part::Number, Part::Block, Part::Answers];
 const NUMBER: &[Part] = &[Part::Number];
 const BLOCK: &[Part] = &[Part::Block];
 
-pub const READS: [Fault; 28] = [
+pub const READS: [Fault; 30] = [
     wrong("a leading zero accepted", ACCEPTED, |lent| read_as(lent, without_zeros(&lent.file))),
+    wrong("numbers cut down to 32 bits", ACCEPTED, |lent| read_as(lent, with_numbers(&lent.file, |number| number % (1 << 32)))),
+    wrong("8 for a number of more than 32 bits", NUMBER, |lent| {
+        let (number, left) = read_as(lent, with_numbers(&lent.file, |number| number.min(u32::MAX as u64)));
+        if number == NOT_WELL_FORMED { (number, left) } else { right(lent) }
+    }),
     wrong("two spaces accepted", ACCEPTED, |lent| read_as(lent, without_twice(&lent.file, b' '))),
     wrong("a second empty line accepted", ACCEPTED, |lent| read_as(lent, without_twice_empty(&lent.file))),
     wrong("byte 13 before byte 10 accepted", ACCEPTED, |lent| read_as(lent, without(&lent.file, b'\r'))),
@@ -136,6 +141,16 @@ fn without_zeros(text: &[u8]) -> Vec<u8> {
         }
     }
     kept
+}
+
+/// The text with its numbers of more than 32 bits changed.
+fn with_numbers(text: &[u8], change: fn(u64) -> u64) -> Vec<u8> {
+    let changed = |part: &[u8]| match std::str::from_utf8(part).ok().and_then(|part| part.parse::<u64>().ok()) {
+        Some(number) if number > u32::MAX as u64 => change(number).to_string().into_bytes(),
+        _ => part.to_vec(),
+    };
+    let line = |line: &[u8]| line.split(|&byte| byte == b' ').map(changed).collect::<Vec<_>>().join(&b' ');
+    text.split(|&byte| byte == b'\n').map(line).collect::<Vec<_>>().join(&b'\n')
 }
 
 fn without(text: &[u8], left_out: u8) -> Vec<u8> {
