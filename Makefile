@@ -5,7 +5,7 @@
 #   make compare [SEED=n] [CASES=n]   random calls through the archive and the second implementation
 #   make self-test                    the same with faults put in on purpose: each must be found
 #   make bench                        both measured side by side: nanoseconds a call, and the ratio
-#   make drawing                      writes docs/p5.svg anew
+#   make drawing                      writes the drawings in docs anew
 #   make stack                        bytes of stack that each call needs
 #   make install [PREFIX=dir] [DESTDIR=dir]
 #   make uninstall [PREFIX=dir] [DESTDIR=dir]
@@ -91,17 +91,18 @@ $(readers): tests/compare/readers.c $(header)
 bench: $(bench)
 	$(bench)
 
-$(bench): $(wildcard bench/*.rs) tests/compare/entry.rs tests/compare/lent.rs $(second) $(generate) $(archive)
+$(bench): $(wildcard bench/*.rs) tests/compare/contents.rs tests/compare/entry.rs tests/compare/lent.rs $(second) $(generate) $(archive)
 	@mkdir -p $(@D)
 	$(rust) -A dead_code --crate-name bench bench/main.rs $(linked) -o $@
 
 drawing: $(drawing)
 	$(drawing) > target/drawing/p5.svg
-	cp target/drawing/p5.svg docs/p5.svg
+	$(drawing) examples/dealers.register > target/drawing/dealers.svg
+	cp target/drawing/p5.svg target/drawing/dealers.svg docs
 
-$(drawing): $(wildcard docs/drawing/*.rs) tests/compare/entry.rs tests/compare/lent.rs $(second) $(generate) $(archive)
+$(drawing): $(wildcard docs/drawing/*.rs) tests/compare/entry.rs tests/compare/lent.rs $(readers) $(second) $(generate) $(archive)
 	@mkdir -p $(@D)
-	$(rust) -A dead_code --crate-name drawing docs/drawing/main.rs $(linked) -o $@
+	$(rust) -A dead_code --crate-name drawing docs/drawing/main.rs $(linked) -C link-arg=$(readers) -o $@
 
 $(generate): $(wildcard tests/second/generate/*.rs) $(second)
 	$(rust) --extern second=$(second) --crate-type rlib --crate-name generate tests/second/generate/lib.rs --out-dir $(@D)
@@ -163,8 +164,8 @@ dist: $(archive)
 	cp $$repository/README.md $$repository/CHANGELOG.md .; \
 	cp $$repository/$(header) include; \
 	cp $$repository/$(archive) lib; \
-	cp $$repository/docs/*.md $$repository/docs/p5.svg docs; \
-	cp $$repository/examples/*.c $$repository/examples/*.expected $$repository/examples/*.calls examples; \
+	cp $$repository/docs/*.md $$repository/docs/*.svg docs; \
+	cp $$repository/examples/*.c $$repository/examples/*.expected $$repository/examples/*.calls $$repository/examples/*.register examples; \
 	printf '%s\n' 'prefix=$${pcfiledir}/../..' "$$pc" > lib/pkgconfig/seatreg.pc; \
 	git describe --always --abbrev=40 --exclude '*' --dirty > COMMIT || echo unknown > COMMIT; \
 	date="$$(git log -1 --format=%ct || echo 0)"; \

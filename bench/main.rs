@@ -1,37 +1,46 @@
 //! The archive and the second implementation, measured side by side in one
 //! run: nanoseconds a call, and their ratio. A call that is lent a table's text
-//! is also measured beside the same call without it.
+//! is also measured beside the same call without it; a read of a register file,
+//! which judges support as a round does, beside a cut of one round.
 
+#[path = "../tests/compare/contents.rs"]
+mod contents;
 #[path = "../tests/compare/entry.rs"]
 mod entry;
 #[path = "../tests/compare/lent.rs"]
 mod lent;
 
-use entry::{entry_call, entry_call_table};
+use contents::Asked;
+use entry::{entry_call, entry_call_table, entry_read, entry_write, FileCall};
 use generate::{examples, register, rounds, slow, Grant};
 use lent::Lent;
 use second::block::{encode, Delegation, Register, BLOCK_LEN, MOST_DELEGATIONS};
 use second::engine::FAST;
-use second::host::{host_call, host_call_table};
+use second::host::{host_call, host_call_table, host_read, host_write};
 use second::refusal::{Call, Passed, NOT_WELL_FORMED};
+use second::regfile::{file_text, LEAST_TEXT};
 use second::table::OURS;
 use std::time::Instant;
 
 /// A row: what is measured, the block, the call, what it returns, how many
-/// rounds it takes, and the table's text that it is lent.
+/// rounds it takes, the table's text and the register file that it is lent.
 struct Row {
     what: &'static str,
     block: Vec<u8>,
-    call: Passed,
+    asked: Asked,
     refusal: u32,
     rounds: u32,
     text: Option<Vec<u8>>,
+    file: Vec<u8>,
 }
 
 fn main() {
     println!("{:<44} {:>12} {:>12} {:>7}", "", "archive", "second", "ratio");
     for row in rows() {
         measure(&row);
+    }
+    for (what, register) in [("full register", full_register()), ("the longest numbers", longest())] {
+        measure_files(what, &register);
     }
 }
 
@@ -72,7 +81,11 @@ fn rows() -> Vec<Row> {
 }
 
 fn row(what: &'static str, block: &[u8], call: Passed, rounds: u32) -> Row {
-    Row { what, block: block.to_vec(), call, refusal: 0, rounds, text: None }
+    Row { what, block: block.to_vec(), asked: Asked::Call(call), refusal: 0, rounds, text: None, file: Vec::new() }
+}
+
+fn file_row(what: &'static str, call: FileCall, block: &[u8], file: Vec<u8>) -> Row {
+    Row { what, block: block.to_vec(), asked: Asked::File(call), refusal: 0, rounds: 0, text: None, file }
 }
 
 /// The same with our table's text.
@@ -106,6 +119,14 @@ fn full_register() -> Register {
         }
     }
     register.delegations.sort_by_key(|d| (d.giver, d.receiver));
+    register
+}
+
+/// The same pairs with marks, need and bar of five digits each, met by all.
+fn longest() -> Register {
+    let mut register = full_register();
+    register.marks[1..].fill(0xAAAA);
+    register.delegations.iter_mut().for_each(|d| (d.need, d.bar) = (0xAAAA, 0x5555));
     register
 }
 
@@ -188,49 +209,57 @@ const BATCH: usize = 32;
 /// What a batch of calls took, in nanoseconds a call, and what the first left.
 struct Batch {
     time: u64,
-    /// The block and the answers.
-    left: (Vec<u8>, Vec<u8>),
+    /// The block, the register file and the answers.
+    left: [Vec<u8>; 3],
 }
 
 /// Through the archive, with the table's text or without one.
 fn archive_batch(row: &Row, size: usize, text: Option<&[u8]>) -> Batch {
     let mut lent: Vec<Lent> = (0..size).map(|_| lent_bytes(&row.block)).collect();
     let (mut table, mut answers) = (lent_bytes(text.unwrap_or_default()), lent_bytes(&[0; 12]));
+    let mut file = lent_bytes(&row.file);
     let start = Instant::now();
     for block in &mut lent {
-        let refusal = match text {
-            Some(_) => entry_call_table(&row.call, block, &mut table, &mut answers),
-            None => entry_call(&row.call, block, &mut answers),
+        let refusal = match row.asked {
+            Asked::Call(n) if text.is_some() => entry_call_table(&n, block, &mut table, &mut answers),
+            Asked::Call(n) => entry_call(&n, block, &mut answers),
+            Asked::File(FileCall::Write) => entry_write(block, &mut file, &mut answers),
+            Asked::File(FileCall::Read) => entry_read(block, &mut file, &mut table, &mut answers),
         };
         assert_eq!(refusal, row.refusal);
     }
     let time = start.elapsed().as_nanos() as u64 / size as u64;
-    Batch { time, left: (lent[0].content().to_vec(), answers.content().to_vec()) }
+    Batch { time, left: [lent[0].content(), file.content(), answers.content()].map(<[u8]>::to_vec) }
 }
 
 /// By the second implementation.
 fn second_batch(row: &Row, size: usize) -> Batch {
     let mut blocks = vec![row.block.clone(); size];
-    let (text, mut answers) = (row.text.as_deref().unwrap_or_default(), vec![0; 12]);
+    let (text, mut file, mut answers) = (row.text.as_deref().unwrap_or_default(), row.file.clone(), vec![0; 12]);
     let start = Instant::now();
     for block in &mut blocks {
-        assert_eq!(host_call_table(&FAST, &row.call, text, block, &mut answers), row.refusal);
+        let refusal = match row.asked {
+            Asked::Call(n) => host_call_table(&FAST, &n, text, block, &mut answers),
+            Asked::File(FileCall::Write) => host_write(block, &mut file, &mut answers),
+            Asked::File(FileCall::Read) => host_read(&FAST, block, &file, text, &mut answers),
+        };
+        assert_eq!(refusal, row.refusal);
     }
     let time = start.elapsed().as_nanos() as u64 / size as u64;
-    Batch { time, left: (blocks.swap_remove(0), answers) }
+    Batch { time, left: [blocks.swap_remove(0), file, answers] }
 }
 
 /// The medians of many batches, each batch first with the one, then with the
 /// other, then, where a text is lent, without it; all must leave the same bytes
-/// and answers.
-fn measure(row: &Row) {
+/// and answers. Hands back the archive's.
+fn measure(row: &Row) -> u64 {
     let repeats = if row.rounds > 256 { 9 } else { 301 };
     let size = if row.rounds > 3 { 1 } else { BATCH };
     let (mut ours, mut theirs, mut without) = (Vec::new(), Vec::new(), Vec::new());
     for _ in 0..repeats {
         let (one, other) = (archive_batch(row, size, row.text.as_deref()), second_batch(row, size));
         assert_eq!(one.left, other.left);
-        assert!(row.rounds == 0 || one.left.1[8..] == row.rounds.to_le_bytes());
+        assert!(row.rounds == 0 || one.left[2][8..] == row.rounds.to_le_bytes());
         ours.push(one.time);
         theirs.push(other.time);
         if row.text.is_some() {
@@ -244,6 +273,19 @@ fn measure(row: &Row) {
     if row.text.is_some() {
         print_difference(time, median(without));
     }
+    time
+}
+
+/// The register's file written and read, and beside it a cut of one round on the
+/// same register: a read may take 25 microseconds and one round, a write 15.
+fn measure_files(what: &str, register: &Register) {
+    let (block, file) = (encode(register), file_text(register));
+    let last = register.delegations.last().expect("256 delegations");
+    println!("register file of {} bytes, {what}", file.len());
+    measure(&file_row("  write", FileCall::Write, &block, vec![0; LEAST_TEXT]));
+    let read = measure(&file_row("  read", FileCall::Read, &[0; BLOCK_LEN], file));
+    let round = measure(&row("  revoke, one round", &block, revoke_of(last), 1));
+    println!("{:<44} {:>9} ns", "  read without the time of that revocation", read.saturating_sub(round));
 }
 
 fn print(row: &Row, a: u64, b: u64) {

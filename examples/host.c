@@ -1,6 +1,7 @@
 /* A host of the seat register: a maker passes a right to two distributors, both pass it to a dealer,
  * the dealer to a firm. Then one distributor is cut off, and the dealer keeps what the other gives.
- * After each cut the host says which delegations fell or were lowered. At last the dealer is raised. */
+ * After each cut the host says which delegations fell or were lowered. Then the dealer is raised, and
+ * at last the register goes to another machine, as text. */
 #include <inttypes.h>
 #include <stdio.h>
 #include <stdlib.h>
@@ -16,6 +17,8 @@ enum { MAKER = SEATREG_OWNER, NORTH, SOUTH, DEALER, FIRM, VISITOR };
 static uint8_t block[SEATREG_BLOCK_SIZE];     /* the register */
 static uint8_t before[SEATREG_BLOCK_SIZE];    /* the register before a cut */
 static uint8_t answers[SEATREG_ANSWERS_SIZE]; /* of the last call that was accepted */
+static uint8_t text[SEATREG_TEXT_SIZE];       /* the register as text, a register file */
+static uint8_t other[SEATREG_BLOCK_SIZE];     /* the register on the other machine */
 
 /* Ends the program if a call didn't return what this host expects. */
 static void check(const char *call, uint32_t returned, uint32_t expected)
@@ -85,6 +88,44 @@ static void print_cut(void)
     }
 }
 
+/* Writes the register as text; answers the file's length. It is no string of C: no 0 byte ends it. */
+static size_t write_file(void)
+{
+    size_t length;
+
+    check("write", seatreg_write(block, sizeof block, text, sizeof text, answers, sizeof answers), SEATREG_ACCEPTED);
+    length = (size_t)seatreg_answer(answers, 0);
+    printf("write: %zu bytes\n", length);
+    fwrite(text, 1, length, stdout);
+    return length;
+}
+
+/* Reads a file of this length into the other block. This register is kept under our step table, so the
+ * table's text is empty; its pointer is not null even so. */
+static uint32_t read_file(size_t length)
+{
+    const uint8_t *ours = (const uint8_t *)"";
+
+    return seatreg_read(other, sizeof other, text, length, ours, 0, answers, sizeof answers);
+}
+
+/* The register leaves as text and comes back as the same bytes. Two mistakes are refused, and change no
+ * byte of the other block: the buffer's length in place of the file's, and a weight that nothing
+ * carries, written into the file by hand. */
+static void move(void)
+{
+    size_t length = write_file();
+
+    check("read", read_file(length), SEATREG_ACCEPTED);
+    printf("read: %s\n", memcmp(other, block, sizeof block) == 0 ? "the same register" : "another register");
+    check("read", read_file(sizeof text), SEATREG_MALFORMED);
+    printf("read of the whole buffer: refused with %d\n", SEATREG_MALFORMED);
+    text[length - 6] = '9'; /* the weight on the last line, "2 3 2 0 0" */
+    check("read", read_file(length), SEATREG_UNSUPPORTED);
+    printf("read with 9 as the last weight: refused with %d\n", SEATREG_UNSUPPORTED);
+    check("memcmp", memcmp(other, block, sizeof block) != 0, 0);
+}
+
 int main(void)
 {
     uint32_t r;
@@ -132,5 +173,7 @@ int main(void)
     grant(SOUTH, DEALER, 2, 0);
     may_use(FIRM);
     reach(DEALER, FIRM);
+
+    move();
     return EXIT_SUCCESS;
 }

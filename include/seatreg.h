@@ -8,21 +8,22 @@
  * host needs.
  *
  * THE BLOCK. A register is 2,180 bytes that the host owns. There is nothing else: no state between
- * calls, no allocation, no file, no clock. The bytes mean the same on every machine, so a block may
+ * calls, no allocation, no file opened, no clock. The bytes mean the same on every machine, so a block may
  * be copied, saved and loaded as it is. Change it by calls only. The readers at the end list what
- * it holds.
+ * it holds, and seatreg_write writes it as text.
  *
  * WHAT A CALL RETURNS. Every call returns a refusal number, 0 when it is accepted.
- *   - Refused: no byte of the block and no byte of the answers changes.
+ *   - Refused: no byte changes, neither of the block nor of the answers nor of a buffer for text.
  *   - Accepted: the three answers are written, 12 bytes, each answer signed, four bytes, low byte
  *     first, those that the call doesn't use 0. seatreg_answer reads one.
  * Where several refusals apply, the first in the order given at the call is returned. Every number
  * passed may be any 32-bit number: one that is too large is refused and never cut down. The block
- * may hold any bytes: all calls but open refuse one that is not well formed.
+ * may hold any bytes: all calls but open and read, which overwrite it, refuse one that is not well
+ * formed.
  *
  * THE STEP TABLE has a next for each weight: what a limit falls to at one step, -1 where nothing may
  * follow. In ours 0 gives -1, each other weight one less, and 255 keeps 255. The calls whose names end
- * in _table are lent another one, as text; all others use ours.
+ * in _table, and read, are lent one as text; all others that need a table use ours.
  *   - Its form: the line "weight next", then a line of a weight and its next for each of the weights 0
  *     to 255, in order. Numbers are decimal and at most 4,294,967,295, one space between, no leading
  *     zero, no sign but that of -1, which only a next may be. Every line ends with byte 10, the last
@@ -35,25 +36,55 @@
  * A register doesn't know its table: lend the same text with every call on it. A cut lowers or drops
  * all that its own table doesn't support, even what the named delegation didn't hold up.
  *
+ * THE REGISTER FILE is a register as text, to be read by people and moved between machines:
+ * seatreg_write writes it and seatreg_read reads it. With two subjects beside the owner it may be
+ *     subject marks
+ *     0 0
+ *     1 4
+ *     2 4
+ *
+ *     giver receiver weight need bar
+ *     0 1 9 4 0
+ *     1 2 8 0 0
+ *   - Its form: the line "subject marks"; a line for each enrolled subject, from 0 on; an empty line;
+ *     the line "giver receiver weight need bar"; a line for each delegation, rising by giver and, for
+ *     one giver, by receiver. Numbers and lines are as in a step table's text, and none has a sign.
+ *     Nothing follows the last line's byte 10. A text of another form is refused with 7, an empty one
+ *     too; so is one whose line ends a program has changed.
+ *   - A text of this form that is no well-formed register's file is refused with 8: a subject left
+ *     out, a weight above 255, two delegations exchanged.
+ *   - A register has one file and a file one register: what seatreg_read accepts is byte for byte what
+ *     seatreg_write writes of the block that it left.
+ *   - A file doesn't name its table. Read it under the table that is lent with every other call on the
+ *     register. Where a delegation in it is unsupported, so that no chain under that table carries its
+ *     weight, it is refused with 18. Another table may refuse what the right one supports, and accept
+ *     what the next cut under the right one lowers or drops.
+ *   - So every register is written, but one that the table doesn't support is not read back: 18. Where
+ *     every call from open on was made under the same table, the register is supported by it. Where not,
+ *     store the block too.
+ *
  * WHAT THE HOST MUST SEE TO. Nothing can check these, and what a call does without them is undefined.
  *   - Each pointer is valid for the length passed with it until the call returns: `answers` for
- *     reading and writing, `block` too, but for reach and use, which only read it, `table` for
- *     reading. No alignment is needed.
- *   - The buffers of one call, two or three, lie apart: they share no byte.
+ *     reading and writing, `block` too, but for reach, use and write, which only read it, `table` for
+ *     reading, `text` for reading and writing in write and for reading in read. No alignment is needed.
+ *   - The buffers of one call, two to four, lie apart: they share no byte. So a text isn't read into
+ *     bytes in which it lies itself.
  *   - No pointer is null, not even with a length of 0. With a length of 0 it need not point to
  *     anything: nothing is read or written through it. For a block or answers of length 0 the call
- *     returns 1; a table's text may have length 0.
+ *     returns 1; a table's text may have length 0, and for a register file of length 0 it returns 7.
  *   - While a call runs, no other thread writes the bytes lent to it, nor reads bytes that it may
- *     write: no two calls at the same time on one block or with one answers buffer. Reach and use
- *     only read the block, so several of these may run on one block, each with answers of its own.
- *     One table's text may be lent to any number of calls.
+ *     write: no two calls at the same time on one block, with one answers buffer, or writing into one
+ *     buffer for text. Reach, use and write only read the block, so several of these may run on one
+ *     block, each with buffers of its own. One table's text may be lent to any number of calls, and so
+ *     may one register file to reads.
  *   - The thread that calls has enough stack: a call needs at most 32 KiB of stack on x86-64. This
  *     is measured; the proofs know of no stack.
  *
  * WHAT THE REGISTER CAN'T KNOW. Who is calling: that a request really comes from the subject passed
- * as `by`, or as the giver of a grant, is the host's to establish. Who wrote the block: bytes that
- * were changed and are still well formed are taken as they are. One register is one block: of two
- * copies that have gone different ways, neither is aware of the other.
+ * as `by`, or as the giver of a grant, is the host's to establish. Who wrote the block or the file:
+ * bytes that were changed and are still well formed are taken as they are, and so is a file that was
+ * changed and is still a supported register's. One register is one block: of two copies that have gone
+ * different ways, neither is aware of the other.
  */
 #ifndef SEATREG_H
 #define SEATREG_H
@@ -64,8 +95,8 @@
 /* The version of this header and of the archive that comes with it, as text and as a number: 10,000
  * times the first part, plus 100 times the second, plus the third. README.md, 'Versions', says which
  * changes raise which part. */
-#define SEATREG_VERSION "1.2.0"
-#define SEATREG_VERSION_NUMBER 10200
+#define SEATREG_VERSION "1.3.0"
+#define SEATREG_VERSION_NUMBER 10300
 
 /* Where the compiler has such attributes, it warns of a host that doesn't look at what a call
  * returns, and of a pointer that it can see to be null. */
@@ -82,6 +113,9 @@ extern "C" {
 /* Lengths of the block and the answers: pass these and nothing else. */
 #define SEATREG_BLOCK_SIZE 2180
 #define SEATREG_ANSWERS_SIZE 12
+
+/* The least length of the buffer for text that seatreg_write is lent: every register file fits. */
+#define SEATREG_TEXT_SIZE 8192
 
 /* Subjects are 0 to 63; 0 is the owner. At most 64 are enrolled and 256 delegations stand. */
 #define SEATREG_OWNER 0
@@ -120,22 +154,24 @@ enum seatreg_refusal {
     SEATREG_NO_PAIR = 13,
     SEATREG_MAY_NOT = 14,
     SEATREG_NOT_BELOW = 15,
-    SEATREG_OVERWEIGHT = 16
+    SEATREG_OVERWEIGHT = 16,
+    /* by what a register file holds */
+    SEATREG_UNSUPPORTED = 18
 };
 
-/* A short text for what a call returned, never null; for a number above 17, "no such refusal". */
+/* A short text for what a call returned, never null; for a number above 18, "no such refusal". */
 static inline const char *seatreg_refusal_text(uint32_t refusal)
 {
     static const char *const texts[] = {
         "accepted",
-        "the block is not 2,180 bytes, or the answers not 12",
+        "the block is not 2,180 bytes, the answers not 12, or the buffer for text under 8,192",
         "a subject number is above 63",
         "the weight is above 255",
         "marks, need or bar above 65,535, or need and bar share a mark",
         "giver and receiver are equal",
         "the receiver is the owner",
-        "a table's text is of another form, or a line of a call file is malformed",
-        "the block is not well formed",
+        "a table's text is of another form, or a line of a call file or a line of a register file is malformed",
+        "the block is not well formed, or a register file's lines make no well-formed block",
         "a named subject, by included, isn't enrolled",
         "64 subjects are enrolled",
         "a delegation for this pair stands, and this is no raise",
@@ -144,7 +180,8 @@ static inline const char *seatreg_refusal_text(uint32_t refusal)
         "by is neither the giver nor the owner",
         "the new weight isn't below the present one",
         "no chain from the owner carries the weight",
-        "an entry of the step table breaks a rule"
+        "an entry of the step table breaks a rule",
+        "a delegation of a register file is unsupported"
     };
     return refusal < sizeof texts / sizeof texts[0] ? texts[refusal] : "no such refusal";
 }
@@ -264,6 +301,33 @@ SEATREG_CALL uint32_t seatreg_downgrade_table(uint8_t *block, size_t block_len,
                                               uint32_t by, uint32_t giver, uint32_t receiver, uint32_t weight,
                                               const uint8_t *table, size_t table_len,
                                               uint8_t *answers, size_t answers_len);
+
+/* Write: the register as text, a register file, as THE REGISTER FILE says. Every well-formed register
+ * is written, supported or not; there is no table.
+ *   text: the buffer, 8,192 bytes (SEATREG_TEXT_SIZE) or more; a shorter one gets 1.
+ *   Refusals in order: 1, 8.
+ *   Answers: how many bytes were written, 0, 0. This is the length of the file, 50 at least.
+ *   Text: the file is the front of the buffer. The bytes after it stay as they were: no 0 byte is put
+ *     there, so the file is no string of C.
+ *   Block: only read. */
+SEATREG_CALL uint32_t seatreg_write(const uint8_t *block, size_t block_len,
+                                    uint8_t *text, size_t text_len,
+                                    uint8_t *answers, size_t answers_len);
+
+/* Read: writes the block of a register file.
+ *   text: the file, only read. text_len is its own length, after seatreg_write the first answer, and
+ *     not that of a buffer in which it lies: whatever follows its last line gets 7. It has no limit, but
+ *     a text longer than SEATREG_TEXT_SIZE is no register's file, and may be turned away unread.
+ *   table: as for the calls above: the text of the table that the register is kept under, or table_len
+ *     0 for ours. Every delegation of the file must be supported by it, else 18.
+ *   Refusals in order: 1, 7, 17, 8, 18.
+ *   Answers: 0, 0, 0.
+ *   Block: 2,180 bytes of any content. What they held is not looked at, is overwritten where the call
+ *     is accepted and stays where it is refused. */
+SEATREG_CALL uint32_t seatreg_read(uint8_t *block, size_t block_len,
+                                   const uint8_t *text, size_t text_len,
+                                   const uint8_t *table, size_t table_len,
+                                   uint8_t *answers, size_t answers_len);
 
 /* One of the three answers: i is 0, 1 or 2. Only after an accepted call do the bytes hold answers. */
 SEATREG_CALL static inline int32_t seatreg_answer(const uint8_t *answers, size_t i)

@@ -66,7 +66,7 @@ impl Layout {
 
 /// The subjects by their distance from the owner, each row rising; those that
 /// no delegation leads to come last.
-fn rows(register: &Register) -> Vec<Vec<u8>> {
+pub fn rows(register: &Register) -> Vec<Vec<u8>> {
     let mut rows = vec![vec![0]];
     let mut rest: Vec<u8> = (1..register.marks.len() as u8).collect();
     while !rest.is_empty() {
@@ -88,7 +88,7 @@ pub fn towards(from: Point, to: Point, length: i64) -> Point {
 }
 
 /// The largest number whose square is at most n.
-fn root(n: i64) -> i64 {
+pub fn root(n: i64) -> i64 {
     let mut root = 0;
     for bit in (0..31).rev() {
         let larger = root + (1 << bit);

@@ -1,62 +1,47 @@
-//! Draws document 01's example P5 before and after its cut, as SVG on standard
-//! output. The calls are made through the archive's entry points, and what is
-//! drawn is read out of the blocks that the archive left.
+//! Drawings as SVG on standard output.
+//!
+//! `drawing` draws document 01's example P5 before and after its cut.
+//! `drawing FILE [TABLE]` draws the register of a register file, its delegations
+//! judged by the step table of a text, or by ours; a file that is refused with 18
+//! is drawn too, and shows which delegations are unsupported.
 
 #[path = "../../tests/compare/entry.rs"]
 mod entry;
+mod example;
+mod file;
 mod layout;
 #[path = "../../tests/compare/lent.rs"]
 mod lent;
+mod map;
 mod picture;
+mod places;
+mod routes;
 mod svg;
 
-use entry::entry_call;
-use generate::examples;
-use lent::Lent;
-use picture::{picture, Cut};
-use second::block::{decode, Register, BLOCK_LEN};
-use second::host::ANSWERS_LEN;
-use second::refusal::Passed;
+use std::io::Write;
+use std::process::ExitCode;
 
-const EXAMPLE: &str = "P5";
-
-fn main() {
-    let example = examples::proved().into_iter().find(|e| e.name == EXAMPLE).expect("the example is there");
-    let mut calls = example.calls();
-    let cut = calls.pop().expect("the cut is the last call");
-    let mut host = Host::new();
-    host.call(&generate::open());
-    for call in &calls {
-        host.call(call);
+fn main() -> ExitCode {
+    let words: Vec<String> = std::env::args().skip(1).collect();
+    let words: Vec<&str> = words.iter().map(String::as_str).collect();
+    let drawn = match words[..] {
+        [] => Ok(example::draw()),
+        [file] => file::load(file, None).map(|loaded| map::draw(&loaded)),
+        [file, table] => file::load(file, Some(table)).map(|loaded| map::draw(&loaded)),
+        _ => {
+            eprintln!("usage: drawing [FILE [TABLE]]");
+            return ExitCode::from(2);
+        }
+    };
+    match drawn.and_then(print) {
+        Ok(()) => ExitCode::SUCCESS,
+        Err(problem) => {
+            eprintln!("drawing: {problem}");
+            ExitCode::FAILURE
+        }
     }
-    let before = host.register();
-    let answers = host.call(&cut);
-    let after = host.register();
-    print!("{}", picture(&Cut { name: EXAMPLE, before, after, cut, answers }));
 }
 
-/// The two buffers that are lent to every call.
-struct Host {
-    block: Lent,
-    answers: Lent,
-}
-
-impl Host {
-    fn new() -> Host {
-        let mut host = Host { block: Lent::new(), answers: Lent::new() };
-        host.block.lend(&[0; BLOCK_LEN], 0, 0);
-        host.answers.lend(&[0; ANSWERS_LEN], 0, 0);
-        host
-    }
-
-    /// Makes a call that must be accepted; hands back its answers.
-    fn call(&mut self, n: &Passed) -> [i32; 3] {
-        assert_eq!(entry_call(n, &mut self.block, &mut self.answers), 0, "refused: {n:?}");
-        let bytes = self.answers.content();
-        [0, 4, 8].map(|at| i32::from_le_bytes([bytes[at], bytes[at + 1], bytes[at + 2], bytes[at + 3]]))
-    }
-
-    fn register(&self) -> Register {
-        decode(self.block.content()).expect("an accepted call leaves a well-formed block")
-    }
+fn print(svg: String) -> Result<(), String> {
+    std::io::stdout().write_all(svg.as_bytes()).map_err(|error| format!("standard output: {error}"))
 }

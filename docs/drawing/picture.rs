@@ -2,7 +2,7 @@
 //! right.
 
 use crate::layout::{Layout, Point, RADIUS};
-use crate::svg::{Anchor, Letters, Pen, Svg};
+use crate::svg::{Anchor, Letters, Pen, Svg, FAINT, GONE, INK, OUTLINE, SMALL, TITLE, WHITE};
 use second::block::{Delegation, Register};
 use second::refusal::{Call, Passed};
 
@@ -24,15 +24,7 @@ enum Fate {
     Dropped,
 }
 
-const INK: &str = "#1f2328";
-const FAINT: &str = "#6e7781";
-const WHITE: &str = "#ffffff";
-const OUTLINE: Pen = Pen { colour: INK, width: 22, dashed: false };
-const GONE: Pen = Pen { colour: FAINT, width: 18, dashed: true };
-
-const TITLE: Letters = Letters { size: 180, colour: INK, bold: true };
 const LABEL: Letters = Letters { size: 170, colour: INK, bold: true };
-const SMALL: Letters = Letters { size: 140, colour: INK, bold: false };
 
 const WIDTH: i64 = 8400;
 const PANEL: i64 = WIDTH / 2;

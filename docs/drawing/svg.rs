@@ -1,6 +1,7 @@
 //! SVG elements, written one to a line.
 
 use crate::layout::{towards, Point};
+use crate::routes::Route;
 
 /// How a line and its arrowhead look.
 #[derive(Clone, Copy)]
@@ -18,6 +19,22 @@ pub struct Letters {
     pub bold: bool,
 }
 
+impl Letters {
+    /// About how long a text is; fonts differ.
+    pub fn width(&self, text: &str) -> i64 {
+        self.size * text.chars().count() as i64 * 60 / 100
+    }
+}
+
+pub const INK: &str = "#1f2328";
+pub const FAINT: &str = "#6e7781";
+pub const WHITE: &str = "#ffffff";
+pub const OUTLINE: Pen = Pen { colour: INK, width: 22, dashed: false };
+pub const GONE: Pen = Pen { colour: FAINT, width: 18, dashed: true };
+
+pub const TITLE: Letters = Letters { size: 180, colour: INK, bold: true };
+pub const SMALL: Letters = Letters { size: 140, colour: INK, bold: false };
+
 pub enum Anchor {
     Start,
     Middle,
@@ -28,7 +45,7 @@ pub struct Svg {
     lines: Vec<String>,
 }
 
-const HEAD_LENGTH: i64 = 130;
+pub const HEAD_LENGTH: i64 = 130;
 const HEAD_HALF: i64 = 60;
 
 impl Svg {
@@ -59,7 +76,18 @@ impl Svg {
     pub fn arrow(&mut self, from: Point, to: Point, pen: Pen) {
         let back = towards(to, from, HEAD_LENGTH);
         self.line(from, back, pen);
-        // The two corners at the back, a quarter turn from the arrow's direction.
+        self.head(back, to, pen);
+    }
+
+    pub fn curved_arrow(&mut self, route: &Route, pen: Pen) {
+        let Route { start, control, back, .. } = route;
+        let path = format!("M{},{} Q{},{} {},{}", start.x, start.y, control.x, control.y, back.x, back.y);
+        self.lines.push(format!(r#"<path d="{path}" fill="none"{}/>"#, stroke(pen)));
+        self.head(route.back, route.tip, pen);
+    }
+
+    /// The arrowhead, whose two corners at the back are a quarter turn from its direction.
+    fn head(&mut self, back: Point, to: Point, pen: Pen) {
         let (dx, dy) = (to.x - back.x, to.y - back.y);
         let side = |half: i64| Point { x: back.x - dy * half / HEAD_LENGTH, y: back.y + dx * half / HEAD_LENGTH };
         let (left, right) = (side(HEAD_HALF), side(-HEAD_HALF));
@@ -67,6 +95,22 @@ impl Svg {
             r#"<polygon points="{},{} {},{} {},{}" fill="{}"/>"#,
             to.x, to.y, left.x, left.y, right.x, right.y, pen.colour
         ));
+    }
+
+    /// An outline whose left and right ends are half circles.
+    pub fn outline(&mut self, middle: Point, half: Point, fill: &str, pen: Pen) {
+        let (x, y, width, height) = (middle.x - half.x, middle.y - half.y, 2 * half.x, 2 * half.y);
+        let rounded = half.y;
+        self.lines.push(format!(
+            r#"<rect x="{x}" y="{y}" width="{width}" height="{height}" rx="{rounded}" fill="{fill}"{}/>"#,
+            stroke(pen)
+        ));
+    }
+
+    /// White under a label.
+    pub fn blank(&mut self, middle: Point, half: Point) {
+        let (x, y, width, height) = (middle.x - half.x, middle.y - half.y, 2 * half.x, 2 * half.y);
+        self.lines.push(format!(r#"<rect x="{x}" y="{y}" width="{width}" height="{height}" fill="{WHITE}"/>"#));
     }
 
     pub fn circle(&mut self, at: Point, radius: i64, fill: &str, pen: Pen) {

@@ -1,90 +1,143 @@
 //! A call on both sides: through an entry point on lent buffers, and by the
 //! second implementation.
 
+use crate::contents::{Asked, Contents};
 use crate::draw::{answers_length, block_length, Drawn};
-use crate::entry::{entry_call, entry_call_table};
+use crate::entry::{entry_call, entry_call_table, entry_read, entry_write, FileCall};
 use crate::fault::Fault;
 use crate::lent::Lent;
 use crate::readers::{due, read, Listed};
 use crate::report::{Case, Part, PARTS};
+use crate::returned::{come_back, Back};
 use crate::standing::{Left, Standing};
+use crate::tables::Text;
 use second::block::{encode, BLOCK_LEN};
-use second::engine::FAST;
-use second::host::host_call_table;
 use second::random::Random;
-use second::refusal::Passed;
 
-/// The buffers lent to the entry points.
+/// The buffers lent to the entry points; a buffer that an entry point doesn't take is empty and not lent.
 pub struct Buffers {
     pub block: Lent,
-    /// The table's text; empty, and not lent, for an entry point that takes none.
+    /// The register file of a read, or the buffer of a write.
+    pub file: Lent,
+    /// The table's text.
     pub table: Lent,
     pub answers: Lent,
 }
 
 impl Buffers {
     pub fn new() -> Buffers {
-        Buffers { block: Lent::new(), table: Lent::new(), answers: Lent::new() }
+        Buffers { block: Lent::new(), file: Lent::new(), table: Lent::new(), answers: Lent::new() }
     }
 
     /// Makes a call on both sides and compares all that it returned and left. The block is left
     /// as the second implementation left it: the entry point's is the same, or the case differs.
     pub fn call(&mut self, random: &mut Random, drawn: Drawn, block: &mut Vec<u8>, fault: &Fault) -> Case {
-        let Drawn { passed, text } = drawn;
-        let mut due_block = sized(block, block_length(random));
-        let mut due_answers: Vec<u8> = (0..answers_length(random)).map(|_| random.next() as u8).collect();
-        let bytes = text.bytes.as_deref();
-        let lent = bytes.and_then(fault.text);
-        self.lend(random, &due_block, lent.unwrap_or_default(), &due_answers);
-
-        let due = host_call_table(&FAST, &passed, bytes.unwrap_or_default(), &mut due_block, &mut due_answers);
-        let standing = Standing::of(&passed, &text.table, block, due);
-        let number = match standing.as_ref().filter(|standing| (fault.when)(standing)) {
-            Some(standing) => self.leave(&(fault.does)(standing)),
-            None => self.enter(&(fault.before)(&passed), lent.is_some()),
+        let Drawn { asked, text, file } = drawn;
+        let table = text.bytes.as_deref().and_then(fault.text);
+        let lent = Contents {
+            block: sized(block, block_length(random)),
+            file,
+            table: table.unwrap_or_default().to_vec(),
+            answers: (0..answers_length(random)).map(|_| random.next() as u8).collect(),
         };
+        self.lend(random, &lent);
+
+        let mut left = Contents { table: text.bytes.clone().unwrap_or_default(), ..lent.clone() };
+        let due = left.call(&asked);
+        let standing = Standing::of(&asked, &text.table, block, due);
+        let number = match self.wrong(&asked, &lent, standing.as_ref(), fault) {
+            Some(number) => number,
+            None => self.enter(&asked, table.is_some(), fault),
+        };
+        let back = self.back(random, &asked, &text, due, &left, fault);
         (fault.after)(number, self);
         let listed_right = number != 0 || due != 0 || self.listed_right(fault.listed);
 
         let same = |part: &Part| match part {
             Part::Number => number == due,
-            Part::Block => self.block.content() == due_block,
-            Part::Answers => self.answers.content() == due_answers,
-            Part::Table => self.table.content() == lent.unwrap_or_default(),
-            Part::Guards => [&self.block, &self.table, &self.answers].iter().all(|buffer| buffer.is_guarded()),
+            Part::Block => self.block.content() == left.block,
+            Part::Answers => self.answers.content() == left.answers,
+            Part::File => self.file.content() == left.file,
+            Part::Table => self.table.content() == lent.table,
+            Part::Guards => self.all().iter().all(|buffer| buffer.is_guarded()),
             Part::Listed => listed_right,
+            Part::Back => back != Some(Back::Wrong),
         };
         let differs = PARTS.into_iter().filter(|part| !same(part)).collect();
-        let block_length = due_block.len();
-        if block_length == BLOCK_LEN {
-            *block = due_block;
+        if left.block.len() == BLOCK_LEN {
+            *block = left.block.clone();
         }
-        Case { passed, text, block_length, standing, number, due, due_answers, differs }
+        Case { asked, text, standing, number, due, left, back, differs }
+    }
+
+    fn all(&self) -> [&Lent; 4] {
+        [&self.block, &self.file, &self.table, &self.answers]
     }
 
     /// Lends these bytes, each buffer at some alignment and among guard bytes of some value.
-    fn lend(&mut self, random: &mut Random, block: &[u8], table: &[u8], answers: &[u8]) {
-        let buffers = [(&mut self.block, block), (&mut self.table, table), (&mut self.answers, answers)];
+    fn lend(&mut self, random: &mut Random, lent: &Contents) {
+        let buffers = [
+            (&mut self.block, &lent.block),
+            (&mut self.file, &lent.file),
+            (&mut self.table, &lent.table),
+            (&mut self.answers, &lent.answers),
+        ];
         for (buffer, content) in buffers {
             buffer.lend(content, random.below(8) as usize, random.next() as u8);
         }
     }
 
     /// The number that the entry point returns.
-    fn enter(&mut self, n: &Passed, with_table: bool) -> u32 {
-        if with_table {
-            return entry_call_table(n, &mut self.block, &mut self.table, &mut self.answers);
+    fn enter(&mut self, asked: &Asked, with_table: bool, fault: &Fault) -> u32 {
+        match asked {
+            Asked::Call(n) if with_table => {
+                entry_call_table(&(fault.before)(n), &mut self.block, &mut self.table, &mut self.answers)
+            }
+            Asked::Call(n) => entry_call(&(fault.before)(n), &mut self.block, &mut self.answers),
+            Asked::File(FileCall::Write) => entry_write(&mut self.block, &mut self.file, &mut self.answers),
+            Asked::File(FileCall::Read) => {
+                entry_read(&mut self.block, &mut self.file, &mut self.table, &mut self.answers)
+            }
         }
-        entry_call(n, &mut self.block, &mut self.answers)
     }
 
-    /// For the self test: the buffers as a wrong call leaves them, and the number that it returns.
+    /// For the self test: the number that a wrong call returns, the buffers being as it leaves them.
+    /// Nothing where the fault has no wrong call in place of the entry point.
+    fn wrong(&mut self, asked: &Asked, lent: &Contents, standing: Option<&Standing>, fault: &Fault) -> Option<u32> {
+        if let Some(standing) = standing.filter(|standing| (fault.when)(standing)) {
+            return Some(self.leave(&(fault.does)(standing)));
+        }
+        let made = match asked {
+            Asked::Call(_) => None,
+            Asked::File(FileCall::Write) => fault.write,
+            Asked::File(FileCall::Read) => fault.read,
+        };
+        let (number, left) = made?(lent);
+        self.block.write(&left.block);
+        self.file.write(&left.file);
+        self.answers.write(&left.answers);
+        Some(number)
+    }
+
+    /// For the self test: the buffers as a wrong grant leaves them, and the number that it returns.
     fn leave(&mut self, left: &Left) -> u32 {
         if left.number == 0 {
             self.block.write(&encode(&left.register));
             self.answers.write(&[left.answer, 0, 0].map(i32::to_le_bytes).concat());
         }
         left.number
+    }
+
+    /// What becomes of an accepted write that is read back.
+    fn back(
+        &self, random: &mut Random, asked: &Asked, table: &Text, due: u32, left: &Contents, fault: &Fault,
+    ) -> Option<Back> {
+        if !matches!(asked, Asked::File(FileCall::Write)) || due != 0 {
+            return None;
+        }
+        let mut file = self.file.content()[..left.answer()].to_vec();
+        (fault.carried)(&mut file);
+        Some(come_back(random, &left.block, &file, table))
     }
 
     /// After an accepted call the readers list what the second implementation decodes.

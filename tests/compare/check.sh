@@ -1,8 +1,8 @@
 #!/usr/bin/env bash
 # The C side: the archive, the header, a short comparison with the second
 # implementation on fixed random calls, its self test, the example hosts, the
-# host in README.md, the stack of every call, the drawing, a build of the
-# measurement, what is installed, and the tar file.
+# host in README.md, the stack of every call, a build of the measurement, what
+# is installed, and the tar file.
 set -euo pipefail
 
 here="$(cd "$(dirname "${BASH_SOURCE[0]}")" && pwd)"
@@ -23,7 +23,7 @@ alone() {
     nm "$archive" >"$out/symbols" &&
         sed -nE 's/^SEATREG_CALL uint32_t (seatreg_[a-z_]+)\(.*/\1/p' include/seatreg.h | sort >"$out/functions" &&
         sed -nE 's/.* T (seatreg_.*)/\1/p' "$out/symbols" | sort | diff "$out/functions" - &&
-        test "$(wc -l <"$out/functions")" -eq 11 &&
+        test "$(wc -l <"$out/functions")" -eq 13 &&
         ! grep -E ' [bBdDsSgGcC] ' "$out/symbols" &&
         ! grep ' U ' "$out/symbols" | grep -vwE 'memcpy|memset'
 }
@@ -71,9 +71,9 @@ texts() {
 #include "seatreg.h"
 int main(void)
 {
-    for (uint32_t n = 0; n <= SEATREG_BAD_TABLE; n++)
+    for (uint32_t n = 0; n <= SEATREG_UNSUPPORTED; n++)
         printf("%u %s\n", (unsigned)n, seatreg_refusal_text(n));
-    return strcmp(seatreg_refusal_text(SEATREG_BAD_TABLE + 1), "no such refusal") != 0 ||
+    return strcmp(seatreg_refusal_text(SEATREG_UNSUPPORTED + 1), "no such refusal") != 0 ||
            strcmp(seatreg_refusal_text(UINT32_MAX), "no such refusal") != 0;
 }
 END
@@ -94,6 +94,7 @@ user() {
 extern uint32_t USER(uint8_t *block, uint8_t *answers);
 uint32_t USER(uint8_t *block, uint8_t *answers)
 {
+    static uint8_t text[SEATREG_TEXT_SIZE];
     uint32_t sum = seatreg_open(block, SEATREG_BLOCK_SIZE, answers, SEATREG_ANSWERS_SIZE);
     sum += seatreg_enrol(block, SEATREG_BLOCK_SIZE, 1, answers, SEATREG_ANSWERS_SIZE);
     sum += seatreg_grant(block, SEATREG_BLOCK_SIZE, SEATREG_OWNER, 1, 9, 1, 2, answers, SEATREG_ANSWERS_SIZE);
@@ -110,6 +111,8 @@ uint32_t USER(uint8_t *block, uint8_t *answers)
     sum += seatreg_reach_table(block, SEATREG_BLOCK_SIZE, SEATREG_OWNER, 1, NO_TEXT, answers, SEATREG_ANSWERS_SIZE);
     sum += seatreg_downgrade_table(block, SEATREG_BLOCK_SIZE, SEATREG_OWNER, SEATREG_OWNER, 1, 8, NO_TEXT, answers, SEATREG_ANSWERS_SIZE);
     sum += seatreg_revoke_table(block, SEATREG_BLOCK_SIZE, SEATREG_OWNER, SEATREG_OWNER, 1, NO_TEXT, answers, SEATREG_ANSWERS_SIZE);
+    sum += seatreg_write(block, SEATREG_BLOCK_SIZE, text, sizeof text, answers, SEATREG_ANSWERS_SIZE);
+    sum += seatreg_read(block, SEATREG_BLOCK_SIZE, text, (size_t)seatreg_answer(answers, 0), NO_TEXT, answers, SEATREG_ANSWERS_SIZE);
     return sum + (uint32_t)seatreg_answer(answers, 0) + (uint32_t)(seatreg_refusal_text(sum)[0] != 'a');
 }
 END
@@ -162,13 +165,15 @@ uint32_t null(uint8_t *block, uint8_t *answers);
 uint32_t null(uint8_t *block, uint8_t *answers)
 {
     return seatreg_open(block, SEATREG_BLOCK_SIZE, 0, 0) +
-           seatreg_reach_table(block, SEATREG_BLOCK_SIZE, 0, 1, 0, 0, answers, SEATREG_ANSWERS_SIZE);
+           seatreg_reach_table(block, SEATREG_BLOCK_SIZE, 0, 1, 0, 0, answers, SEATREG_ANSWERS_SIZE) +
+           seatreg_write(block, SEATREG_BLOCK_SIZE, 0, 0, answers, SEATREG_ANSWERS_SIZE) +
+           seatreg_read(block, SEATREG_BLOCK_SIZE, 0, 0, 0, 0, answers, SEATREG_ANSWERS_SIZE);
 }
 END
         ! gcc -std=c99 "${strict[@]}" -Iinclude -c "$out/ignored.c" -o "$out/ignored.o" 2>"$out/ignored" &&
         grep -q 'unused-result' "$out/ignored" &&
         ! gcc -std=c99 "${strict[@]}" -Iinclude -c "$out/null.c" -o "$out/null.o" 2>"$out/null" &&
-        test "$(grep -c 'Werror=nonnull' "$out/null")" -eq 2 &&
+        test "$(grep -c 'Werror=nonnull' "$out/null")" -eq 5 &&
         gcc -std=c99 -U__GNUC__ -Iinclude -E "$out/ignored.c" >"$out/plain" &&
         ! grep -E '__attribute__|SEATREG_CALL' "$out/plain" &&
         gcc -std=c99 -U__GNUC__ "${strict[@]}" -Iinclude -c "$out/ignored.c" -o "$out/ignored.o"
@@ -188,13 +193,6 @@ stack() {
     bound="$(tail -n 1 "$out/stack")"
     grep -x 'at most [0-9]* KiB of stack' <<<"$bound" &&
         ! grep -LF "$bound" README.md include/seatreg.h | grep .
-}
-
-# The committed drawing is what the archive's blocks give.
-drawing() {
-    make -s target/drawing/drawing &&
-        target/drawing/drawing >"$out/p5.svg" &&
-        cmp docs/p5.svg "$out/p5.svg"
 }
 
 # The whole host in README.md prints what the block after it says.
@@ -278,7 +276,6 @@ step "hosts" make -s host
 step "hosts in 64 KiB of stack" small_stack
 step "host of README.md" readme
 step "stack of every call" stack
-step "drawing" drawing
 step "build of the measurement" make -s target/bench/bench
 step "hosts with what is installed" installed
 step "tar file" tarred

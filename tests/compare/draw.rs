@@ -1,5 +1,8 @@
 //! Random lists of calls, most of them plausible, on blocks of several kinds.
 
+use crate::contents::Asked;
+use crate::entry::FileCall;
+use crate::filetexts::{buffer, Files};
 use crate::tables::{Tables, Text};
 use second::block::*;
 use second::call::blank;
@@ -32,10 +35,19 @@ const MARKS: u16 = 0x8007;
 const NEAR_LENGTHS: [usize; 12] = [0, 1, 3, 4, 131, 132, 2172, 2178, 2179, 2181, 2188, 4360];
 const EDGES: [u32; 12] = [0, 1, 62, 63, 64, 254, 255, 256, 65_535, 65_536, 0x8000_0000, 0xFFFF_FFFF];
 
-/// A call, and the table's text that it is lent.
+/// A call, and what it is lent beside the block and the answers.
 pub struct Drawn {
-    pub passed: Passed,
+    pub asked: Asked,
+    /// The table's text; for a write, that of the read which follows it.
     pub text: Text,
+    /// The register file of a read, the buffer of a write.
+    pub file: Vec<u8>,
+}
+
+/// What is called next.
+enum What {
+    Call(Call),
+    File(FileCall),
 }
 
 /// A list of calls while it is drawn.
@@ -52,6 +64,8 @@ pub struct List {
     cuts: bool,
     /// Most calls are grants for a standing pair.
     raises: bool,
+    /// Most calls are on a register file.
+    files: bool,
     conditions: u32,
     tables: Tables,
     /// The register of the last well-formed block.
@@ -65,12 +79,20 @@ impl List {
             0..=12 => List::fresh(random, conditions, (2, 8), (20, 90)),
             13..=17 => List::fresh(random, conditions, (9, 30), (80, 250)),
             18..=19 => List { fills: true, ..List::fresh(random, conditions, (40, 66), (380, 480)) },
-            20..=54 => List { left: random.range(2, 10), ..List::on_register(random, conditions, Kind::Formed) },
-            55..=59 => List { left: random.range(10, 20), raises: true, ..List::on_full(random, conditions) },
+            20..=44 => List { left: random.range(2, 10), ..List::on_register(random, conditions, Kind::Formed) },
+            45..=53 => List::on_files(random),
+            54..=59 => List { left: random.range(10, 20), raises: true, ..List::on_full(random, conditions) },
             60..=79 => List { left: random.range(2, 10), cuts: true, ..List::on_dense(random) },
             80..=96 => List { left: random.range(10, 40), ..List::on_register(random, conditions, Kind::Spoiled) },
             _ => List { kind: Kind::Noise, opens: false, ..List::fresh(random, conditions, (0, 0), (5, 20)) },
         }
+    }
+
+    /// Most calls are writes and reads, on blocks of any content.
+    pub fn on_files(random: &mut Random) -> List {
+        let (left, conditions) = (random.range(30, 70), random.pick(&[0, 20, 50, 80]));
+        let kind = random.pick(&[Kind::Formed, Kind::Formed, Kind::Formed, Kind::Spoiled, Kind::Noise]);
+        List { left, files: true, ..List::on_register(random, conditions, kind) }
     }
 
     fn fresh(random: &mut Random, conditions: u32, enrolments: (u32, u32), calls: (u32, u32)) -> List {
@@ -83,6 +105,7 @@ impl List {
             fills: false,
             cuts: false,
             raises: false,
+            files: false,
             conditions,
             tables: Tables::draw(random),
             register: Register::fresh(),
@@ -134,7 +157,7 @@ impl List {
     pub fn next(&mut self, random: &mut Random, block: &mut Vec<u8>) -> Option<Drawn> {
         if self.opens {
             self.opens = false;
-            return Some(Drawn { passed: blank(Call::Open), text: Text::without() });
+            return Some(Drawn { asked: Asked::Call(blank(Call::Open)), text: Text::without(), file: Vec::new() });
         }
         if self.left == 0 {
             return None;
@@ -144,32 +167,50 @@ impl List {
             Kind::Spoiled => *block = spoiled(random, &self.first),
             Kind::Noise => *block = any_bytes(random),
         }
-        let call = self.call(random);
+        Some(match self.what(random) {
+            What::Call(call) => self.call(random, call),
+            What::File(FileCall::Write) => {
+                let (text, file) = (self.tables.usual(random).lent(), buffer(random));
+                Drawn { asked: Asked::File(FileCall::Write), text, file }
+            }
+            What::File(FileCall::Read) => {
+                let text = self.tables.next(random).lent();
+                let files = Files { register: &self.register, weights: &WEIGHTS, marks: MARKS, conditions: self.conditions };
+                let file = files.next(random, &text.table);
+                Drawn { asked: Asked::File(FileCall::Read), text, file }
+            }
+        })
+    }
+
+    fn call(&self, random: &mut Random, call: Call) -> Drawn {
         let text = if takes_table(call) { self.tables.next(random) } else { Text::without() };
         let n = match call {
             Call::Grant if self.names_standing(random) => standing_grant(random, &self.register, &text.table),
             _ => plausible(random, call, &self.register, self.conditions, &text.table),
         };
         let passed = if random.chance(5) { with_odd_number(random, &n) } else { n };
-        Some(Drawn { passed, text })
+        Drawn { asked: Asked::Call(passed), text, file: Vec::new() }
     }
 
-    fn call(&mut self, random: &mut Random) -> Call {
+    fn what(&mut self, random: &mut Random) -> What {
         if self.enrolments > 0 {
             self.enrolments -= 1;
-            return Call::Enrol;
+            return What::Call(Call::Enrol);
         }
         self.left -= 1;
         if self.is_filling() && random.chance(98) {
-            return Call::Grant;
+            return What::Call(Call::Grant);
         }
         if self.cuts && random.chance(70) {
-            return random.pick(&[Call::Revoke, Call::Downgrade]);
+            return What::Call(random.pick(&[Call::Revoke, Call::Downgrade]));
         }
         if self.raises && random.chance(70) {
-            return Call::Grant;
+            return What::Call(Call::Grant);
         }
-        match random.below(200) {
+        if random.chance(if self.files { 80 } else { 10 }) {
+            return What::File(random.pick(&[FileCall::Write, FileCall::Read, FileCall::Read]));
+        }
+        What::Call(match random.below(200) {
             0..=79 => Call::Grant,
             80..=109 => Call::Reach,
             110..=125 => Call::Use,
@@ -177,7 +218,7 @@ impl List {
             156..=185 => Call::Downgrade,
             186..=198 => Call::Enrol,
             _ => Call::Open,
-        }
+        })
     }
 
     fn is_filling(&self) -> bool {

@@ -42,37 +42,47 @@ extern "C" {
         block: *mut u8, block_len: usize, by: u32, giver: u32, receiver: u32, weight: u32,
         table: *const u8, table_len: usize, answers: *mut u8, answers_len: usize,
     ) -> u32;
+    fn seatreg_write(
+        block: *const u8, block_len: usize, text: *mut u8, text_len: usize,
+        answers: *mut u8, answers_len: usize,
+    ) -> u32;
+    fn seatreg_read(
+        block: *mut u8, block_len: usize, text: *const u8, text_len: usize,
+        table: *const u8, table_len: usize, answers: *mut u8, answers_len: usize,
+    ) -> u32;
 }
 
-/// An entry point: a call, lent a table's text or not.
+/// An entry point: a call, lent a table's text or not, or a call on a register file.
 #[derive(Clone, Copy, PartialEq, Eq)]
-pub struct Entry {
-    pub call: Call,
-    pub table: bool,
+pub enum Entry {
+    Without(Call),
+    WithTable(Call),
+    File(FileCall),
+}
+
+/// The calls on a register file. Read is lent a table's text, write is not.
+#[derive(Clone, Copy, Debug, PartialEq, Eq)]
+pub enum FileCall {
+    Write,
+    Read,
 }
 
 /// All of them, in the header's order.
-pub const ENTRIES: [Entry; 11] = [
-    without_table(Call::Open),
-    without_table(Call::Enrol),
-    without_table(Call::Grant),
-    without_table(Call::Reach),
-    without_table(Call::Use),
-    without_table(Call::Revoke),
-    without_table(Call::Downgrade),
-    with_table(Call::Grant),
-    with_table(Call::Reach),
-    with_table(Call::Revoke),
-    with_table(Call::Downgrade),
+pub const ENTRIES: [Entry; 13] = [
+    Entry::Without(Call::Open),
+    Entry::Without(Call::Enrol),
+    Entry::Without(Call::Grant),
+    Entry::Without(Call::Reach),
+    Entry::Without(Call::Use),
+    Entry::Without(Call::Revoke),
+    Entry::Without(Call::Downgrade),
+    Entry::WithTable(Call::Grant),
+    Entry::WithTable(Call::Reach),
+    Entry::WithTable(Call::Revoke),
+    Entry::WithTable(Call::Downgrade),
+    Entry::File(FileCall::Write),
+    Entry::File(FileCall::Read),
 ];
-
-const fn without_table(call: Call) -> Entry {
-    Entry { call, table: false }
-}
-
-const fn with_table(call: Call) -> Entry {
-    Entry { call, table: true }
-}
 
 /// Makes a call on two lent buffers; answers the number returned.
 pub fn entry_call(n: &Passed, block: &mut Lent, answers: &mut Lent) -> u32 {
@@ -110,4 +120,19 @@ pub fn entry_call_table(n: &Passed, block: &mut Lent, table: &mut Lent, answers:
             _ => unreachable!("the call takes no table"),
         }
     }
+}
+
+/// Writes the register of a block as text; answers the number returned.
+pub fn entry_write(block: &mut Lent, text: &mut Lent, answers: &mut Lent) -> u32 {
+    let (b, b_len, a, a_len) = (block.pointer(), block.len(), answers.pointer(), answers.len());
+    // Each pointer is valid for its length, and the three buffers lie apart.
+    unsafe { seatreg_write(b, b_len, text.pointer(), text.len(), a, a_len) }
+}
+
+/// Reads a register file into a block; answers the number returned.
+pub fn entry_read(block: &mut Lent, text: &mut Lent, table: &mut Lent, answers: &mut Lent) -> u32 {
+    let (b, b_len, a, a_len) = (block.pointer(), block.len(), answers.pointer(), answers.len());
+    let (t, t_len) = (table.pointer(), table.len());
+    // Each pointer is valid for its length, and the four buffers lie apart.
+    unsafe { seatreg_read(b, b_len, text.pointer(), text.len(), t, t_len, a, a_len) }
 }

@@ -2,14 +2,19 @@
 //! comparison finds them.
 
 use crate::buffers::Buffers;
+use crate::contents::Contents;
+use crate::draw::List;
 use crate::readers::{Delegation, Listed};
 use crate::report::{Part, Report};
 use crate::standing::{Left, Standing};
+use second::random::Random;
 use second::refusal::Passed;
 use std::mem::swap;
 
 pub struct Fault {
     pub name: &'static str,
+    /// The lists in which it is looked for.
+    pub lists: fn(&mut Random) -> List,
     /// What is passed in place of the call.
     pub before: fn(&Passed) -> Passed,
     /// What is lent in place of a table's text; nothing calls the entry point that takes none.
@@ -17,6 +22,12 @@ pub struct Fault {
     /// For which grants for a standing pair the entry point is not called, and what these do.
     pub when: fn(&Standing) -> bool,
     pub does: fn(&Standing) -> Left,
+    /// What is made in place of the entry point of a write or a read, from what it is lent: the number
+    /// that it returns, and the buffers as it leaves them.
+    pub write: Option<fn(&Contents) -> (u32, Contents)>,
+    pub read: Option<fn(&Contents) -> (u32, Contents)>,
+    /// What happens to a file between a write and the read that follows it.
+    pub carried: fn(&mut Vec<u8>),
     /// What happens to the lent buffers after a call that returned a number.
     pub after: fn(u32, &mut Buffers),
     /// What happens to what the header's readers gave.
@@ -28,16 +39,20 @@ pub struct Fault {
 /// A fault that changes nothing, for those that differ from it.
 pub const NONE: Fault = Fault {
     name: "none",
+    lists: List::draw,
     before: |n| *n,
     text: |text| Some(text),
     when: |_| false,
     does: Standing::raised,
+    write: None,
+    read: None,
+    carried: |_| (),
     after: |_, _| (),
     listed: |_| (),
     parts: &[],
 };
 
-pub const FAULTS: [Fault; 18] = [
+pub const FAULTS: [Fault; 20] = [
     Fault {
         name: "giver and receiver exchanged",
         before: |n| Passed { giver: n.receiver, receiver: n.giver, ..*n },
@@ -96,6 +111,18 @@ pub const FAULTS: [Fault; 18] = [
         name: "a byte written past the table's text",
         after: |_, lent| lent.table.break_guard(),
         parts: &[Part::Guards],
+        ..NONE
+    },
+    Fault {
+        name: "a byte written past the register file",
+        after: |_, lent| lent.file.break_guard(),
+        parts: &[Part::Guards],
+        ..NONE
+    },
+    Fault {
+        name: "a register file's last line lost before it is read back",
+        carried: |file| file.truncate(file[..file.len() - 1].iter().rposition(|&byte| byte == b'\n').unwrap_or(0) + 1),
+        parts: &[Part::Back],
         ..NONE
     },
     listed("a subject missing in the list", |listed| { listed.marks.pop(); }),

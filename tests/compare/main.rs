@@ -1,8 +1,8 @@
 //! Random calls through the C entry points of libseatreg.a and through the
 //! second implementation, side by side. After every call the number returned,
-//! the answers, every byte of the block and of the table's text, and the bytes
-//! around each lent buffer are compared; after an accepted one also what the
-//! header's readers list.
+//! the answers, every byte of the block, of the table's text and of the register
+//! file, and the bytes around each lent buffer are compared; after an accepted one
+//! also what the header's readers list; and what was written is read back.
 //!
 //! `compare SEED CASES` runs; where there are many cases, every refusal must be
 //! among what is returned. `compare self-test SEED CASES` runs once for each
@@ -10,24 +10,30 @@
 //! prints what include/seatreg.h has to say by the second implementation.
 
 mod buffers;
+mod contents;
 mod draw;
 mod entry;
 mod fault;
+mod filetexts;
 mod header;
 mod lent;
 mod raises;
 mod readers;
+mod reads;
 mod report;
+mod returned;
 mod standing;
 mod tables;
+mod writes;
 
 use buffers::Buffers;
-use draw::List;
 use fault::{Fault, FAULTS, NONE};
 use raises::RAISES;
+use reads::READS;
 use report::Report;
 use second::random::Random;
 use std::process::ExitCode;
+use writes::WRITES;
 
 fn main() -> ExitCode {
     let arguments: Vec<String> = std::env::args().skip(1).collect();
@@ -64,7 +70,7 @@ fn finds_nothing(seed: u64, cases: u64) -> bool {
 /// Each fault is found, and only in the parts where it was put in.
 fn finds_faults(seed: u64, cases: u64) -> bool {
     let mut all_found = true;
-    for fault in FAULTS.iter().chain(&RAISES) {
+    for fault in FAULTS.iter().chain(&RAISES).chain(&WRITES).chain(&READS) {
         let report = compare(seed, cases, fault, false);
         let found = fault.is_found(&report);
         let verdict = if found { "found" } else { "NOT FOUND" };
@@ -80,7 +86,7 @@ fn compare(seed: u64, cases: u64, fault: &Fault, shows: bool) -> Report {
     let mut report = Report::new(shows);
     let mut lent = Buffers::new();
     while report.cases < cases {
-        let mut list = List::draw(&mut random);
+        let mut list = (fault.lists)(&mut random);
         let mut block = list.first_block();
         while report.cases < cases {
             let Some(drawn) = list.next(&mut random, &mut block) else { break };

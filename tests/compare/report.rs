@@ -1,12 +1,15 @@
 //! What a comparison counts and prints.
 
+use crate::contents::{Asked, Contents};
 use crate::draw::{Kind, KINDS};
-use crate::entry::{Entry, ENTRIES};
+use crate::entry::{Entry, FileCall, ENTRIES};
+use crate::returned::Back;
 use crate::standing::{Standing, NUMBERS};
 use crate::tables::{Text, TextKind, TEXT_KINDS};
-use second::block::BLOCK_LEN;
+use second::block::{word, BLOCK_LEN, DELEGATIONS_AT, MOST_DELEGATIONS};
 use second::host::ANSWERS_LEN;
-use second::refusal::{takes_table, tests, Call, Passed, NOT_WELL_FORMED, WRONG_LENGTH};
+use second::refusal::{takes_table, tests, Call, NOT_WELL_FORMED, UNSUPPORTED, WRONG_LENGTH};
+use second::regfile::{READ_REFUSALS, WRITE_REFUSALS};
 use std::collections::BTreeMap;
 
 /// How many differences are printed.
@@ -18,26 +21,54 @@ pub enum Part {
     Number,
     Block,
     Answers,
+    /// The register file that was read, or every byte of the buffer that was written to.
+    File,
     Table,
     Guards,
     Listed,
+    /// The file that was written, when it is read back.
+    Back,
 }
 
-pub const PARTS: [Part; 6] = [Part::Number, Part::Block, Part::Answers, Part::Table, Part::Guards, Part::Listed];
+pub const PARTS: [Part; 8] = [
+    Part::Number, Part::Block, Part::Answers, Part::File, Part::Table, Part::Guards, Part::Listed, Part::Back,
+];
 
 /// A call that was made on both sides.
 pub struct Case {
-    pub passed: Passed,
+    pub asked: Asked,
     pub text: Text,
-    pub block_length: usize,
     /// Of a grant for a standing pair.
     pub standing: Option<Standing>,
     /// What the entry point returned, and what the second implementation did.
     pub number: u32,
     pub due: u32,
-    /// The answers' bytes as the second implementation left them.
-    pub due_answers: Vec<u8>,
+    /// The buffers as the second implementation left them.
+    pub left: Contents,
+    /// Of an accepted write.
+    pub back: Option<Back>,
     pub differs: Vec<Part>,
+}
+
+impl Case {
+    fn entry(&self) -> Entry {
+        match self.asked {
+            Asked::Call(n) if self.text.kind == TextKind::Without => Entry::Without(n.call),
+            Asked::Call(n) => Entry::WithTable(n.call),
+            Asked::File(call) => Entry::File(call),
+        }
+    }
+
+    fn takes_table(&self) -> bool {
+        match self.asked {
+            Asked::Call(n) => takes_table(n.call),
+            Asked::File(call) => call == FileCall::Read,
+        }
+    }
+
+    fn is_accepted_cut(&self) -> bool {
+        matches!(self.asked, Asked::Call(n) if matches!(n.call, Call::Revoke | Call::Downgrade)) && self.due == 0
+    }
 }
 
 pub struct Report {
@@ -52,6 +83,7 @@ pub struct Report {
     /// Under our table, and under others.
     cuts: [Cuts; 2],
     standing: [StandingGrants; 2],
+    files: [Files; 2],
     /// How often an entry point, by its place in `ENTRIES`, returned a number.
     returned: BTreeMap<(usize, u32), u64>,
     shows: bool,
@@ -75,6 +107,46 @@ impl Cuts {
         self.lowered += (answer(4) > 0) as u64;
         self.rounds += (answer(8) >= 3) as u64;
         self.most = self.most.max(answer(8));
+    }
+}
+
+/// What became of the register files.
+#[derive(Clone, Copy, Default)]
+struct Files {
+    /// How many were read, of these full registers, and refused with 18.
+    read: u64,
+    full: u64,
+    unsupported: u64,
+    /// Of those that were written, how many came back as the same block, and how many with 18.
+    same: u64,
+    not_back: u64,
+}
+
+impl Files {
+    fn add(&mut self, case: &Case) {
+        self.same += (case.back == Some(Back::Same)) as u64;
+        self.not_back += (case.back == Some(Back::Unsupported)) as u64;
+        if !matches!(case.asked, Asked::File(FileCall::Read)) {
+            return;
+        }
+        self.unsupported += (case.due == UNSUPPORTED) as u64;
+        if case.due == 0 {
+            self.read += 1;
+            self.full += (word(&case.left.block, DELEGATIONS_AT) as usize == MOST_DELEGATIONS) as u64;
+        }
+    }
+
+    /// What did not occur.
+    fn missing(&self) -> Vec<&'static str> {
+        let Files { read, full, unsupported, same, not_back } = *self;
+        let counts = [
+            (read, "a file read"),
+            (full, "a full register's file read"),
+            (unsupported, "a file refused with 18"),
+            (same, "a file written and read back"),
+            (not_back, "a file written and refused with 18"),
+        ];
+        counts.into_iter().filter(|(count, _)| *count == 0).map(|(_, what)| what).collect()
     }
 }
 
@@ -109,7 +181,7 @@ impl StandingGrants {
     }
 }
 
-/// The tables by which cuts and grants for a standing pair are counted.
+/// The tables by which cuts, grants for a standing pair and register files are counted.
 const TABLES: [&str; 2] = ["our table", "others"];
 
 impl Report {
@@ -125,6 +197,7 @@ impl Report {
             of_text: [0; TEXT_KINDS.len()],
             cuts: [Cuts::default(); 2],
             standing: [StandingGrants::default(); 2],
+            files: [Files::default(); 2],
             returned: BTreeMap::new(),
             shows,
         }
@@ -133,17 +206,16 @@ impl Report {
     pub fn add(&mut self, kind: Kind, case: &Case) {
         self.cases += 1;
         self.of_kind[kind as usize] += 1;
-        self.block_lengths += (case.block_length != BLOCK_LEN) as u64;
-        self.answers_lengths += (case.due_answers.len() != ANSWERS_LEN) as u64;
-        let (call, text) = (case.passed.call, case.text.kind);
-        self.of_text[text as usize] += takes_table(call) as u64;
-        let entry = Entry { call, table: text != TextKind::Without };
-        if let Some(place) = ENTRIES.iter().position(|&other| other == entry) {
+        self.block_lengths += (case.left.block.len() != BLOCK_LEN) as u64;
+        self.answers_lengths += (case.left.answers.len() != ANSWERS_LEN) as u64;
+        self.of_text[case.text.kind as usize] += case.takes_table() as u64;
+        if let Some(place) = ENTRIES.iter().position(|&other| other == case.entry()) {
             *self.returned.entry((place, case.due)).or_insert(0) += 1;
         }
-        let table = (text == TextKind::Other) as usize;
-        if matches!(call, Call::Revoke | Call::Downgrade) && case.due == 0 {
-            self.cuts[table].add(&case.due_answers);
+        let table = (case.text.kind == TextKind::Other) as usize;
+        self.files[table].add(case);
+        if case.is_accepted_cut() {
+            self.cuts[table].add(&case.left.answers);
         }
         if let Some(standing) = &case.standing {
             self.standing[table].add(standing, case.due);
@@ -159,8 +231,9 @@ impl Report {
     }
 
     fn show(&self, case: &Case) {
-        println!("case {}: {:?} differ: {:?}", self.cases, case.differs, case.passed);
-        println!("  block of {} bytes, answers of {}", case.block_length, case.due_answers.len());
+        println!("case {}: {:?} differ: {:?}", self.cases, case.differs, case.asked);
+        let Contents { block, file, answers, .. } = &case.left;
+        println!("  block of {} bytes, register file of {}, answers of {}", block.len(), file.len(), answers.len());
         println!("  the table's text: {:?}", case.text.kind);
         println!("  the entry point returned {}, due {}", case.number, case.due);
     }
@@ -197,6 +270,11 @@ impl Report {
             let counts = format!("{dropped} dropped, {lowered} lowered, {rounds} had 3 rounds or more, {most} the most");
             println!("cuts under {table}: {counts}");
         }
+        for (table, files) in TABLES.iter().zip(self.files) {
+            let Files { read, full, unsupported, same, not_back } = files;
+            println!("register files under {table}: {read} read, {full} of them of full registers, {unsupported} with 18");
+            println!("        written and read back: {same} the same, {not_back} with 18");
+        }
         println!("wrong lengths: {} of the block, {} of the answers", self.block_lengths, self.answers_lengths);
         match self.missing()[..] {
             [] => println!("every refusal that a call can return was returned"),
@@ -205,7 +283,8 @@ impl Report {
         println!("compare: {} cases, {} differences, seed {seed}", self.cases, self.different);
     }
 
-    /// The numbers that a call can return and did not; of grants for a standing pair also by table and register.
+    /// The numbers that a call can return and did not; of grants for a standing pair and of register files also by
+    /// table and register.
     pub fn missing(&self) -> Vec<String> {
         let mut missing = Vec::new();
         for (place, &entry) in ENTRIES.iter().enumerate() {
@@ -218,24 +297,36 @@ impl Report {
             let absent = grants.missing().into_iter();
             missing.extend(absent.map(|(number, place)| format!("{number} for a standing pair, {table}, {place}")));
         }
+        for (table, files) in TABLES.iter().zip(self.files) {
+            missing.extend(files.missing().into_iter().map(|what| format!("{what}, {table}")));
+        }
         missing
     }
 }
 
 pub fn name(entry: Entry) -> String {
-    let call = format!("{:?}", entry.call).to_lowercase();
-    if entry.table { call + "_table" } else { call }
+    match entry {
+        Entry::Without(call) => format!("{call:?}").to_lowercase(),
+        Entry::WithTable(call) => format!("{call:?}").to_lowercase() + "_table",
+        Entry::File(call) => format!("{call:?}").to_lowercase(),
+    }
 }
 
 /// The refusals of an entry point, in their order.
 pub fn refusals(entry: Entry) -> Vec<u32> {
-    let tests = tests(entry.call);
+    let (call, table) = match entry {
+        Entry::File(FileCall::Write) => return WRITE_REFUSALS.to_vec(),
+        Entry::File(FileCall::Read) => return READ_REFUSALS.to_vec(),
+        Entry::Without(call) => (call, false),
+        Entry::WithTable(call) => (call, true),
+    };
+    let tests = tests(call);
     let mut numbers = vec![WRONG_LENGTH];
     numbers.extend(tests.passed.iter().map(|(number, _)| *number));
-    if entry.table {
+    if table {
         numbers.extend(tests.table);
     }
-    if entry.call != Call::Open {
+    if call != Call::Open {
         numbers.push(NOT_WELL_FORMED);
     }
     numbers.extend(tests.held.iter().map(|(number, _)| *number));

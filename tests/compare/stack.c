@@ -23,6 +23,8 @@ static uint8_t block[SEATREG_BLOCK_SIZE];
 static uint8_t answers[SEATREG_ANSWERS_SIZE];
 static char table[12 + 256 * 8 + 1]; /* our table's text, lent to the calls that take one */
 static size_t table_len;
+static uint8_t text[SEATREG_TEXT_SIZE]; /* a register file */
+static size_t text_len;
 #define BLOCK block, sizeof block
 #define TABLE (const uint8_t *)table, table_len
 #define ANSWERS answers, sizeof answers
@@ -140,6 +142,34 @@ static void build_deep(void)
     grant_met_by(BACK, BACK, END, SEATREG_UNLIMITED);
 }
 
+/* A register, and its file. */
+static void build_file(void (*build_register)(void))
+{
+    build_register();
+    check(seatreg_write(BLOCK, text, sizeof text, ANSWERS) == SEATREG_ACCEPTED, "write", "refused");
+    text_len = (size_t)seatreg_answer(answers, 0);
+}
+
+static void build_full_file(void) { build_file(build_full); }
+static void build_deep_file(void) { build_file(build_deep); }
+
+/* On the last line need and bar share a mark. */
+static void build_unformed_file(void)
+{
+    build_file(build_full);
+    text[text_len - 2] = text[text_len - 4] = '1';
+}
+
+/* The owner's delegations come first: all have weight 0, so nothing supports the others. */
+static void build_unsupported(void)
+{
+    build_full();
+    for (size_t i = 0; i < SEATREG_MOST_SUBJECTS - 1; i++)
+        block[132 + 8 * i + 2] = SEATREG_USE_ONLY;
+}
+
+static void build_unsupported_file(void) { build_file(build_unsupported); }
+
 /* The calls that are measured. */
 static uint32_t returned;
 
@@ -163,6 +193,9 @@ static void revoke_first_table(void) { returned = seatreg_revoke_table(BLOCK, 0,
 static void revoke_deep_table(void) { returned = seatreg_revoke_table(BLOCK, 0, 1, 12, TABLE, ANSWERS); }
 static void downgrade_first_table(void) { returned = seatreg_downgrade_table(BLOCK, 0, 0, 1, 0, TABLE, ANSWERS); }
 static void downgrade_deep_table(void) { returned = seatreg_downgrade_table(BLOCK, 0, 1, 12, 0, TABLE, ANSWERS); }
+
+static void write_file(void) { returned = seatreg_write(BLOCK, text, sizeof text, ANSWERS); }
+static void read_file(void) { returned = seatreg_read(BLOCK, text, text_len, TABLE, ANSWERS); }
 
 /* A row: the register, the call, the rounds it must answer, 0 if it is no cut, and what it must return:
  * for 7 the table's text is lent without its last byte. */
@@ -196,6 +229,13 @@ static const struct row rows[] = {
     {"downgrade with a table", build_full, downgrade_first_table, 1, 0},
     {"  485 rounds", build_deep, downgrade_deep_table, 485, 0},
     {"  refused with 7", build_full, downgrade_first_table, 0, SEATREG_MALFORMED},
+    {"write, full register", build_full, write_file, 0, 0},
+    {"  unsupported", build_unsupported, write_file, 0, 0},
+    {"read, full register", build_full_file, read_file, 0, 0},
+    {"  the register of 485 rounds", build_deep_file, read_file, 0, 0},
+    {"  refused with 7", build_full_file, read_file, 0, SEATREG_MALFORMED},
+    {"  refused with 8", build_unformed_file, read_file, 0, SEATREG_NOT_WELL_FORMED},
+    {"  refused with 18", build_unsupported_file, read_file, 0, SEATREG_UNSUPPORTED},
 };
 
 /* The thread: makes a call below ROOM bytes of its own. */

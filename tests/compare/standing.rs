@@ -1,5 +1,6 @@
 //! Grants for a pair that stands: some raise its weight, all others are refused.
 
+use crate::contents::Asked;
 use second::block::{decode, Delegation, Register, MOST_DELEGATIONS};
 use second::refusal::{Call, Passed};
 use second::search::reach_table;
@@ -31,7 +32,8 @@ pub struct Left {
 
 impl Standing {
     /// From the block before the call and the number that is due, if the call is such a grant.
-    pub fn of(passed: &Passed, table: &Table, block: &[u8], due: u32) -> Option<Standing> {
+    pub fn of(asked: &Asked, table: &Table, block: &[u8], due: u32) -> Option<Standing> {
+        let Asked::Call(passed) = asked else { return None };
         if passed.call != Call::Grant || !NUMBERS.contains(&due) {
             return None;
         }

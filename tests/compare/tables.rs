@@ -37,6 +37,11 @@ impl Text {
         Text { bytes: None, kind: TextKind::Without, table: OURS }
     }
 
+    /// For an entry point that always takes a text: an empty one in place of none.
+    pub fn lent(self) -> Text {
+        if self.bytes.is_some() { self } else { Text::of(Vec::new()) }
+    }
+
     pub fn of(bytes: Vec<u8>) -> Text {
         let read = Table::read(&bytes);
         let kind = match read {
@@ -69,6 +74,11 @@ impl Tables {
         Tables { usual }
     }
 
+    /// One that passes.
+    pub fn usual(&self, random: &mut Random) -> Text {
+        self.usual[random.below(self.usual.len() as u32) as usize].clone()
+    }
+
     /// What a call that takes a table is lent.
     pub fn next(&self, random: &mut Random) -> Text {
         match random.below(100) {
@@ -78,7 +88,7 @@ impl Tables {
             14 => Text::of(Vec::new()),
             15 => Text::of(OURS.text()),
             16 => Text::without(),
-            _ => self.usual[random.below(self.usual.len() as u32) as usize].clone(),
+            _ => self.usual(random),
         }
     }
 }
@@ -135,7 +145,7 @@ fn broken(random: &mut Random) -> Vec<u8> {
 }
 
 /// Bytes that stand in a text, or are taken for such.
-const BYTES: &[u8] = b"01234567899-- \n\n\r\t+.,\0\x0B\xA0";
+pub const BYTES: &[u8] = b"01234567899-- \n\n\r\t+.,\0\x0B\xA0";
 /// Short texts, which also stand after another one.
 const SHORT: [&[u8]; 7] = [b"\n", b"\0", b" ", b"255 255\n", b"256 255\n", b"weight next", b"weight next\n"];
 
@@ -158,8 +168,8 @@ fn malformed(random: &mut Random) -> Vec<u8> {
     text
 }
 
-/// A place in a text, often near one of its ends.
-fn place(random: &mut Random, length: usize) -> usize {
+/// A place in a text of more than 20 bytes, often near one of its ends.
+pub fn place(random: &mut Random, length: usize) -> usize {
     let near = random.below(20) as usize;
     match random.below(10) {
         0 | 1 => near,
@@ -174,11 +184,16 @@ const ODD: [&str; 17] = [
     "4294967296", "4294967551", "18446744073709551616", "99999999999999999999",
 ];
 
+/// One of these.
+pub fn odd_number(random: &mut Random) -> &'static str {
+    random.pick(&ODD)
+}
+
 /// The text with one of its lines changed.
 fn with_odd_line(random: &mut Random, text: &[u8]) -> Vec<u8> {
     let mut lines: Vec<String> = lines(text).map(|line| String::from_utf8_lossy(line).into()).collect();
     let at = random.below(lines.len() as u32) as usize;
-    let (odd, line) = (random.pick(&ODD), lines[at].trim_end().to_string());
+    let (odd, line) = (odd_number(random), lines[at].trim_end().to_string());
     let (weight, next) = line.split_once(' ').unwrap_or_default();
     let more = random.pick(&[1, 256, 65_536, 1 << 32]) + weight.parse::<u64>().unwrap_or(0);
     lines[at] = match random.below(18) {

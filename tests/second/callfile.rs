@@ -48,8 +48,13 @@ pub fn read_call(line: &[u8]) -> Option<Passed> {
 
 /// Seven decimal numbers with one space between and nothing else.
 pub fn read_values(text: &[u8]) -> Option<[u32; 7]> {
+    read_columns(text)
+}
+
+/// So many decimal numbers with one space between and nothing else.
+pub fn read_columns<const COLUMNS: usize>(text: &[u8]) -> Option<[u32; COLUMNS]> {
     let mut parts = text.split(|&byte| byte == b' ');
-    let mut values = [0; 7];
+    let mut values = [0; COLUMNS];
     for value in &mut values {
         *value = read_number(parts.next()?)?;
     }

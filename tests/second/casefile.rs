@@ -54,9 +54,14 @@ pub fn block_text(block: &[u8]) -> String {
 
 /// The block that a text writes, or nothing if it writes none.
 pub fn read_block(text: &[u8]) -> Option<Vec<u8>> {
+    read_sized(text, MOST_BYTES)
+}
+
+/// The same, of at most so many bytes.
+pub fn read_sized(text: &[u8], most: usize) -> Option<Vec<u8>> {
     let colon = text.iter().position(|&byte| byte == b':')?;
     let length: usize = std::str::from_utf8(&text[..colon]).ok()?.parse().ok()?;
-    if length > MOST_BYTES {
+    if length > most {
         return None;
     }
     let mut block = read_bytes(&text[colon + 1..])?;

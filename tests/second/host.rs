@@ -1,9 +1,10 @@
 //! The calls as a host makes them: the refusal number is returned, and only
 //! when it is 0 the three answers are in 12 lent bytes.
 
-use crate::call::run_table;
+use crate::call::{run_table, Outcome, Written};
 use crate::engine::Engine;
 use crate::refusal::{Passed, WRONG_LENGTH};
+use crate::regfile;
 
 pub const ANSWERS_LEN: usize = 12;
 
@@ -17,7 +18,28 @@ pub fn host_call_table(engine: &Engine, n: &Passed, text: &[u8], block: &mut [u8
     if answers.len() != ANSWERS_LEN {
         return WRONG_LENGTH;
     }
-    let outcome = run_table(engine, n, text, block);
+    told(run_table(engine, n, text, block), answers)
+}
+
+/// Writes the register's file; the first answer is how many bytes it has.
+pub fn host_write(block: &[u8], text: &mut [u8], answers: &mut [u8]) -> u32 {
+    if answers.len() != ANSWERS_LEN {
+        return WRONG_LENGTH;
+    }
+    let Written { refusal, filled } = regfile::write(block, text);
+    told(Outcome { refusal, answers: [filled as i32, 0, 0] }, answers)
+}
+
+/// Reads a register's file, lent a table's text; every answer is 0.
+pub fn host_read(engine: &Engine, block: &mut [u8], text: &[u8], table: &[u8], answers: &mut [u8]) -> u32 {
+    if answers.len() != ANSWERS_LEN {
+        return WRONG_LENGTH;
+    }
+    told(regfile::read(engine, block, text, table), answers)
+}
+
+/// The number returned; the answers are written only when it is 0.
+fn told(outcome: Outcome, answers: &mut [u8]) -> u32 {
     if outcome.refusal == 0 {
         answers.copy_from_slice(&answer_bytes(outcome.answers));
     }

@@ -7,11 +7,14 @@ use crate::engine::Engine;
 use crate::table::{Table, OURS};
 
 pub const WRONG_LENGTH: u32 = 1;
-/// A line of a call file, or a table's text, has another form.
+/// A line of a call file, or of a register file, or a table's text, has another form.
 pub const MALFORMED: u32 = 7;
+/// The block, or the block that the lines of a register file would make.
 pub const NOT_WELL_FORMED: u32 = 8;
 /// The entries of a table's text break a rule.
 pub const BAD_TABLE: u32 = 17;
+/// Some delegation of a register file is unsupported.
+pub const UNSUPPORTED: u32 = 18;
 pub const LEAST_BUFFER: usize = 126;
 
 /// The calls, in the order of their numbers in the case files.

@@ -5,6 +5,9 @@ use crate::reading;
 // A line gives a block of at most this many bytes.
 pub const MOST_BLOCK: usize = 4096;
 
+// A line gives a register's file of at most this many bytes.
+pub const MOST_FILE: usize = 16384;
+
 // A block's length, and where the text goes on.
 pub struct Block {
     pub size: usize,

@@ -1,6 +1,6 @@
 // Writing: to standard output, and into a buffer. A function that writes into a buffer answers where the text goes on; what
 // does not fit is left out.
-use crate::blocks::MOST_BLOCK;
+use crate::blocks::MOST_FILE;
 use crate::reading;
 use libc::STDOUT_FILENO;
 
@@ -31,7 +31,7 @@ fn print_signed(v: i32) {
 fn print_block(block: &[u8]) {
     print_number(block.len() as u64);
     print(b":");
-    let mut space = [0u8; 2 * MOST_BLOCK];
+    let mut space = [0u8; 2 * MOST_FILE];
     let at = put_all_hex(&mut space, block, used(block));
     let n = reading::within(at, &space);
     print(&space[..n]);
@@ -116,10 +116,10 @@ pub fn print_outcome(
     print(b"\n");
 }
 
-// The block that the call left, or `=` if no byte has changed.
+// The bytes that the call left, or `=` if none has changed; `before` may be longer by zeros.
 pub fn print_left(before: &[u8], block: &[u8]) {
     let n = reading::within(block.len(), before);
-    if check::same(&before[..n], block) {
+    if check::same(&before[..n], block) && used(before) <= block.len() {
         print(b"=");
         return;
     }

@@ -17,6 +17,9 @@ pub struct Columns {
     pub is_read: bool,
 }
 
+// The number of the write call, which is made elsewhere, since it leaves a file.
+pub const WRITE: u32 = 8;
+
 // What stands for the refusal where there is no such call.
 const NO_CALL: u32 = 99;
 
@@ -42,8 +45,9 @@ pub fn read_columns(text: &[u8], from: usize, has_table: bool) -> Columns {
     }
 }
 
-// One arm for each call that reckons reach, by its number in the files; it is lent the table's text where the line has one.
-pub fn make(c: Columns, table: &[u8], block: &mut [u8]) -> Answer {
+// One arm for each call that reckons reach, by its number in the files; it is lent the table's text where the line has one. Only read
+// takes a file.
+pub fn make(c: Columns, file: &[u8], table: &[u8], block: &mut [u8]) -> Answer {
     let call = c.call;
     match call {
         1 => grant(c, table, block),
@@ -51,15 +55,13 @@ pub fn make(c: Columns, table: &[u8], block: &mut [u8]) -> Answer {
         3 => downgrade(c, table, block),
         4 => reach(c, table, block),
         7 => chain(c, table, block),
+        9 => transfer::read_file(block, file, table),
         _ => make_other(c, block),
     }
 }
 
-// The calls that are lent no table.
+// The calls that take no table.
 fn make_other(c: Columns, block: &mut [u8]) -> Answer {
-    if c.has_table {
-        return no_answer();
-    }
     let call = c.call;
     match call {
         0 => register::enrol(block, c.need),

@@ -46,7 +46,7 @@ fn run_file(name: &[u8]) -> bool {
     run_text(reading::byte_at(name, 0), &space[..got])
 }
 
-// Runs a text by the first byte of its file's name, a digit for a call file, `l` for lists, `t` for cases with tables; false where it cannot be read to its end.
+// Runs a text by the first byte of its file's name, a digit for a call file, `l` for lists, else cases, `t` for those with tables and `f` for those with files; false where it cannot be read to its end.
 fn run_text(kind: u8, text: &[u8]) -> bool {
     if kind <= b'9' {
         print_calls(text);
@@ -58,9 +58,10 @@ fn run_text(kind: u8, text: &[u8]) -> bool {
     if kind == b'l' {
         return lists::run_lines(text);
     }
+    let mut file = [0u8; blocks::MOST_FILE];
     let mut table = [0u8; blocks::MOST_BLOCK];
     let mut block = [0u8; blocks::MOST_BLOCK];
-    run::run_lines(text, kind == b't', &mut table, &mut block)
+    run::run_lines(text, kind, &mut file, &mut table, &mut block)
 }
 
 // What the program prints for a call file.

@@ -1,18 +1,21 @@
-// Runs the lines of a text, each on the block that it gives or that the line before left, and, where lines have a table's text,
-// by the one that it gives or that the line before had.
+// Runs the lines of a text, each on the block that it gives or that the line before left, and, where lines have a table's text or a
+// register's file, on the one that it gives or that the line before left.
 ghost use mathlib.Core.Path.{_≡_};
 ghost use lib.ListN.{length};
-ghost use Rattle.casefile.specs.Sizes.{mostBlock};
+ghost use Rattle.casefile.specs.Sizes.{mostBlock, mostFile};
 use crate::calls;
 use crate::calls::Columns;
 use casefile::blocks;
 use casefile::blocks::Block;
 use casefile::out;
 use casefile::reading;
+use judge::files;
 
-// Where the next line begins, 0 where a line cannot be read, and the lengths of the table's text and of the block that are left.
+// Where the next line begins, 0 where a line cannot be read, and the lengths of the file, of the table's text and of the block that
+// are left.
 struct Place {
     at: usize,
+    file_size: usize,
     table_size: usize,
     size: usize,
 }
@@ -20,20 +23,29 @@ struct Place {
 fn nowhere() -> Place {
     Place {
         at: 0,
+        file_size: 0,
         table_size: 0,
         size: 0,
     }
 }
 
-// Runs every line, with a table's text on each or on none; false where one cannot be read.
-pub fn run_lines(text: &[u8], has_tables: bool, table: &mut [u8], block: &mut [u8]) -> bool {
+// Runs every line, by the first byte of the text's name: `t` where lines have a table's text, `f` where they have a file and a
+// table's text; false where one cannot be read.
+pub fn run_lines(
+    text: &[u8],
+    kind: u8,
+    file: &mut [u8],
+    table: &mut [u8],
+    block: &mut [u8],
+) -> bool {
     let mut place = Place {
         at: 0,
+        file_size: 0,
         table_size: 0,
         size: 0,
     };
     while place.at < text.len() {
-        let next = run_line(text, has_tables, place, table, block);
+        let next = run_line(text, kind, place, file, table, block);
         if next.at <= place.at {
             return false;
         }
@@ -45,51 +57,77 @@ pub fn run_lines(text: &[u8], has_tables: bool, table: &mut [u8], block: &mut [u
 // Runs the line at a place, on the bytes that are left where it says `=`.
 fn run_line(
     text: &[u8],
-    has_tables: bool,
+    kind: u8,
     from: Place,
+    file: &mut [u8],
     table: &mut [u8],
     block: &mut [u8],
 ) -> Place {
-    let columns = calls::read_columns(text, from.at, has_tables);
+    let has_file = kind == b'f';
+    let has_table = has_file || kind == b't';
+    let columns = calls::read_columns(text, from.at, has_table);
     if !columns.is_read {
         return nowhere();
     }
-    let lent = read_table(text, columns, table, from.table_size);
+    let filed = read_part(text, columns.after, has_file, file, from.file_size);
+    let lent = read_part(text, filed.after, has_table, table, from.table_size);
     let read = blocks::read_block(text, lent.after, block, from.size, b'\n');
-    if !lent.is_read || !read.is_read {
+    if !filed.is_read || !lent.is_read || !read.is_read {
         return nowhere();
     }
-    run_fronts(columns, table, lent.size, block, read.size);
+    let left = run_fronts(
+        columns,
+        file,
+        filed.size,
+        table,
+        lent.size,
+        block,
+        read.size,
+    );
     Place {
         at: read.after,
+        file_size: left,
         table_size: lent.size,
         size: read.size,
     }
 }
 
-// The table's text, empty where the line has none.
-fn read_table(text: &[u8], columns: Columns, table: &mut [u8], size: usize) -> Block {
-    if columns.has_table {
-        return blocks::read_block(text, columns.after, table, size, b' ');
+// A column of bytes, empty where the line has none.
+fn read_part(text: &[u8], from: usize, is_there: bool, part: &mut [u8], size: usize) -> Block {
+    if is_there {
+        return blocks::read_block(text, from, part, size, b' ');
     }
     Block {
         size: 0,
-        after: columns.after,
+        after: from,
         is_read: true,
     }
 }
 
-// The call on the first bytes of each.
-fn run_fronts(columns: Columns, table: &[u8], table_size: usize, block: &mut [u8], size: usize) {
-    let m = reading::within(table_size, table);
+// The call on the first bytes of each; how many bytes of the file are left.
+fn run_fronts(
+    columns: Columns,
+    file: &mut [u8],
+    file_size: usize,
+    table: &[u8],
+    table_size: usize,
+    block: &mut [u8],
+    size: usize,
+) -> usize {
     let n = reading::within(size, block);
-    run_call(columns, &table[..m], &mut block[..n]);
+    if columns.call == calls::WRITE {
+        return run_write(columns.weight as usize, file, file_size, &block[..n]);
+    }
+    let k = reading::within(file_size, file);
+    let m = reading::within(table_size, table);
+    run_call(columns, &file[..k], &table[..m], &mut block[..n]);
+    file_size
 }
 
 // Makes the call and prints what comes out.
-fn run_call(columns: Columns, table: &[u8], block: &mut [u8]) {
+fn run_call(columns: Columns, file: &[u8], table: &[u8], block: &mut [u8]) {
     let before = kept(block);
-    let answer = calls::make(columns, table, block);
+    let answer = calls::make(columns, file, table, block);
     out::print_outcome(
         answer.refusal,
         answer.first,
@@ -100,11 +138,37 @@ fn run_call(columns: Columns, table: &[u8], block: &mut [u8]) {
     );
 }
 
+// Writes the block's file and prints what comes out.
+fn run_write(size: usize, file: &mut [u8], file_size: usize, block: &[u8]) -> usize {
+    let before = kept_file(file);
+    let written = files::judge_write(block, size, file, file_size);
+    let m = reading::within(file_size, &before);
+    let n = reading::within(written.length, file);
+    out::print_outcome(
+        written.refusal,
+        written.first,
+        written.second,
+        written.third,
+        &before[..m],
+        &file[..n],
+    );
+    n
+}
+
 // A copy of the block.
 fn kept(block: &[u8]) -> [u8; blocks::MOST_BLOCK]
     ensures { λ r. ⌜ mostBlock ≡ length r ⌝ }
 {
     let mut copy = [0u8; blocks::MOST_BLOCK];
     out::put_bytes(&mut copy, 0, block);
+    copy
+}
+
+// A copy of the file.
+fn kept_file(file: &[u8]) -> [u8; blocks::MOST_FILE]
+    ensures { λ r. ⌜ mostFile ≡ length r ⌝ }
+{
+    let mut copy = [0u8; blocks::MOST_FILE];
+    out::put_bytes(&mut copy, 0, file);
     copy
 }

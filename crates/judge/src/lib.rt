@@ -1,4 +1,6 @@
 // The chain call, and a judge of the links that it writes: document 01's definition, link by link, by the step table of a text or by ours.
+pub mod files;
+
 use casefile::reading;
 use casefile::reading::Number;
 use chain::ChainAnswer;

@@ -9,6 +9,8 @@ mod calls;
 mod cuts;
 mod examples;
 mod faults;
+mod filecases;
+mod files;
 mod generated;
 mod hosts;
 mod listfiles;

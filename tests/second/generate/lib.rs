@@ -1,10 +1,11 @@
 //! The cases that every implementation is compared on: block-level ones in
-//! five kinds, lists of calls, and call files.
+//! five kinds, those of register files, lists of calls, and call files.
 
 pub mod broken;
 pub mod callfiles;
 pub mod deep;
 pub mod examples;
+pub mod filetexts;
 pub mod full;
 pub mod limits;
 pub mod listfiles;
@@ -12,6 +13,7 @@ pub mod lists;
 pub mod malformed;
 pub mod raises;
 pub mod refusals;
+pub mod registerfiles;
 pub mod rounds;
 pub mod slow;
 pub mod tables;
@@ -20,7 +22,7 @@ pub mod texts;
 pub mod unsupported;
 mod write;
 
-pub use write::{files, list_files, write_all};
+pub use write::{file_files, files, list_files, write_all};
 
 use second::block::{Delegation, Register};
 use second::call::blank;

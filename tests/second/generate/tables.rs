@@ -97,13 +97,13 @@ fn at_once(call: Call, text: &[u8]) -> Vec<Case> {
 
 /// Two ways from the owner to 4, one of one link and one of three; both serve 4-5
 /// under some table.
-fn two_ways(weight: u8) -> Register {
+pub fn two_ways(weight: u8) -> Register {
     let ways = [(0, 1, 255, 0, 0), (0, 4, 5, 0, 0), (1, 2, 255, 0, 0), (2, 4, 255, 0, 0), (4, 5, weight, 0, 0)];
     register(&[0; 7], &ways)
 }
 
 /// Weights at the ends of the table.
-fn ends() -> Register {
+pub fn ends() -> Register {
     let first = [(0, 1, 255, 0, 0), (0, 2, 254, 0, 0), (0, 3, 1, 0, 0), (0, 4, 0, 0, 0), (0, 5, 7, 0, 0)];
     let second = [(1, 6, 255, 0, 0), (2, 6, 253, 0, 0), (3, 6, 0, 0, 0), (5, 6, 6, 0, 0), (6, 1, 255, 0, 0)];
     register(&[0; 8], &[first, second].concat())

@@ -1,9 +1,10 @@
 //! Writes the cases: files of at most 65,536 bytes, an index and the counts.
 
-use super::{callfiles, cases, listfiles, Call, Kind, KINDS};
+use super::{callfiles, cases, listfiles, registerfiles, Call, Kind, KINDS};
 use second::callfile::{print, MOST_INPUT};
 use second::casefile::{case_line, expected_line, Case};
 use second::engine::FAST;
+use second::filecase::{self, FileCase};
 use second::listfile::{expected_lines, list_line, List};
 use std::fs;
 use std::io;
@@ -33,6 +34,23 @@ pub fn files(cases: &[Case]) -> Vec<File> {
             _ => files.push(File { cases: case_line(&whole, None), expected }),
         }
         text = case.text.as_deref();
+    }
+    files
+}
+
+/// Distributes cases of the kind `file` over files. Bytes that are already there are
+/// written `=`.
+pub fn file_files(cases: &[FileCase]) -> Vec<File> {
+    let mut files: Vec<File> = Vec::new();
+    let mut left = None;
+    for case in cases {
+        let line = filecase::case_line(case, left.as_ref());
+        let (expected, after) = filecase::expected_line(&FAST, case);
+        match files.last_mut() {
+            Some(file) if file.holds(&line, &expected) => file.add(&line, &expected),
+            _ => files.push(File { cases: filecase::case_line(case, None), expected }),
+        }
+        left = Some(after);
     }
     files
 }
@@ -76,7 +94,7 @@ fn parts(kind: &Kind) -> Vec<(&'static str, Vec<Case>)> {
 }
 
 /// The same cases, each with the block that it is made on.
-fn with_blocks(cases: &[Case]) -> Vec<Case> {
+pub fn with_blocks(cases: &[Case]) -> Vec<Case> {
     let mut current = Vec::new();
     let mut whole = Vec::with_capacity(cases.len());
     for case in cases {
@@ -94,24 +112,25 @@ pub fn write_all(folder: &Path) -> io::Result<()> {
     let mut counts = String::new();
     for (name, cases) in KINDS.iter().flat_map(parts) {
         counts.push_str(&format!("{name} {}\n", cases.len()));
-        for (at, file) in files(&cases).iter().enumerate() {
-            fs::write(folder.join(format!("{name}-{at:02}.cases")), &file.cases)?;
-            fs::write(folder.join(format!("{name}-{at:02}.expected")), &file.expected)?;
-        }
+        write_files(folder, name, "cases", &files(&cases))?;
     }
-    counts.push_str(&format!("list {}\n", write_list_files(folder)?));
+    let of_files = registerfiles::cases();
+    counts.push_str(&format!("file {}\n", of_files.len()));
+    write_files(folder, "file", "cases", &file_files(&of_files))?;
+    let lists = listfiles::all();
+    counts.push_str(&format!("list {}\n", lists.len()));
+    write_files(folder, "list", "lists", &list_files(&lists))?;
     counts.push_str(&format!("calls {}\n", write_call_files(folder)?));
     fs::write(folder.join("counts.txt"), counts)
 }
 
-/// Writes the list files; answers how many lists there are.
-fn write_list_files(folder: &Path) -> io::Result<usize> {
-    let lists = listfiles::all();
-    for (at, file) in list_files(&lists).iter().enumerate() {
-        fs::write(folder.join(format!("list-{at:02}.lists")), &file.cases)?;
-        fs::write(folder.join(format!("list-{at:02}.expected")), &file.expected)?;
+/// Writes files with what is expected of each.
+fn write_files(folder: &Path, name: &str, extension: &str, files: &[File]) -> io::Result<()> {
+    for (at, file) in files.iter().enumerate() {
+        fs::write(folder.join(format!("{name}-{at:02}.{extension}")), &file.cases)?;
+        fs::write(folder.join(format!("{name}-{at:02}.expected")), &file.expected)?;
     }
-    Ok(lists.len())
+    Ok(())
 }
 
 /// Writes the call files and their index; answers how many there are.

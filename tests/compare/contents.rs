@@ -1,0 +1,41 @@
+//! A call, the bytes of the buffers that it is lent, and what the second
+//! implementation makes of them.
+
+use crate::entry::FileCall;
+use second::engine::FAST;
+use second::host::{host_call_table, host_read, host_write};
+use second::refusal::Passed;
+
+/// One of document 01's calls with its numbers, or one on a register file.
+#[derive(Clone, Copy, Debug)]
+pub enum Asked {
+    Call(Passed),
+    File(FileCall),
+}
+
+/// What the lent buffers hold; those that a call isn't lent are empty.
+#[derive(Clone)]
+pub struct Contents {
+    pub block: Vec<u8>,
+    /// The register file of a read, or the buffer of a write.
+    pub file: Vec<u8>,
+    /// The table's text.
+    pub table: Vec<u8>,
+    pub answers: Vec<u8>,
+}
+
+impl Contents {
+    /// Makes the call by the second implementation; answers the number that is due.
+    pub fn call(&mut self, asked: &Asked) -> u32 {
+        match asked {
+            Asked::Call(n) => host_call_table(&FAST, n, &self.table, &mut self.block, &mut self.answers),
+            Asked::File(FileCall::Write) => host_write(&self.block, &mut self.file, &mut self.answers),
+            Asked::File(FileCall::Read) => host_read(&FAST, &mut self.block, &self.file, &self.table, &mut self.answers),
+        }
+    }
+
+    /// The first answer.
+    pub fn answer(&self) -> usize {
+        u32::from_le_bytes([self.answers[0], self.answers[1], self.answers[2], self.answers[3]]) as usize
+    }
+}

@@ -1,0 +1,111 @@
+//! Wrong writes of a register file, to see that the comparison finds them.
+
+use crate::contents::{Asked, Contents};
+use crate::draw::List;
+use crate::entry::FileCall;
+use crate::fault::{Fault, NONE};
+use crate::report::Part;
+use second::block::{decode, Register};
+use second::host::ANSWERS_LEN;
+use second::refusal::{UNSUPPORTED, WRONG_LENGTH};
+use second::regfile::{Rows, LEAST_TEXT};
+use second::search::reaches;
+use second::table::OURS;
+
+/// What differs where one side accepts and the other refuses.
+const ACCEPTED: &[Part] = &[Part::Number, Part::Answers, Part::File, Part::Back];
+const FILE: &[Part] = &[Part::File];
+const ANSWERS: &[Part] = &[Part::Answers];
+
+pub const WRITES: [Fault; 11] = [
+    wrong("the rest of the buffer zeroed", FILE, |lent| accepted(lent, |left| {
+        let length = left.answer();
+        left.file[length..].fill(0);
+    })),
+    wrong("a 0 byte put after the file", FILE, |lent| accepted(lent, |left| {
+        let length = left.answer();
+        left.file[length] = 0;
+    })),
+    wrong("the file's last byte left out", &[Part::Answers, Part::File, Part::Back], |lent| accepted(lent, |left| {
+        let length = left.answer() - 1;
+        left.file[length] = 0;
+        set_answer(left, length);
+    })),
+    wrong("the buffer's length answered", ANSWERS, |lent| accepted(lent, |left| set_answer(left, left.file.len()))),
+    wrong("the number of delegations answered", ANSWERS, |lent| accepted(lent, |left| {
+        let count = register(left).delegations.len();
+        set_answer(left, count);
+    })),
+    wrong("delegations written by receiver", &[Part::File, Part::Back], |lent| accepted(lent, |left| {
+        let mut rows = Rows::of(&register(left));
+        rows.delegations.sort_by_key(|row| (row[1], row[0]));
+        put(left, lent, &rows);
+    })),
+    wrong("conditions left out", &[Part::Answers, Part::File, Part::Back], |lent| accepted(lent, |left| {
+        let mut rows = Rows::of(&register(left));
+        rows.delegations.iter_mut().for_each(|row| (row[3], row[4]) = (0, 0));
+        put(left, lent, &rows);
+    })),
+    wrong("18 for an unsupported register", ACCEPTED, |lent| {
+        let (number, left) = right(lent);
+        if number == 0 && !is_supported(&register(&left)) { (UNSUPPORTED, lent.clone()) } else { (number, left) }
+    }),
+    wrong("a buffer of 8,191 bytes accepted", &[Part::Number, Part::Answers, Part::File], |lent| {
+        if lent.file.len() != LEAST_TEXT - 1 {
+            return right(lent);
+        }
+        let longer = [&lent.file[..], b"\0"].concat();
+        let (number, mut left) = right(&Contents { file: longer, ..lent.clone() });
+        left.file.pop();
+        (number, left)
+    }),
+    wrong("a buffer of 8,192 bytes refused", ACCEPTED, |lent| {
+        if lent.file.len() == LEAST_TEXT { (WRONG_LENGTH, lent.clone()) } else { right(lent) }
+    }),
+    wrong("the block's last byte changed by a write", &[Part::Block, Part::Listed], |lent| accepted(lent, |left| {
+        *left.block.last_mut().unwrap() ^= 1;
+    })),
+];
+
+const fn wrong(name: &'static str, parts: &'static [Part], write: fn(&Contents) -> (u32, Contents)) -> Fault {
+    Fault { name, lists: List::on_files, parts, write: Some(write), ..NONE }
+}
+
+/// What the second implementation returns and leaves.
+fn right(lent: &Contents) -> (u32, Contents) {
+    let mut left = lent.clone();
+    let number = left.call(&Asked::File(FileCall::Write));
+    (number, left)
+}
+
+/// The same, changed where it is accepted.
+fn accepted(lent: &Contents, change: impl Fn(&mut Contents)) -> (u32, Contents) {
+    let (number, mut left) = right(lent);
+    if number == 0 {
+        change(&mut left);
+    }
+    (number, left)
+}
+
+/// The register that was written.
+fn register(left: &Contents) -> Register {
+    decode(&left.block).expect("a block that was written is well formed")
+}
+
+/// These rows in the buffer that was lent, and their length answered.
+fn put(left: &mut Contents, lent: &Contents, rows: &Rows) {
+    let text = rows.text();
+    left.file.clone_from(&lent.file);
+    left.file[..text.len()].copy_from_slice(&text);
+    set_answer(left, text.len());
+}
+
+fn set_answer(left: &mut Contents, answer: usize) {
+    left.answers = vec![0; ANSWERS_LEN];
+    left.answers[..4].copy_from_slice(&(answer as u32).to_le_bytes());
+}
+
+fn is_supported(register: &Register) -> bool {
+    let reaches = reaches(&OURS, register);
+    register.delegations.iter().zip(reaches).all(|(d, reach)| d.weight as i16 <= reach)
+}
