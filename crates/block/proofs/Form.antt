@@ -21,7 +21,8 @@ use Rattle.block.specs.Block.{marksIn, delegationIn, recordBytes, subjec
 use Rattle.block.specs.WellFormed.{allPass, delegationTests, delegationFormed, recordTests, recordFormed, restUnmarked, recordsFormed, rises, recordsRise, restZero, blockTests, wellFormed}
 use Rattle.block.proofs.Bytes.{tabulate-suc, twoBytes-two, two-most, bytes-drop, length-tabulate, tabulate-mem, length-written, written-at, written-read, allFrom-at, allFrom-all, padded-zeros, getD-mem}
 use Rattle.block.proofs.Tests.{Each, end, _▸_, each, every}
-use Rattle.block.proofs.Encode.{marksPart, middlePart, middleSize, afterMarks, encode-records, encode-marks, marks-encode, record-wide, record-read, length-encode, subjects-encode, count-encode, records-encode, delegations-encode}
+use Rattle.block.proofs.Fitting.{marksPart, middlePart, middleSize, afterMarks, encode-records, encode-marks, record-wide, record-read}
+use Rattle.block.proofs.Encode.{marks-encode, length-encode, subjects-encode, count-encode, records-encode, delegations-encode}
 use Rattle.block.specs.Records.{delegationAt, delegationsTo, recordFrom}
 
 -- ── the rules of a well-formed block, each by itself ──

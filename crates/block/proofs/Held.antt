@@ -14,16 +14,18 @@ use Rattle.rules.specs.List.{_∈_, tabulate}
 use Rattle.rules.specs.Limit.{code}
 use Rattle.rules.specs.Pair.{isPair, stands}
 use Rattle.rules.specs.WellFormed.{WellFormed}
-use Rattle.rules.specs.Register.{Delegation, granted, noDelegation}
+use Rattle.rules.specs.Register.{Delegation, Register, marksOf, granted, noDelegation}
 use Rattle.rules.proofs.Lists.{clash, either, getD-tabulate}
 use Rattle.block.specs.Layout.{blockSize, mostRecords}
 use Rattle.block.specs.Bytes.{IsBytes, readAll, leading}
 use Rattle.block.specs.Block.{subjectsIn, countIn, decode, encode}
 use Rattle.block.specs.WellFormed.{wellFormed}
+use Rattle.block.specs.Fits.{Fits, Fitting}
 use Rattle.block.proofs.Bytes.{length-tabulate, mem-tabulate}
+use Rattle.block.proofs.Fitting.{decode-encode, bytes-encode, formed-fits}
 use Rattle.block.proofs.Form.{Parts, parts, decode-formed, encode-decode}
 use Rattle.block.proofs.PairPlace.{leading-most, pairPlace, pair-at, weightAt-found, weightAt-missing}
-use Rattle.block.specs.Records.{HasHead, HasMarks, HasRecords, delegationAt, delegationsTo}
+use Rattle.block.specs.Records.{HasHead, HasMarks, HasRecords, marksFor, delegationAt, delegationsTo}
 
 -- at most as many at the front as there are
 pub leading-read : {A : Type 0} (f : A → Bool) (g : List ℕ → A) (w : ℕ) (s : List ℕ) (n : ℕ) → leading f (readAll g w s n) ≤ n
@@ -65,6 +67,9 @@ module _ (b : List ℕ) (bytes : IsBytes b) (formed : wellFormed b ≡ true) whe
   pub held-written : b ≡ encode (decode b)
   held-written = sym (encode-decode b bytes rules-of)
 
+  pub held-fitting : Fitting b
+  held-fitting = record { fits = formed-fits (decode b) held-formed; written = held-written }
+
   pub subjects-held : decode b .subjects ≡ subjectsIn b
   unfolding decode
   subjects-held = refl
@@ -75,6 +80,15 @@ module _ (b : List ℕ) (bytes : IsBytes b) (formed : wellFormed b ≡ true) whe
 
   pub count-held : length (decode b .delegations) ≡ countIn b
   count-held = ap length delegations-held ∙ length-tabulate (delegationAt b) 0 (countIn b)
+
+  -- the marks of a subject, and the delegation of a record
+  pub marks-held : (v : ℕ) → v < subjectsIn b → marksFor b v ≡ marksOf (decode b) v
+  unfolding decode
+  marks-held v l = sym (getD-tabulate (marksFor b) 0 0 (subjectsIn b) v l ∙ ap (marksFor b) (zero-add v))
+
+  pub delegation-held : (k : ℕ) → k < countIn b → delegationAt b k ≡ getD (decode b .delegations) k noDelegation
+  unfolding decode
+  delegation-held k l = sym (getD-tabulate (delegationAt b) noDelegation 0 (countIn b) k l ∙ ap (delegationAt b) (zero-add k))
 
   -- a record's delegation stands
   pub record-held : (k : ℕ) → k < countIn b → delegationAt b k ∈ decode b .delegations
@@ -92,11 +106,7 @@ module _ (b : List ℕ) (bytes : IsBytes b) (formed : wellFormed b ≡ true) whe
       place-inside = omega (arith, place-held, count-held, found)
 
       pub at-place : getD (decode b .delegations) (pairPlace g r (decode b .delegations)) noDelegation ≡ delegationAt b k
-      at-place =
-          ap (λ (i : ℕ). getD (decode b .delegations) i noDelegation) (sym place-held)
-          ∙ ap (λ (ds : List Delegation). getD ds k noDelegation) delegations-held
-          ∙ getD-tabulate (λ i. delegationAt b i) noDelegation 0 (countIn b) k found
-          ∙ ap (λ (i : ℕ). delegationAt b i) (zero-add k)
+      at-place = ap (λ (i : ℕ). getD (decode b .delegations) i noDelegation) (sym place-held) ∙ sym (delegation-held k found)
 
       pub pair-held : T (isPair g r (delegationAt b k))
       pair-held = subst (λ (d : Delegation). T (isPair g r d)) at-place (pair-at g r (decode b .delegations) noDelegation place-inside)
@@ -113,3 +123,7 @@ module _ (b : List ℕ) (bytes : IsBytes b) (formed : wellFormed b ≡ true) whe
         go : T (ltb k (countIn b)) ⊎ T (not (ltb k (countIn b))) → k < countIn b
         go (inl q) = ltb→lt k (countIn b) q
         go (inr q) = clash (sym s ∙ stands-missing (nltb→le k (countIn b) q))
+
+-- a register whose numbers have room is well formed where its block is
+pub fits-formed : (R : Register) → Fits R → wellFormed (encode R) ≡ true → WellFormed R
+fits-formed R f h = subst WellFormed (decode-encode R f) (held-formed (encode R) (bytes-encode R f) h)

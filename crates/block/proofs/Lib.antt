@@ -1,5 +1,6 @@
 pub mod Bytes
 pub mod Tests
+pub mod Fitting
 pub mod Encode
 pub mod Form
 pub mod PairPlace

@@ -4,3 +4,4 @@ pub mod Block
 pub mod Records
 pub mod WellFormed
 pub mod Pass
+pub mod Fits

@@ -1,30 +1,23 @@
 -- The chain call on bytes (document 01, 'Calls'; document 02, C-11): its refusal, and what it may write into the lent buffer. Assumes nothing.
 use mathlib.Core.Path.{_≡_}
 use mathlib.Core.Logic.{_≢_}
-use mathlib.Core.Bool.{Bool, not, _||_}
 use mathlib.Core.List.{List, [], _∷_, _++_}
 use Prim.Native.Nat.{ℕ, _*_}
-use lib.Dec.{eqb, ltb}
 use lib.ListN.{length, drop}
 use lib.IntN.{ℤ}
 use Rattle.rules.specs.Register.{Delegation, Register}
 use Rattle.rules.specs.Support.{ChainFor}
 use Rattle.rules.specs.Pair.{weightAt}
 use Rattle.rules.specs.Refusal.{firstOf, chainPassed, chainHeld}
-use Rattle.block.specs.Layout.{blockSize}
 use Rattle.block.specs.Block.{decode}
 use Rattle.chain.specs.Links.{linkBytes, linkSize, chainSize}
 use Rattle.steptable.specs.declared.Given.{Given}
-use Rattle.refusals.specs.Early.{textRefused, notWellFormed}
+use Rattle.refusals.specs.Early.{wrongLengths, textRefused, notWellFormed}
 use Rattle.chain.specs.declared.ChainAnswer.{ChainAnswer}
-
--- 1: the block is not 2,180 bytes, or the buffer is under 126
-abbrev pub wrongLengths : List ℕ → List ℕ → ℕ × Bool
-wrongLengths b buf = (1, not (eqb (length b) blockSize) || ltb (length buf) chainSize)
 
 -- the first that applies of 1, what was passed, 7 and 17 by the step table's text, 8, what the register holds
 unfoldable pub chainRefusalOn : Given → List ℕ → ℕ → ℕ → List ℕ → ℕ
-chainRefusalOn k b g r buf = firstOf (wrongLengths b buf ∷ (chainPassed g r ++ (textRefused (k .refusal) ++ (notWellFormed b ∷ chainHeld (k .steps) (decode b) g r))))
+chainRefusalOn k b g r buf = firstOf (wrongLengths chainSize b buf ∷ (chainPassed g r ++ (textRefused (k .refusal) ++ (notWellFormed b ∷ chainHeld (k .steps) (decode b) g r))))
 
 -- what a refused chain call returns
 abbrev pub unwrittenBy : ℕ → ChainAnswer

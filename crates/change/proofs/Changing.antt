@@ -1,8 +1,8 @@
--- Changes of a well-formed block as changes of the register that it holds. Assumes nothing.
+-- Changes of a block as changes of the register that it holds. Assumes nothing.
 use mathlib.Core.Path.{_≡_, refl, sym, ap, subst, _∙_}
 use mathlib.Core.Logic.{_≢_}
 use mathlib.Core.Bool.{Bool, true, false, not}
-use mathlib.Core.List.{List, _∷_, _++_}
+use mathlib.Core.List.{List, [], _∷_, _++_}
 use Prim.Native.Nat.{ℕ, suc, _+_, _-_, _≤_, _<_}
 use native.Mathlib.Omega.{arith}
 use lib.Dec.{T, not-T}
@@ -17,14 +17,16 @@ use Rattle.block.specs.Layout.{blockSize, mostSubjects, mostRecords, recordSize
 use Rattle.block.specs.Bytes.{IsBytes, twoBytes, leading}
 use Rattle.block.specs.Block.{delegationIn, recordBytes, subjectsIn, countIn, decode, encode}
 use Rattle.block.specs.WellFormed.{wellFormed}
+use Rattle.block.specs.Fits.{Fitting}
 use Rattle.rules.proofs.Lists.{T-true, unset}
 use Rattle.rules.proofs.Pairs.{test-pair, none-stands}
 use Rattle.change.specs.Place.{IsPlace}
 use Rattle.change.specs.Shift.{movedUp, movedDown}
+use Rattle.block.proofs.Fitting.{fitting-subjects, fitting-count}
 use Rattle.block.proofs.PairPlace.{leading-most, pairPlace, pair-past}
-use Rattle.block.proofs.Held.{leading-read, size-held, count-most, held-formed, held-written, subjects-held, delegations-held, count-held, record-held, place-held, place-inside, pair-held, found-stands}
+use Rattle.block.proofs.Held.{leading-read, size-held, count-most, held-formed, held-written, held-fitting, delegations-held, count-held, record-held, place-held, place-inside, pair-held, found-stands}
 use Rattle.change.proofs.Splice.{insert-leading, filter-pair, map-pair}
-use Rattle.change.proofs.Rewrite.{encode-insert, encode-remove, encode-reweigh, encode-enrol}
+use Rattle.change.proofs.Rewrite.{encode-append, encode-insert, encode-remove, encode-reweigh, encode-enrol}
 use Rattle.block.specs.Records.{markPlace, recordPlace, delegationAt, delegationsTo}
 
 -- b is a block, n records stand in it, and k is a place among them
@@ -33,6 +35,20 @@ pub record Among (b : List ℕ) (n k : ℕ) : Type 0 where
   pub most : n ≤ mostRecords
   pub within : k ≤ n
 
+module _ (b : List ℕ) (f : Fitting b) where
+  -- one more subject
+  pub enrol-fitting : (v : ℕ) → subjectsIn b < mostSubjects → sets (set b 0 (subjectsIn b + 1)) (markPlace (subjectsIn b)) (twoBytes v) ≡ encode (enrolled (decode b) v)
+  enrol-fitting v l =
+      let n = fitting-subjects b f in
+      (λ j. sets (set (f .written j) 0 (n j + 1)) (markPlace (n j)) (twoBytes v)) ∙ encode-enrol (decode b) (f .fits) v (subst (λ (x : ℕ). x < mostSubjects) n l)
+
+  -- one more delegation, after the n that are counted
+  pub append-fitting : (d : Delegation) (n : ℕ) → n ≡ countIn b → n < mostRecords
+      → sets (sets b (recordPlace n) (recordBytes d)) countAt (twoBytes (n + 1)) ≡ encode (withDelegations (decode b) (decode b .delegations ++ (d ∷ [])))
+  append-fitting d n counted l =
+      let all = counted ∙ fitting-count b f in
+      (λ j. sets (sets (f .written j) (recordPlace (all j)) (recordBytes d)) countAt (twoBytes (all j + 1))) ∙ encode-append (decode b) (f .fits) d (subst (λ (x : ℕ). x < mostRecords) all l)
+
 module _ (b : List ℕ) (bytes : IsBytes b) (formed : wellFormed b ≡ true) where
   pub among : (f : Delegation → Bool) (n k : ℕ) → n ≡ countIn b → k ≡ leading f (delegationsTo b n) → Among b n k
   among f n k e q = record {
@@ -40,14 +56,6 @@ module _ (b : List ℕ) (bytes : IsBytes b) (formed : wellFormed b ≡ true) whe
     most = subst (λ (m : ℕ). m ≤ mostRecords) (sym e) (count-most b bytes formed);
     within = subst (λ (m : ℕ). m ≤ n) (sym q) (leading-read f delegationIn recordSize (drop recordsAt b) n);
   }
-
-  -- one more subject
-  pub enrol-held : (v : ℕ) → subjectsIn b < mostSubjects → sets (set b 0 (subjectsIn b + 1)) (markPlace (subjectsIn b)) (twoBytes v) ≡ encode (enrolled (decode b) v)
-  enrol-held v l =
-      (λ j. sets (set ((held-written b bytes formed) j) 0 (n j + 1)) (markPlace (n j)) (twoBytes v)) ∙ encode-enrol (decode b) (held-formed b bytes formed) v (subst (λ (x : ℕ). x < mostSubjects) (sym (subjects-held b bytes formed)) l)
-    where
-      n : subjectsIn b ≡ decode b .subjects
-      n = sym (subjects-held b bytes formed)
 
   -- ── the place of a pair, where a delegation of it is put ──
   module _ (g r k : ℕ) (place : IsPlace b g r k) where
@@ -95,7 +103,7 @@ module _ (b : List ℕ) (bytes : IsBytes b) (formed : wellFormed b ≡ true) whe
         let ds = decode b .delegations in
         let q : k ≡ leading (λ x. not (before d x)) ds = e ∙ (λ i. leading (λ x. not (before d x)) (delegationsTo b (counted i))) ∙ ap (leading (λ x. not (before d x))) (sym (delegations-held b bytes formed)) in
         (λ j. sets (sets (movedUp ((held-written b bytes formed) j) (recordPlace k) (recordPlace (all j))) (recordPlace k) (recordBytes d)) countAt (twoBytes (all j + 1)))
-        ∙ encode-insert (decode b) (held-formed b bytes formed) d k (subst (λ (x : ℕ). x ≤ length ds) (sym q) (leading-most (λ x. not (before d x)) ds)) (subst (λ (x : ℕ). x < mostRecords) all l)
+        ∙ encode-insert (decode b) (held-fitting b bytes formed .fits) d k (subst (λ (x : ℕ). x ≤ length ds) (sym q) (leading-most (λ x. not (before d x)) ds)) (subst (λ (x : ℕ). x < mostRecords) all l)
         ∙ ap (λ (x : ℕ). encode (withDelegations (decode b) (take x ds ++ (d ∷ drop x ds)))) q
         ∙ ap (λ (x : List Delegation). encode (withDelegations (decode b) x)) (sym (insert-leading d ds))
 
@@ -113,7 +121,7 @@ module _ (b : List ℕ) (bytes : IsBytes b) (formed : wellFormed b ≡ true) whe
       remove-held =
           let ds = decode b .delegations in
           (λ j. sets (sets (movedDown ((held-written b bytes formed) j) (recordPlace k) (recordPlace (all j))) (recordPlace (all j - 1)) (recordBytes (granted 0 0 0 0 0))) countAt (twoBytes (all j - 1)))
-          ∙ encode-remove (decode b) (held-formed b bytes formed) k (omega (arith, place-below, all))
+          ∙ encode-remove (decode b) (held-fitting b bytes formed .fits) k (omega (arith, place-below, all))
           ∙ ap (λ (x : ℕ). encode (withDelegations (decode b) (take x ds ++ drop (suc x) ds))) (place-held b bytes formed g r k found)
           ∙ ap (λ (x : List Delegation). encode (withDelegations (decode b) x)) (sym (filter-pair g r ds ((held-formed b bytes formed) .rising)))
 
@@ -123,6 +131,6 @@ module _ (b : List ℕ) (bytes : IsBytes b) (formed : wellFormed b ≡ true) whe
           let ds = decode b .delegations in
           let l : k < length ds = omega (arith, place-below, all) in
           ap (λ (x : List ℕ). set x (recordPlace k + weightByte) w) (held-written b bytes formed)
-          ∙ encode-reweigh (decode b) (held-formed b bytes formed) k l w
+          ∙ encode-reweigh (decode b) (held-fitting b bytes formed .fits) k l w
           ∙ ap (λ (x : ℕ). encode (withDelegations (decode b) (take x ds ++ (reweigh (getD ds x (granted 0 0 0 0 0)) w ∷ drop (suc x) ds)))) (place-held b bytes formed g r k found)
           ∙ ap (λ (x : List Delegation). encode (withDelegations (decode b) x)) (sym (map-pair g r w ds (granted 0 0 0 0 0) ((held-formed b bytes formed) .rising) (subst (λ (x : ℕ). x < length ds) (place-held b bytes formed g r k found) l)))

@@ -4,19 +4,19 @@ use mathlib.Core.List.{List, [], _∷_, _++_, append-assoc}
 use Prim.Native.Nat.{ℕ, zero, suc, _+_, _*_, _-_, _≤_, _<_}
 use native.Mathlib.Nat.{not-suc-le-zero, le-of-suc-le-suc}
 use native.Mathlib.Omega.{arith}
-use lib.ListN.{length, getD, take, drop, set, replicate, length-append, length-drop, length-replicate, take-append-drop, replicate-append-replicate}
-use lib.Seq.{sets, sets-eq, length-take-le, drop-at, drop-cons, drop-drop, drop-append-add, drop-append-le, set-at, take-at}
+use lib.ListN.{length, getD, take, drop, set, replicate, length-append, length-drop, length-replicate, drop-of-length-le, take-append-drop, replicate-append-replicate}
+use lib.Seq.{sets, sets-eq, length-take-le, drop-at, drop-cons, drop-drop, drop-append-add, drop-append-le, set-at, take-all, take-at}
 use Rattle.rules.specs.List.{concatMap}
 use Rattle.rules.specs.Register.{Delegation, Register, reweigh, withDelegations, granted}
-use Rattle.rules.specs.WellFormed.{WellFormed}
 use Rattle.rules.specs.Call.{fresh, enrolled}
 use Rattle.block.specs.Layout.{blockSize, mostSubjects, mostRecords, markSize, recordSize, marksSize, recordsSize, countAt, recordsAt, weightByte}
 use Rattle.block.specs.Bytes.{twoBytes, padded}
 use Rattle.block.specs.Block.{recordBytes, encode}
+use Rattle.block.specs.Fits.{Fits, empty}
 use Rattle.block.specs.Records.{markPlace, recordPlace}
 use Rattle.change.specs.Shift.{movedUp, movedDown}
 use Rattle.block.proofs.Bytes.{length-written}
-use Rattle.block.proofs.Encode.{headOf, marksPart, middlePart, afterMarks, encode-records, encode-marks, record-wide, length-middlePart, records-encode, front-encode}
+use Rattle.block.proofs.Fitting.{headOf, marksPart, middlePart, afterMarks, encode-records, encode-marks, record-wide, length-middlePart, records-encode, front-encode}
 use Rattle.change.proofs.Splice.{spliced-in, spliced-out}
 
 pub concatMap-append : {A : Type 0} (f : A → List ℕ) (xs ys : List A) → concatMap f (xs ++ ys) ≡ concatMap f xs ++ concatMap f ys
@@ -36,7 +36,12 @@ size ds = length-written recordBytes recordSize record-wide ds
 abbrev pub zerosAfter : ℕ → List ℕ
 zerosAfter n = replicate (recordsSize - recordSize * n) 0
 
-module _ (R : Register) (f : WellFormed R) where
+-- no bytes are between a place and itself
+none-moved : (b : List ℕ) (at : ℕ) → movedUp b at at ≡ b
+unfolding movedUp
+none-moved b at = let z : at - at ≡ 0 = omega arith in rw z (take-append-drop (at + recordSize) b)
+
+module _ (R : Register) (f : Fits R) where
   -- the bytes before the records that follow `xs`, where n records are counted
   abbrev frontOf : ℕ → List Delegation → List ℕ
   frontOf n xs = (headOf (R .subjects) n ++ middlePart R) ++ concatMap recordBytes xs
@@ -85,6 +90,15 @@ module _ (R : Register) (f : WellFormed R) where
       ∙ ap (λ (s : List ℕ). sets s countAt (twoBytes (n + 1))) (made ∙ ap (λ (z : List ℕ). frontOf n xs ++ (recordBytes d ++ (Y ++ z))) zs)
       ∙ count-set n (n + 1) xs (recordBytes d ++ (Y ++ zerosAfter (n + 1)))
       ∙ sym (encode-parts xs (d ∷ []) ys (n + 1) more)
+
+  -- a delegation put after all others
+  pub encode-append : (d : Delegation) → length (R .delegations) < mostRecords
+      → sets (sets (encode R) (recordPlace (length (R .delegations))) (recordBytes d)) countAt (twoBytes (length (R .delegations) + 1)) ≡ encode (withDelegations R (R .delegations ++ (d ∷ [])))
+  encode-append d room =
+      let n = length (R .delegations) in
+      ap (λ (s : List ℕ). sets (sets s (recordPlace n) (recordBytes d)) countAt (twoBytes (n + 1))) (sym (none-moved (encode R) (recordPlace n)))
+      ∙ encode-insert d n (omega arith) room
+      ∙ (λ i. encode (withDelegations R (take-all n (R .delegations) (omega arith) i ++ (d ∷ drop-of-length-le (R .delegations) {i = n} (omega arith) i))))
 
   -- the delegation at place k, and those after it
   module _ (k : ℕ) (l : k < length (R .delegations)) where
@@ -184,3 +198,8 @@ module _ (R : Register) (f : WellFormed R) where
 pub encode-fresh : set (replicate blockSize 0) 0 1 ≡ encode fresh
 unfolding encode
 encode-fresh = refl
+
+-- no subject and no delegation
+pub encode-empty : replicate blockSize 0 ≡ encode empty
+unfolding encode
+encode-empty = refl

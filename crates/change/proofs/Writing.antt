@@ -28,8 +28,8 @@ use Rattle.block.specs.Block.{delegationIn, recordBytes, countIn, decode, encod
 use Rattle.block.specs.Records.{recordPlace, HasRecord, HasRecords, delegationAt, leftTo}
 use Rattle.block.specs.WellFormed.{wellFormed}
 use Rattle.block.proofs.Bytes.{twoBytes-two, bytes-drop, length-written, plus2}
-use Rattle.block.proofs.Encode.{record-wide}
-use Rattle.block.proofs.Held.{size-held, count-most, count-held, held-formed, held-written}
+use Rattle.block.proofs.Fitting.{record-wide}
+use Rattle.block.proofs.Held.{size-held, count-most, count-held, held-written, held-fitting}
 use Rattle.change.specs.Left.{LeftWritten}
 use Rattle.change.proofs.Rewrite.{concatMap-append, zerosAfter, zeros-encode, encode-with}
 
@@ -216,7 +216,7 @@ module _ (b : List ℕ) (bytes : IsBytes b) (formed : wellFormed b ≡ true) (ws
       let all′ : k ≡ length (decode b .delegations) = all ∙ sym (count-held b bytes formed) in
       ap (λ (i : ℕ). drop i x) (sym e) ∙ rest b ws k n x s within (recordPlace k - recordPlace n)
       ∙ ap (λ (i : ℕ). drop i b) e ∙ (λ i. drop (recordPlace (all′ i)) (held-written b bytes formed i))
-      ∙ zeros-encode (decode b) (held-formed b bytes formed) ∙ ap zerosAfter (sym all′)
+      ∙ zeros-encode (decode b) (held-fitting b bytes formed .fits) ∙ ap zerosAfter (sym all′)
 
   -- the places after it up to where the last record of b ended set to zero, then the count stored
   module _ (ys : List ℕ) (zeros : ys ≡ replicate (length (midOf (recordPlace n) (recordPlace k - recordPlace n) x)) 0) where
@@ -234,5 +234,5 @@ module _ (b : List ℕ) (bytes : IsBytes b) (formed : wellFormed b ≡ true) (ws
         let ds = leftTo (delegationAt b) ws k in
         ap (λ (z : List ℕ). sets z 2 (twoBytes n)) zeroed
         ∙ (λ i. sets (take recordsAt (held-written b bytes formed i) ++ (concatMap recordBytes ds ++ zerosAfter (s .count i))) countAt (twoBytes (s .count i)))
-        ∙ encode-with (decode b) (held-formed b bytes formed) ds
+        ∙ encode-with (decode b) (held-fitting b bytes formed .fits) ds
         ∙ ap (λ (i : ℕ). encode (withDelegations (decode b) (leftTo (delegationAt b) ws i))) all

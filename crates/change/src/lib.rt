@@ -4,6 +4,7 @@ mod write;
 
 ghost use mathlib.Core.Path.{_≡_};
 ghost use mathlib.Core.Bool.{true, false};
+ghost use mathlib.Core.List.{[], _∷_, _++_};
 ghost use Prim.Native.Nat.{_<_};
 ghost use lib.ListN.{length};
 ghost use Rattle.rules.specs.Register.{withDelegations, granted};
@@ -14,6 +15,7 @@ ghost use Rattle.rules.specs.CallStep.{insert, afterGrant};
 ghost use Rattle.block.specs.Layout.{blockSize, mostSubjects, mostRecords};
 ghost use Rattle.block.specs.Block.{subjectsIn, countIn, decode, encode};
 ghost use Rattle.block.specs.WellFormed.{wellFormed};
+ghost use Rattle.block.specs.Fits.{Fitting, empty};
 ghost use Rattle.change.specs.Place.{IsPlace};
 use block::count;
 use block::find;
@@ -42,14 +44,32 @@ pub fn write_fresh(b: &mut [u8])
     b[0] = 1;
 }
 
+// No subject and no delegation, over any bytes.
+pub fn write_empty(b: &mut [u8])
+    requires { ⌜ length (now b) ≡ blockSize ⌝ }
+    ensures { λ _. ⌜ now (b .exit) ≡ encode empty ⌝ }
+{
+    zero_all(b);
+}
+
 // One more subject.
 pub fn add_subject(b: &mut [u8], marks: u16)
-    requires { ⌜ (wellFormed (now b) ≡ true) × (subjectsIn (now b) < mostSubjects) ⌝ }
+    requires { ⌜ Fitting (now b) × (subjectsIn (now b) < mostSubjects) ⌝ }
     ensures { λ _. ⌜ now (b .exit) ≡ encode (enrolled (decode (now (b .entry))) marks) ⌝ }
 {
     let n = subjects(b);
     b[0] = n + 1;
     put_two(b, MARKS_AT + MARK_SIZE * (n as usize), marks);
+}
+
+// One more delegation, after all others.
+pub fn append(b: &mut [u8], giver: u8, receiver: u8, weight: u8, need: u16, bar: u16)
+    requires { ⌜ Fitting (now b) × (countIn (now b) < mostRecords) ⌝ }
+    ensures { λ _. ⌜ now (b .exit) ≡ encode (withDelegations (decode (now (b .entry))) ((decode (now (b .entry))) .delegations ++ (granted giver receiver weight need bar ∷ []))) ⌝ }
+{
+    let n = count(b);
+    put_record(b, record_place(n), giver, receiver, weight, need, bar);
+    put_two(b, COUNT_AT, (n + 1) as u16);
 }
 
 // The pair stands: its record is the one before its place.

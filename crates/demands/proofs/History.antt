@@ -17,6 +17,7 @@ use Rattle.rules.specs.Refusal.{firstOf, held, refusalOf}
 use Rattle.rules.specs.CallStep.{accepted, callStep}
 use Rattle.rules.proofs.Table.{steps-rule}
 use Rattle.rules.proofs.Lists.{eqOr, T-true}
+use Rattle.rules.proofs.Support.{supported-under}
 use Rattle.rules.proofs.Calls.{fresh-formed, callStep-under, callStep-supported}
 use Rattle.rules.proofs.Trace.{stays-each, stays, places}
 use Rattle.block.specs.Layout.{blockSize}
@@ -35,9 +36,11 @@ use Rattle.register.specs.Made.{result, MadeOpen}
 use Rattle.register.specs.declared.Answer.{Answer}
 use Rattle.register.proofs.CutWays.{register-left, cuts-left}
 use Rattle.register.proofs.Through.{accepted-through}
-use Rattle.demands.specs.History.{Asked, asks, reckons, lentTo, askedOn, CutsAsked, bytesLeft, GivenBelow, Demand3}
+use Rattle.transfer.specs.RoundTrip.{reading}
+use Rattle.transfer.proofs.RoundTrip.{read-passed, read-text, read-supported}
+use Rattle.demands.specs.History.{Asked, asks, reads, reckons, lentTo, askedOn, LeavesRight, bytesLeft, GivenBelow, Demand3}
 use Rattle.demands.specs.Kept.{Kept}
-use Rattle.demands.proofs.Keeping.{kept}
+use Rattle.demands.proofs.Keeping.{kept, kept-read}
 
 -- what an accepted open writes
 open-written : (b : List ℕ) (o : Answer) (after : List ℕ) → MadeOpen b o after → o .refusal ≡ 0 → after ≡ encode fresh
@@ -66,18 +69,28 @@ lent-ours c = go (reckons c)
     go true = given-right .empty
     go false = refl
 
--- a cut is given what its own text gives
-pub cuts-asked : (b : List ℕ) (q : Asked) → IsBytes b → CutsAsked b q (askedOn b q)
-cuts-asked b (asks text (enrol m)) bytes = λ k i. absurd i
-cuts-asked b (asks text (grant d)) bytes = λ k i. absurd i
-cuts-asked b (asks text (revoke y g r)) bytes = cuts-left (given text) (given-keeps text) b bytes (revoke y g r)
-cuts-asked b (asks text (downgrade y g r w)) bytes = cuts-left (given text) (given-keeps text) b bytes (downgrade y g r w)
-cuts-asked b (asks text (askReach g r)) bytes = λ k i. absurd i
-cuts-asked b (asks text (askUse r)) bytes = λ k i. absurd i
+-- a cut is given what its own text gives; a read leaves what its own text holds
+pub leaves-right : (b : List ℕ) (q : Asked) → IsBytes b → LeavesRight b q (askedOn b q)
+leaves-right b (asks text (enrol m)) bytes = λ k i. absurd i
+leaves-right b (asks text (grant d)) bytes = λ k i. absurd i
+leaves-right b (asks text (revoke y g r)) bytes = cuts-left (given text) (given-keeps text) b bytes (revoke y g r)
+leaves-right b (asks text (downgrade y g r w)) bytes = cuts-left (given text) (given-keeps text) b bytes (downgrade y g r w)
+leaves-right b (asks text (askReach g r)) bytes = λ k i. absurd i
+leaves-right b (asks text (askUse r)) bytes = λ k i. absurd i
+leaves-right b (reads text table) bytes = λ e. (read-text text table b e, read-supported text table b e)
+
+-- what holds of the block before a read, and after it where it is accepted, holds after it
+read-keeps : (P : List ℕ → Type 0) (text table b : List ℕ) → P b → (reading text table b .refusal ≡ 0 → P (reading text table b .bytes)) → P (reading text table b .bytes)
+read-keeps P text table b p h = go (eqOr (reading text table b .refusal) 0)
+  where
+    go : (reading text table b .refusal ≡ 0) ⊎ (reading text table b .refusal ≢ 0) → P (reading text table b .bytes)
+    go (inl e) = h e
+    go (inr n) = subst P (sym (kept-read text table b .refused n)) p
 
 -- every call leaves bytes so
 pub bytes-left : (b : List ℕ) (q : Asked) → IsBytes b → IsBytes (askedOn b q .bytes)
 bytes-left b (asks text c) bytes = kept (lentTo c text) b c (lent-keeps c text) bytes .bytes
+bytes-left b (reads text table) bytes = read-keeps IsBytes text table b bytes (kept-read text table b .bytes)
 
 -- and a well-formed block
 abbrev pub Sound : List ℕ → Type 0
@@ -92,6 +105,7 @@ sound b (asks text c) s = (bytes-left b (asks text c) (s .0), go (eqOr (callOn (
     go : (callOn (lentTo c text) b c .refusal ≡ 0) ⊎ (callOn (lentTo c text) b c .refusal ≢ 0) → wellFormed (callOn (lentTo c text) b c .bytes) ≡ true
     go (inl e) = k .formed e
     go (inr n) = ap wellFormed (k .refused n) ∙ s .1
+sound b (reads text table) s = read-keeps Sound text table b s (λ e. (kept-read text table b .bytes e, kept-read text table b .formed e))
 
 pub fresh-sound : Sound (encode fresh)
 fresh-sound = (bytes-encode fresh fresh-formed, T-true (wellFormed (encode fresh)) (encode-formed fresh fresh-formed))
@@ -138,6 +152,8 @@ module _ (m : List ℤ) (rule : TableRule m) where
           let h = accepted-through g b c e .early in
           subst (λ o. Supported m (o .left)) (sym (register-left g b bytes c e)) (step-under text c below (decode b) (held-formed b bytes (h .formed)) s (h .text))
       go (inr n) = subst (λ (x : List ℕ). Supported m (decode x)) (sym (kept g b c (lent-keeps c text) bytes .refused n)) s
+  call-under b (reads text table) below bytes s = read-keeps (λ x. Supported m (decode x)) text table b s
+      (λ e. supported-under (given table .steps) m rule (below (read-passed text table b e .passes)) (decode (reading text table b .bytes)) (read-supported text table b e))
 
 -- a fresh register is supported by every table
 pub fresh-supported : (m : List ℤ) → Supported m (decode (encode fresh))
@@ -149,7 +165,7 @@ fresh-supported m = subst (Supported m) (sym (decode-encode fresh fresh-formed))
 pub demand3 : Demand3
 demand3 = record {
   opened = open-written;
-  places = places askedOn bytesLeft IsBytes bytes-left CutsAsked cuts-asked (encode fresh) (fresh-sound .0);
+  places = places askedOn bytesLeft IsBytes bytes-left LeavesRight leaves-right (encode fresh) (fresh-sound .0);
   formed = λ qs i. stays askedOn bytesLeft Sound sound (encode fresh) qs i fresh-sound .1;
   supported = λ qs i m rule u. stays-each askedOn bytesLeft (λ b. IsBytes b × Supported m (decode b)) (λ q. GivenBelow q m)
       (λ b q below p. (bytes-left b q (p .0), call-under m rule b q below (p .0) (p .1))) (encode fresh) qs i u (fresh-sound .0, fresh-supported m) .1;

@@ -1,13 +1,14 @@
 -- Demand 1 follows from the definition of the calls on bytes. Assumes nothing.
 use mathlib.Core.Path.{_≡_, refl, sym, ap, subst, _∙_}
-use mathlib.Core.Logic.{_≢_}
+use mathlib.Core.Logic.{_≢_, _⊎_, inl, inr}
 use mathlib.Core.Bool.{Bool, true, false, cond, not}
 use mathlib.Core.List.{List}
-use Prim.Native.Nat.{ℕ}
+use Prim.Native.Nat.{ℕ, _≤_}
 use native.Mathlib.Omega.{arith}
 use borrow.Author.Tests.{eq-eqb, ne-eqb}
 use lib.Dec.{T, eqb, eqb→eq, T-not}
-use lib.ListN.{length}
+use lib.ListN.{length, drop, length-append, length-drop}
+use lib.Seq.{drop-at}
 use lib.IntN.{pos}
 use Rattle.rules.specs.Table.{TableRule}
 use Rattle.rules.specs.WellFormed.{WellFormed}
@@ -18,7 +19,7 @@ use Rattle.rules.specs.Ranges.{Unused, InRange}
 use Rattle.rules.proofs.Table.{steps-rule}
 use Rattle.rules.proofs.Calls.{fresh-formed, callStep-formed}
 use Rattle.rules.proofs.Ranges.{callStep-range}
-use Rattle.rules.proofs.Lists.{T-true}
+use Rattle.rules.proofs.Lists.{T-true, eqOr}
 use Rattle.block.specs.Layout.{blockSize}
 use Rattle.block.specs.Bytes.{IsBytes}
 use Rattle.block.specs.Block.{decode, encode}
@@ -29,9 +30,16 @@ use Rattle.block.proofs.Held.{held-formed}
 use Rattle.steptable.specs.TableText.{ours, given}
 use Rattle.steptable.specs.declared.Given.{Given}
 use Rattle.steptable.proofs.Right.{given-keeps}
+use Rattle.regfile.specs.FileText.{fileText, filed}
+use Rattle.regfile.proofs.Sizes.{file-some, file-short}
 use Rattle.refusals.specs.Early.{early}
 use Rattle.register.specs.CallOn.{Result, turned, written, callOn, openOn}
-use Rattle.demands.specs.Kept.{Kept, KeptOpen}
+use Rattle.transfer.specs.FileOn.{WriteMade}
+use Rattle.transfer.specs.declared.Filled.{Filled}
+use Rattle.transfer.proofs.Writing.{write-through}
+use Rattle.transfer.proofs.Reading.{read-turned}
+use Rattle.transfer.proofs.RoundTrip.{read-passed, read-formed, read-is-bytes}
+use Rattle.demands.specs.Kept.{Kept, KeptOpen, KeptRead, mostWritten, KeptWrite}
 use Rattle.register.proofs.Through.{accepted-through, accepted-step, accepted-left}
 
 module _ (g : Given) (b : List ℕ) (c : Call) where
@@ -103,3 +111,40 @@ open-unused b = go (eqb (length b) blockSize)
 
 pub kept-open : (b : List ℕ) → KeptOpen b
 kept-open b = record { refused = open-refused b; formed = open-formed b; range = λ _. open-unused b }
+
+-- ── read ──
+pub kept-read : (text table b : List ℕ) → KeptRead text table b
+kept-read text table b = record {
+  refused = λ n. ap (λ (r : Result). r .bytes) (read-turned (given table) (filed text) b n);
+  formed = read-formed text table b;
+  bytes = read-is-bytes text table b;
+  range = λ e. let q = read-passed text table b e .result in (ap (λ (r : Result). r .first) q, ap (λ (r : Result). r .second) q, ap (λ (r : Result). r .third) q);
+}
+
+-- ── write ──
+module _ (b before : List ℕ) (o : Filled) (after : List ℕ) (bytes : IsBytes b) (made : WriteMade b before o after) where
+  write-range : o .refusal ≡ 0 → (1 ≤ o .length) × (o .length ≤ mostWritten) × (o .length ≤ length before)
+  write-range e =
+      let w = write-through b before (sym (made .refusal) ∙ e) in
+      let n = made .text e .0 in
+      let some = file-some (decode b) in
+      let most = file-short (decode b) (held-formed b bytes (w .formed)) in
+      (omega arith, omega arith, omega (arith, w .room))
+
+  pub kept-write : KeptWrite before o after
+  kept-write = record {
+    refused = made .refused;
+    range = write-range;
+    size = size (eqOr (o .refusal) 0);
+    rest = rest (eqOr (o .refusal) 0);
+  }
+    where
+      size : (o .refusal ≡ 0) ⊎ (o .refusal ≢ 0) → length after ≡ length before
+      size (inl e) =
+          ap length (made .text e .1) ∙ length-append (fileText (decode b)) (drop (o .length) before)
+          ∙ omega (arith, made .text e .0, length-drop (o .length) before, write-range e .2)
+      size (inr n) = ap length (made .refused n .1)
+
+      rest : (o .refusal ≡ 0) ⊎ (o .refusal ≢ 0) → drop (o .length) after ≡ drop (o .length) before
+      rest (inl e) = ap (drop (o .length)) (made .text e .1) ∙ drop-at (fileText (decode b)) (drop (o .length) before) (o .length) (sym (made .text e .0))
+      rest (inr n) = ap (drop (o .length)) (made .refused n .1)

@@ -1,16 +1,19 @@
--- Demand 1, as what holds of every call on every list of bytes (document 01, 'Turned back by what was passed'; document 02, C-11): a refused call changes no byte, an accepted one leaves a well-formed
--- block and answers in range. Assumes nothing.
+-- Demand 1, as what holds of every call on every list of bytes (document 01, 'Turned back by what was passed'; document 02, C-11 and C-13): a refused call changes no byte, an accepted one leaves a
+-- well-formed block and answers in range. Assumes nothing.
 use mathlib.Core.Path.{_≡_}
 use mathlib.Core.Logic.{_≢_}
 use mathlib.Core.Bool.{true}
 use mathlib.Core.List.{List}
-use Prim.Native.Nat.{ℕ}
+use Prim.Native.Nat.{ℕ, _≤_}
+use lib.ListN.{length, drop}
 use Rattle.rules.specs.Call.{Call}
 use Rattle.rules.specs.Ranges.{Unused, InRange}
 use Rattle.block.specs.Bytes.{IsBytes}
 use Rattle.block.specs.WellFormed.{wellFormed}
 use Rattle.steptable.specs.declared.Given.{Given}
 use Rattle.register.specs.CallOn.{callOn, openOn}
+use Rattle.transfer.specs.RoundTrip.{reading}
+use Rattle.transfer.specs.declared.Filled.{Filled}
 
 pub record Kept (g : Given) (b : List ℕ) (c : Call) : Type 0 where
   pub refused : callOn g b c .refusal ≢ 0 → callOn g b c .bytes ≡ b
@@ -23,3 +26,22 @@ pub record KeptOpen (b : List ℕ) : Type 0 where
   pub refused : openOn b .refusal ≢ 0 → openOn b .bytes ≡ b
   pub formed : openOn b .refusal ≡ 0 → wellFormed (openOn b .bytes) ≡ true
   pub range : openOn b .refusal ≡ 0 → Unused (openOn b .first) × Unused (openOn b .second) × Unused (openOn b .third)
+
+-- a read of a register's text with a step table's, over any bytes
+pub record KeptRead (text table b : List ℕ) : Type 0 where
+  pub refused : reading text table b .refusal ≢ 0 → reading text table b .bytes ≡ b
+  pub formed : reading text table b .refusal ≡ 0 → wellFormed (reading text table b .bytes) ≡ true
+  pub bytes : reading text table b .refusal ≡ 0 → IsBytes (reading text table b .bytes)
+  pub range : reading text table b .refusal ≡ 0 → Unused (reading text table b .first) × Unused (reading text table b .second) × Unused (reading text table b .third)
+
+-- the bytes of the longest text of a register
+abbrev pub mostWritten : ℕ
+mostWritten = 6240
+
+-- a write of a register's text into a lent buffer, which changes no block: what holds of the buffer
+pub record KeptWrite (before : List ℕ) (o : Filled) (after : List ℕ) : Type 0 where
+  pub refused : o .refusal ≢ 0 → (o .length ≡ 0) × (after ≡ before)
+  pub range : o .refusal ≡ 0 → (1 ≤ o .length) × (o .length ≤ mostWritten) × (o .length ≤ length before)
+  pub size : length after ≡ length before
+  -- the bytes past those that are written
+  pub rest : drop (o .length) after ≡ drop (o .length) before

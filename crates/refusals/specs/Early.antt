@@ -1,8 +1,8 @@
 -- The refusals of a call on any list of bytes (document 01, 'Turned back by what was passed' and 'by what the register holds'; document 02, C-11). Assumes nothing.
-use mathlib.Core.Bool.{Bool, not}
+use mathlib.Core.Bool.{Bool, not, _||_}
 use mathlib.Core.List.{List, [], _∷_, _++_}
 use Prim.Native.Nat.{ℕ}
-use lib.Dec.{eqb}
+use lib.Dec.{eqb, ltb}
 use lib.ListN.{length}
 use Rattle.rules.specs.Call.{Call}
 use Rattle.rules.specs.Refusal.{firstOf, passed, held}
@@ -14,6 +14,10 @@ use Rattle.steptable.specs.declared.Given.{Given}
 -- 1: the block is not 2,180 bytes
 abbrev pub wrongLength : List ℕ → ℕ × Bool
 wrongLength b = (1, not (eqb (length b) blockSize))
+
+-- 1: so, or a lent buffer is under n bytes
+abbrev pub wrongLengths : ℕ → List ℕ → List ℕ → ℕ × Bool
+wrongLengths n b buf = (1, not (eqb (length b) blockSize) || ltb (length buf) n)
 
 -- 8: the block is not well formed
 abbrev pub notWellFormed : List ℕ → ℕ × Bool

@@ -85,11 +85,11 @@ cuts-left g rule b bytes c k i e =
 
 -- and every call that is made keeps what demand 3 claims
 pub cut-made : (g : Given) → TableRule (g .steps) → (c : Call) (b : List ℕ) → IsBytes b → (o : Answer) (after : List ℕ) → Made g c b o after → CutMade g c b o after
-cut-made g rule c b bytes o after q = record { outcome = q; cut = subst (λ (r : Result). CutsLeft (g .steps) b c r) (sym q) (cuts-left g rule b bytes c) }
+cut-made g rule c b bytes o after q = record { outcome = q; leaves = subst (λ (r : Result). CutsLeft (g .steps) b c r) (sym q) (cuts-left g rule b bytes c) }
 
 -- a refused cut leaves nothing to say of its remainder
 pub cut-refused : (g : Given) (c : Call) (b : List ℕ) (n : ℕ) → n ≡ refusalOn g b c → n ≢ 0 → CutMade g c b (refusedBy n) b
-cut-refused g c b n e h = record { outcome = made-refused g c b n e h; cut = λ k i z. absurd (h z) }
+cut-refused g c b n e h = record { outcome = made-refused g c b n e h; leaves = λ k i z. absurd (h z) }
 
 -- ── a cut by y past its tests ──
 pub record CutThrough (g : Given) (b : List ℕ) (y : ℕ) (k : Cut) : Type 0 where

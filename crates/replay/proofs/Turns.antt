@@ -19,7 +19,7 @@ use Rattle.block.specs.Block.{encode}
 use Rattle.block.proofs.Bytes.{length-tabulate}
 use Rattle.register.specs.CallOn.{Result, openOn}
 use Rattle.register.specs.Made.{result, MadeOpen}
-use Rattle.demands.specs.History.{Asked, askedOn, CutsAsked, bytesLeft, blockAt}
+use Rattle.demands.specs.History.{Asked, askedOn, LeavesRight, bytesLeft, blockAt}
 use Rattle.register.specs.declared.Answer.{Answer}
 use Rattle.demands.proofs.History.{demand3}
 use Rattle.replay.specs.Replay.{answersPerCall, callCount, askedIn, askedAt, slot, returnedAt, entryIn, entriesIn, isSized, allTexts, allCalls, replayRefusal, Replayed, ReplayMade}
@@ -148,9 +148,9 @@ module _ (calls texts blocks refusals : List ℕ) (answers : List ℤ) where
           let q : i ≡ 0 + i = omega arith in
           ap (slot blocks) q ∙ slots-from 0 (callCount calls) i (encode fresh) (h .first) made (subst (λ (k : ℕ). i ≤ k) size l)
 
-      places : (i : ℕ) (x : Entry Asked Result) → At (entriesIn calls texts blocks refusals answers) i x → PlaceRight askedOn CutsAsked (blockAt (askedIn calls texts) i) (x .asked) (x .outcome)
+      places : (i : ℕ) (x : Entry Asked Result) → At (entriesIn calls texts blocks refusals answers) i x → PlaceRight askedOn LeavesRight (blockAt (askedIn calls texts) i) (x .asked) (x .outcome)
       places i x a =
-          subst (λ (qs : List Asked). PlaceRight askedOn CutsAsked (blockAt qs i) (x .asked) (x .outcome)) (map-tabulate (λ (y : Entry Asked Result). y .asked) (entryIn calls texts blocks refusals answers) 0 (callCount calls))
+          subst (λ (qs : List Asked). PlaceRight askedOn LeavesRight (blockAt qs i) (x .asked) (x .outcome)) (map-tabulate (λ (y : Entry Asked Result). y .asked) (entryIn calls texts blocks refusals answers) 0 (callCount calls))
           (demand3 .places (entriesIn calls texts blocks refusals answers) (history-from 0 (callCount calls) (encode fresh) (h .first) made) i x a)
 
 -- ── what is returned ──

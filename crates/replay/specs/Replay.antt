@@ -17,7 +17,7 @@ use Rattle.block.specs.Bytes.{readAll, allFrom}
 use Rattle.block.specs.Block.{encode}
 use Rattle.register.specs.CallOn.{Result}
 use Rattle.register.specs.Made.{refusedBy, result, Made}
-use Rattle.demands.specs.History.{Asked, asks, reckons, lentTo, askedOn, CutsAsked, blockAt}
+use Rattle.demands.specs.History.{Asked, asks, reckons, lentTo, askedOn, LeavesRight, blockAt}
 use Rattle.register.specs.declared.Answer.{Answer}
 
 -- ── one call ──
@@ -124,7 +124,7 @@ replayRefusal calls texts blocks refusals answers =
 pub record Replayed (calls texts blocks refusals : List ℕ) (answers : List ℤ) : Type 0 where
   pub first : slot blocks 0 ≡ encode fresh
   pub slots : (i : ℕ) → i ≤ length (askedIn calls texts) → slot blocks i ≡ blockAt (askedIn calls texts) i
-  pub places : (i : ℕ) (e : Entry Asked Result) → At (entriesIn calls texts blocks refusals answers) i e → PlaceRight askedOn CutsAsked (blockAt (askedIn calls texts) i) (e .asked) (e .outcome)
+  pub places : (i : ℕ) (e : Entry Asked Result) → At (entriesIn calls texts blocks refusals answers) i e → PlaceRight askedOn LeavesRight (blockAt (askedIn calls texts) i) (e .asked) (e .outcome)
 
 -- r is returned; the buffers held blocks, refusals, answers and hold blocks', refusals', answers'
 pub record ReplayMade (calls texts blocks refusals : List ℕ) (answers : List ℤ) (r : ℕ) (blocks' refusals' : List ℕ) (answers' : List ℤ) : Type 0 where

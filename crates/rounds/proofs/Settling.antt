@@ -11,8 +11,9 @@ use Rattle.rules.specs.Register.{Register, withDelegations}
 use Rattle.rules.specs.Table.{TableRule}
 use Rattle.rules.specs.Round.{round, SettlesIn, settle, total}
 use Rattle.rules.specs.Remainder.{Within}
+use Rattle.rules.specs.Refusal.{tooHeavy}
 use Rattle.rules.specs.WellFormed.{WellFormed}
-use Rattle.rules.proofs.Rounds.{round-falls, settle-right, settles-unique, settle-best}
+use Rattle.rules.proofs.Rounds.{round-falls, round-right, settle-right, settles-unique, settle-best}
 use Rattle.rules.proofs.WellFormed.{round-formed}
 use Rattle.rules.proofs.Ranges.{total-most}
 use Rattle.rules.proofs.Lists.{T-true, no}
@@ -69,6 +70,15 @@ round-none t b bytes formed x ws r e = record {
 pub round-some : (t : List ℤ) (b : List ℕ) (x : Bool) (ws : List ℤ) → Reckoned t b x ws → x ≡ true → (after : List ℕ)
     → after ≡ encode (withDelegations (decode b) (leftTo (delegationAt b) ws (countIn b))) → RoundMade t (decode b) true after
 round-some t b x ws r e after w = record { left = w ∙ ap encode (r .left); same = λ z. absurd (no z tt); change = λ _. r .change e }
+
+-- a round lowers a weight exactly where one is above the reach that counts for it
+pub reckoned-heavy : (t : List ℤ) (b : List ℕ) (x : Bool) (ws : List ℤ) → Reckoned t b x ws → x ≡ tooHeavy t (decode b) (decode b .delegations)
+reckoned-heavy t b false ws r = sym (round-right t (decode b) .1 (r .same refl))
+reckoned-heavy t b true ws r = go (tooHeavy t (decode b) (decode b .delegations)) refl
+  where
+    go : (y : Bool) → tooHeavy t (decode b) (decode b .delegations) ≡ y → true ≡ y
+    go true e = refl
+    go false e = absurd (r .change refl (round-right t (decode b) .0 e))
 
 -- the block holds what n rounds left
 abbrev pub GoingOn : List ℤ → Register → ℕ → List ℕ → Type 0

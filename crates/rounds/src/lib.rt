@@ -2,9 +2,10 @@
 mod counted;
 
 ghost use mathlib.Core.Path.{_≡_};
-ghost use mathlib.Core.Bool.{true};
+ghost use mathlib.Core.Bool.{true, not};
 ghost use lib.ListN.{length};
 ghost use Rattle.rules.specs.Table.{TableRule};
+ghost use Rattle.rules.specs.Refusal.{tooHeavy};
 ghost use Rattle.block.specs.Layout.{mostRecords};
 ghost use Rattle.block.specs.Block.{countIn, decode};
 ghost use Rattle.block.specs.WellFormed.{wellFormed};
@@ -92,4 +93,25 @@ pub fn settled(block: &mut [u8], table: &[i16]) -> Tally
         lowered: counts.lowered,
         rounds: changed + 1,
     }
+}
+
+// Every delegation is supported: a round would change nothing.
+pub fn supports(block: &[u8], table: &[i16]) -> bool
+    requires { ⌜ (wellFormed (now block) ≡ true) × TableRule (now table) ⌝ }
+    ensures { λ r. ⌜ r ≡ not (tooHeavy (now (table .entry)) (decode (now (block .entry))) (decode (now (block .entry)) .delegations)) ⌝ }
+{
+    let mut starts = [0u16; runs::STARTS];
+    let index = reckoning::index_of(block, &mut starts);
+    let mut reaches = [0i16; reckoning::REACHES];
+    let mut waiting = [0u64; queue::GROUPS];
+    let mut weights = [0i16; layout::MOST_RECORDS];
+    !reckoning::reckon(
+        block,
+        &starts,
+        table,
+        index,
+        &mut reaches,
+        &mut waiting,
+        &mut weights,
+    )
 }

@@ -16,16 +16,17 @@ use Rattle.rules.specs.Register.{Delegation, Register, granted, fields, 
 use Rattle.rules.specs.Support.{allowed}
 use Rattle.rules.specs.Round.{capped, round, equal, same, Settled, after, settleFrom, total, settle, SettlesIn}
 use Rattle.rules.specs.Remainder.{AtMost, Within, Remainder, Best}
+use Rattle.rules.specs.Refusal.{tooHeavy}
 use Rattle.rules.proofs.Lists.{T-left, T-right, T-both, either, mem-concatMap, concatMap-mem}
 use Rattle.rules.proofs.AtMost.{AtMost-refl, AtMost-reweigh, AtMost-trans, at-reweigh}
-use Rattle.rules.proofs.Support.{allowed-mono, allowed-carried, carried-allowed}
+use Rattle.rules.proofs.Support.{allowed-mono, allowed-carried, carried-allowed, light-allowed, allowed-light}
 
 -- ── tests for equality ──
-equal-refl : (xs : List ℕ) → T (equal xs xs)
+pub equal-refl : (xs : List ℕ) → T (equal xs xs)
 equal-refl [] = tt
 equal-refl (x ∷ xs) = T-both (eqb x x) (equal xs xs) (eqb-refl x) (equal-refl xs)
 
-equal→eq : (xs ys : List ℕ) → T (equal xs ys) → xs ≡ ys
+pub equal→eq : (xs ys : List ℕ) → T (equal xs ys) → xs ≡ ys
 equal→eq [] [] h = refl
 equal→eq [] (y ∷ ys) h = absurd h
 equal→eq (x ∷ xs) [] h = absurd h
@@ -192,6 +193,10 @@ module _ (t : List ℤ) where
           let k = nleb→lt (suc (d .weight)) (code (allowed t R d)) h in
           let c = cappedAll-falls (allowed t R) m (omega arith) in
           absurd (omega (arith, c, ap (λ (x : Register). total (x .delegations)) e))
+
+  -- a round changes nothing exactly where no weight is above the reach that counts for it
+  pub round-right : (R : Register) → (tooHeavy t R (R .delegations) ≡ false → round t R ≡ R) × (round t R ≡ R → tooHeavy t R (R .delegations) ≡ false)
+  round-right R = (λ e. round-stays R (light-allowed t R (R .delegations) e), λ e. allowed-light t R (R .delegations) (rest-supported R e))
 
   module _ (rule : TableRule t) where
     -- every remainder of the register before a round is within the register after it

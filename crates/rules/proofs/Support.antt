@@ -1,13 +1,14 @@
--- Support: reach and what a delegation is allowed rise with the register, a weight is allowed exactly where a chain carries it, and what is supported under one table is so under
--- every table that lets a right fall no faster. No other proof but a computed example rests on the
+-- Support: reach and what a delegation is allowed rise with the register, a weight is allowed exactly where a chain carries it, the test of 16 and 18 tells this, and what is
+-- supported under one table is so under every table that lets a right fall no faster. No other proof but a computed example rests on the
 -- text of `allowed` and `Carried`. Assumes nothing.
 use mathlib.Core.Path.{_≡_, refl, sym, ap, subst, _∙_}
 use mathlib.Core.Logic.{_⊎_, inl, inr}
+use mathlib.Core.Bool.{false, not}
 use mathlib.Core.List.{List, [], _∷_, List·Memᴰ·head, List·Memᴰ·tail, List·Memᴰ·not-nil}
-use Prim.Native.Nat.{ℕ, zero-le}
+use Prim.Native.Nat.{ℕ, suc, zero-le}
 use native.Mathlib.Nat.{le-trans, le-refl}
 use native.Mathlib.Omega.{arith}
-use lib.Dec.{T}
+use lib.Dec.{T, ltb, ltb→lt, nltb→le, not-T}
 use lib.ListN.{getD}
 use lib.IntN.{ℤ, pos}
 use Rattle.rules.specs.List.{_∈_, Distinct}
@@ -19,6 +20,8 @@ use Rattle.rules.specs.Chain.{Linked, receivers, limitFrom, limit, IsCha
 use Rattle.rules.specs.Reach.{reach}
 use Rattle.rules.specs.Support.{allowed, Carried, Supported}
 use Rattle.rules.specs.Remainder.{AtMost, Within}
+use Rattle.rules.specs.Refusal.{tooHeavy}
+use Rattle.rules.proofs.Lists.{no, unset, either, any-mem, mem-any}
 use Rattle.rules.proofs.AtMost.{at-giver, at-receiver, at-meets}
 use Rattle.rules.proofs.Limits.{next-mono, next-top}
 use Rattle.rules.proofs.Reach.{reach-bound, reach-attained}
@@ -152,6 +155,31 @@ module _ (t : List ℤ) (rule : TableRule t) where
   pub carried-mono : (F G : Register) (d : Delegation) → Within F G → Carried t F d → Carried t G d
   unfolding Carried
   carried-mono F G d w c = let (es, k, up) = chain-mono F G (d .giver) (d .receiver) w (c .0) (c .1) in (es, k, le-trans (c .2) up)
+
+-- ── the test of 16 and 18 ──
+module _ (t : List ℤ) (R : Register) (ds : List Delegation) where
+  -- it tells whether every weight is at most the reach that counts for it
+  pub light-allowed : tooHeavy t R ds ≡ false → (d : Delegation) → d ∈ ds → pos (d .weight) ≼ allowed t R d
+  light-allowed e d m = go (either (ltb (code (allowed t R d)) (suc (d .weight))))
+    where
+      go : T (ltb (code (allowed t R d)) (suc (d .weight))) ⊎ T (not (ltb (code (allowed t R d)) (suc (d .weight)))) → pos (d .weight) ≼ allowed t R d
+      go (inl h) = absurd (no e (any-mem (λ x. ltb (code (allowed t R x)) (suc (x .weight))) m h))
+      go (inr h) = nltb→le (code (allowed t R d)) (suc (d .weight)) h
+
+  pub allowed-light : ((d : Delegation) → d ∈ ds → pos (d .weight) ≼ allowed t R d) → tooHeavy t R ds ≡ false
+  allowed-light h = unset (tooHeavy t R ds) (not-T (tooHeavy t R ds) over)
+    where
+      over : T (tooHeavy t R ds) → ⊥
+      over q =
+          let (d, m, l) = mem-any (λ x. ltb (code (allowed t R x)) (suc (x .weight))) ds q in
+          omega (arith, h d m, ltb→lt (code (allowed t R d)) (suc (d .weight)) l)
+
+-- for all that stand it fails exactly where every delegation is supported
+pub tooHeavy-right : (t : List ℤ) → TableRule t → (R : Register) → (tooHeavy t R (R .delegations) ≡ false → Supported t R) × (Supported t R → tooHeavy t R (R .delegations) ≡ false)
+tooHeavy-right t rule R = (
+  λ e d m. allowed-carried t rule R d (light-allowed t R (R .delegations) e d m),
+  λ s. allowed-light t R (R .delegations) (λ d m. carried-allowed t rule R d (s d m)),
+)
 
 -- ── two tables: m lets a right fall no faster than t ──
 module _ (t m : List ℤ) (rule : TableRule m) (below : Below t m) where

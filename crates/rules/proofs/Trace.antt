@@ -24,12 +24,12 @@ module _ {S A O : Type 0} (step : S → A → O) (left : O → S) where
       subst (λ (r : S). e .outcome ≡ step (stateFrom step left r (allAsked xs) i) (e .asked)) (ap left (h .0)) (followed (left (x .outcome)) xs (h .1) i e m)
 
   -- THE WHOLE LIST: what holds of every call on a state that P holds of, holds at every place
-  module _ (P : S → Type 0) (keeps : (s : S) (c : A) → P s → P (left (step s c))) (Cut : S → A → O → Type 0) (right : (s : S) (c : A) → P s → Cut s c (step s c)) where
-    pub places : (s : S) → P s → AtEveryPlace step left s (PlaceRight step Cut)
+  module _ (P : S → Type 0) (keeps : (s : S) (c : A) → P s → P (left (step s c))) (Leaves : S → A → O → Type 0) (right : (s : S) (c : A) → P s → Leaves s c (step s c)) where
+    pub places : (s : S) → P s → AtEveryPlace step left s (PlaceRight step Leaves)
     places s p es h i e m =
         let r = stateFrom step left s (allAsked es) i in
         let q = followed s es h i e m in
-        record { outcome = q; cut = subst (λ (o : O). Cut r (e .asked) o) (sym q) (right r (e .asked) (stays P keeps s (allAsked es) i p)) }
+        record { outcome = q; leaves = subst (λ (o : O). Leaves r (e .asked) o) (sym q) (right r (e .asked) (stays P keeps s (allAsked es) i p)) }
 
   -- ── the trace is the one that the places cite ──
   pub trace-at : (s : S) (cs : List A) (i : ℕ) (o : O) → At (traceFrom step left s cs) i o → (c : A) × At cs i c × (o ≡ step (stateFrom step left s cs i) c)

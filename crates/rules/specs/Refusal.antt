@@ -75,9 +75,17 @@ mayNot by g = (14, not (eqb by g || eqb by 0))
 abbrev pub notBelow : Register → ℕ → ℕ → ℕ → ℕ × Bool
 notBelow R g r w = (15, leb (code (weightAt (R .delegations) g r)) (suc w))
 
--- 16: the reach that counts for one of these delegations is below its weight
+-- the reach that counts for one of these delegations is below its weight
+abbrev pub tooHeavy : List ℤ → Register → List Delegation → Bool
+tooHeavy t R ds = any (λ d. ltb (code (allowed t R d)) (suc (d .weight))) ds
+
+-- 16: so for a delegation that a call asks for
 abbrev pub overweight : List ℤ → Register → List Delegation → ℕ × Bool
-overweight t R ds = (16, any (λ d. ltb (code (allowed t R d)) (suc (d .weight))) ds)
+overweight t R ds = (16, tooHeavy t R ds)
+
+-- 18: so for a delegation of a register that is read
+abbrev pub unsupported : List ℤ → Register → ℕ × Bool
+unsupported t R = (18, tooHeavy t R (R .delegations))
 
 -- ── the lists of each call ──
 unfoldable pub passed : Call → List (ℕ × Bool)

@@ -35,8 +35,8 @@ module _ {S A O : Type 0} (step : S → A → O) (left : O → S) where
   AtEveryPlace s P = (es : List (Entry A O)) → History s es → (i : ℕ) (e : Entry A O) → At es i e → P (stateFrom s (allAsked es) i) (e .asked) (e .outcome)
 
 -- what holds where the definitions lead to the state s
-pub record PlaceRight {S A O : Type 0} (step : S → A → O) (Cut : S → A → O → Type 0) (s : S) (c : A) (o : O) : Type 0 where
+pub record PlaceRight {S A O : Type 0} (step : S → A → O) (Leaves : S → A → O → Type 0) (s : S) (c : A) (o : O) : Type 0 where
   -- (a) the refusal, the answers and what is left are those of the definitions
   pub outcome : o ≡ step s c
-  -- (b) what is claimed of a cut: an accepted one leaves the best remainder
-  pub cut : Cut s c o
+  -- (b) what else is claimed of what is left: an accepted cut leaves the best remainder
+  pub leaves : Leaves s c o

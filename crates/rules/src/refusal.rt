@@ -32,3 +32,5 @@ pub const MAY_NOT: u32 = 14;
 pub const NOT_BELOW: u32 = 15;
 
 pub const OVERWEIGHT: u32 = 16;
+
+pub const UNSUPPORTED: u32 = 18;

@@ -20,10 +20,10 @@ use Rattle.rules.specs.WellFormed.{Rising}
 use Rattle.rules.proofs.Lists.{getD-tabulate}
 use Rattle.block.specs.Layout.{mostSubjects, mostRecords, recordsAt, recordSize}
 use Rattle.block.specs.Bytes.{IsBytes}
-use Rattle.block.specs.Block.{subjectsIn, countIn, recordsIn, decode}
+use Rattle.block.specs.Block.{countIn, recordsIn, decode}
 use Rattle.block.specs.WellFormed.{wellFormed}
 use Rattle.block.proofs.Held.{held-formed, size-held, count-most, delegations-held}
-use Rattle.block.specs.Records.{marksFor, delegationAt, recordFrom}
+use Rattle.block.specs.Records.{delegationAt, recordFrom}
 use Rattle.runs.specs.Lent.{recordCount, recordAt, delegationsOf, delegationsIn, Lent}
 use Rattle.runs.proofs.Records.{delegation-same}
 use Rattle.search.specs.Search.{underMarks, parentIn, mostLinks}
@@ -76,10 +76,6 @@ module _ (b : List ℕ) (bytes : IsBytes b) (formed : wellFormed b ≡ true) whe
         givers = λ d m. let k = f .each d (subst (λ (ds : List Delegation). d ∈ ds) e m) .giver in omega (arith, f .most);
         receivers = λ d m. let k = f .each d (subst (λ (ds : List Delegation). d ∈ ds) e m) .receiver in omega (arith, f .most);
       }
-
-  pub marks-held : (v : ℕ) → v < subjectsIn b → marksFor b v ≡ marksOf (decode b) v
-  unfolding decode
-  marks-held v l = sym (getD-tabulate (marksFor b) 0 0 (subjectsIn b) v l ∙ ap (marksFor b) (zero-add v))
 
   -- the limits found are the reaches
   module _ (t : List ℤ) (v : ℕ) (l : List ℤ) (p : List ℕ) (s : Searched t (recordsIn b) (marksOf (decode b) v) l p) where

@@ -70,12 +70,12 @@ module _ (b a : List ℕ) where
     made l o b' e n a' h = made-of (callOn g b c) b a l o b' e n a' h
 
     pub cut-short : length a ≢ 12 → EntryCutMade g c b a 1 b a
-    cut-short n = record { outcome = short n; cut = λ k i z. absurd (omega arith) }
+    cut-short n = record { outcome = short n; leaves = λ k i z. absurd (omega arith) }
 
     pub cut-made : length a ≡ 12 → (o : Answer) (b' : List ℕ) → CutMade g c b o b' → (n : ℕ) (a' : List ℕ) → AnswersPut o a n a' → EntryCutMade g c b a n b' a'
     cut-made l o b' m n a' h = record {
       outcome = made l o b' (m .outcome) n a' h;
-      cut = λ k i z. let y = sym (h .0) ∙ z in cut-left (g .steps) (changed (decode b) k) o n b' a' y (m .cut k i y) (accepted-bytes o a n a' h z);
+      leaves = λ k i z. let y = sym (h .0) ∙ z in cut-left (g .steps) (changed (decode b) k) o n b' a' y (m .leaves k i y) (accepted-bytes o a n a' h z);
     }
 
   pub open-short : length a ≢ 12 → EntryOpened b a 1 b a

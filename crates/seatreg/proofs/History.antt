@@ -1,5 +1,5 @@
 -- The history theorem over the entry points: demand 3 follows from the relation that every entry point promises. Assumes nothing.
-use mathlib.Core.Path.{_≡_, ap}
+use mathlib.Core.Path.{_≡_, ap, _∙_}
 use mathlib.Core.Bool.{Bool, true, false, cond}
 use mathlib.Core.List.{List}
 use Prim.Native.Nat.{ℕ}
@@ -19,11 +19,13 @@ use Rattle.steptable.specs.TableText.{given}
 use Rattle.register.specs.CallOn.{Result, turned, openOn}
 use Rattle.register.specs.declared.Answer.{Answer}
 use Rattle.register.specs.Cuts.{CutsLeft}
-use Rattle.demands.specs.History.{Asked, asks, askedOn, GivenBelow}
-use Rattle.demands.proofs.History.{cuts-asked, bytes-left, Sound, sound, fresh-sound, call-under, fresh-supported}
+use Rattle.transfer.specs.RoundTrip.{reading}
+use Rattle.demands.specs.History.{Asked, asks, reads, askedOn, GivenBelow}
+use Rattle.demands.proofs.Keeping.{kept-read}
+use Rattle.demands.proofs.History.{leaves-right, bytes-left, Sound, sound, fresh-sound, call-under, fresh-supported}
 use Rattle.seatreg.specs.Answers.{answersSize, answerBytes}
 use Rattle.seatreg.specs.Entry.{Returned, handedOut, wrongAnswers, entryOf, entryOpen, EntryOpened, EntryCutsRight}
-use Rattle.seatreg.specs.History.{EntryAsked, entryAskedOn, CutsRightBy, EntryCutsAsked, blockLeft, EntryDemand3}
+use Rattle.seatreg.specs.History.{EntryAsked, entryAskedOn, BuffersRight, EntryLeavesRight, blockLeft, EntryDemand3}
 use Rattle.seatreg.proofs.Entry.{cut-left}
 
 -- ── one call ──
@@ -39,8 +41,14 @@ entry-cuts t b a c r cut = go (eqb (length a) answersSize)
     go true = λ k i z. cut-left t (changed (decode b) k) o (r .refusal) (r .bytes) (handedOut r a .answers) z (cut k i z) (ap (λ (x : Bool). cond x (answerBytes (r .first) (r .second) (r .third)) a) (eq-eqb (r .refusal) 0 z))
     go false = λ k i z. absurd (omega arith)
 
-cuts-right : (b a : List ℕ) → IsBytes b → (q : Asked) → CutsRightBy b q (entryOf (askedOn b q) b a)
-cuts-right b a bytes (asks text c) = entry-cuts (given text .steps) b a c (askedOn b (asks text c)) (cuts-asked b (asks text c) bytes)
+buffers-right : (b a : List ℕ) → IsBytes b → (q : Asked) → BuffersRight b q (entryOf (askedOn b q) b a)
+buffers-right b a bytes (asks text c) = entry-cuts (given text .steps) b a c (askedOn b (asks text c)) (leaves-right b (asks text c) bytes)
+buffers-right b a bytes (reads text table) = go (eqb (length a) answersSize)
+  where
+    go : (x : Bool) → BuffersRight b (reads text table) (cond x (handedOut (askedOn b (reads text table)) a) (wrongAnswers b a))
+    go true = λ z. let (x, y, w) = kept-read text table b .range z in let (e, s) = leaves-right b (reads text table) bytes z in
+        (e, s, ap (λ (x : Bool). cond x (answerBytes (reading text table b .first) (reading text table b .second) (reading text table b .third)) a) (eq-eqb (reading text table b .refusal) 0 z) ∙ (λ j. answerBytes (x j) (y j) (w j)))
+    go false = λ z. absurd (omega arith)
 
 -- the block is left as the call leaves it, or as it was: what every call keeps is kept
 entry-keeps : (P : List ℕ → Type 0) (b : List ℕ) (e : EntryAsked) → P b → P (askedOn b (e .asked) .bytes) → P (entryAskedOn b e .block)
@@ -67,7 +75,7 @@ opened b a b' a' made = go (eqb (length a) answersSize) (eqb (length b) blockSiz
 pub entry-demand3 : EntryDemand3
 entry-demand3 = record {
   opened = opened;
-  places = places entryAskedOn blockLeft IsBytes keeps-bytes EntryCutsAsked (λ b e bytes. cuts-right b (e .answers) bytes (e .asked)) (encode fresh) (fresh-sound .0);
+  places = places entryAskedOn blockLeft IsBytes keeps-bytes EntryLeavesRight (λ b e bytes. buffers-right b (e .answers) bytes (e .asked)) (encode fresh) (fresh-sound .0);
   formed = λ es i. stays entryAskedOn blockLeft Sound (λ b e s. entry-keeps Sound b e s (sound b (e .asked) s)) (encode fresh) es i fresh-sound .1;
   supported = λ es i m rule u. stays-each entryAskedOn blockLeft (λ b. IsBytes b × Supported m (decode b)) (λ e. GivenBelow (e .asked) m)
       (λ b e below p. (keeps-bytes b e (p .0), entry-keeps (λ x. Supported m (decode x)) b e (p .1) (call-under m rule b (e .asked) below (p .0) (p .1))))

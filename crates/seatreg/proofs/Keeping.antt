@@ -24,10 +24,13 @@ use Rattle.steptable.specs.TableText.{ours, given}
 use Rattle.steptable.specs.declared.Given.{Given}
 use Rattle.steptable.proofs.Right.{given-keeps}
 use Rattle.register.specs.CallOn.{Result, turned, callOn, openOn}
-use Rattle.demands.proofs.Keeping.{kept, kept-open}
+use Rattle.transfer.specs.RoundTrip.{reading}
+use Rattle.demands.proofs.Keeping.{kept, kept-open, kept-read}
+use Rattle.demands.proofs.History.{bytes-left}
+use Rattle.demands.specs.History.{reads}
 use Rattle.seatreg.specs.Answers.{answerBytes, answerIn}
 use Rattle.seatreg.specs.Entry.{wrongAnswers, entryOf, entryOn, entryOpen}
-use Rattle.seatreg.specs.Kept.{BuffersKept, EntryKept, EntryKeptOpen}
+use Rattle.seatreg.specs.Kept.{BuffersKept, AllUnused, EntryKept, EntryKeptOpen, EntryKeptRead}
 use Rattle.seatreg.proofs.AnswerBytes.{Fits32, length-answers, bytes-answers, first-back, second-back, third-back}
 
 -- ── answers in range have 32 bits ──
@@ -47,7 +50,7 @@ reach-fits (negsuc (suc n)) f h = absurd f
 abbrev AllFit32 : ℤ → ℤ → ℤ → Type 0
 AllFit32 a b c = Fits32 a × Fits32 b × Fits32 c
 
-unused-fit : (a b c : ℤ) → Unused a × Unused b × Unused c → AllFit32 a b c
+unused-fit : (a b c : ℤ) → AllUnused a b c → AllFit32 a b c
 unused-fit a b c (x, y, z) = (unused-fits x, unused-fits y, unused-fits z)
 
 cut-fits : (a b c : ℤ) → CutInRange a b c → AllFit32 a b c
@@ -154,10 +157,22 @@ pub entry-kept-open : (b a : List ℕ) → IsBytes b → IsBytes a → EntryKept
 unfolding entryOpen
 entry-kept-open b a found lent =
     let k = kept-open b in
-    kept-of (λ x y z. Unused x × Unused y × Unused z) b a found lent (openOn b) record {
+    kept-of AllUnused b a found lent (openOn b) record {
       refused = k .refused;
       formed = k .formed;
       range = k .range;
       fits = λ e. unused-fit (openOn b .first) (openOn b .second) (openOn b .third) (k .range e);
       bytes = open-bytes b found;
+    }
+
+pub entry-kept-read : (text table b a : List ℕ) → IsBytes b → IsBytes a → EntryKeptRead text table b a
+entry-kept-read text table b a found lent =
+    let k = kept-read text table b in
+    let r = reading text table b in
+    kept-of AllUnused b a found lent r record {
+      refused = k .refused;
+      formed = k .formed;
+      range = k .range;
+      fits = λ e. unused-fit (r .first) (r .second) (r .third) (k .range e);
+      bytes = bytes-left b (reads text table) found;
     }

@@ -1,11 +1,13 @@
--- What every C entry point promises: one relation of what is given with the step table's text, the call, both buffers before, the number returned and both buffers after (document 01, 'Calls'; document 02, C-11). Assumes nothing.
+-- What every C entry point promises: one relation of what is given with the step table's text, the call, both buffers before, the number returned and both buffers after (document 01, 'Calls'; document 02,
+-- C-11 and C-13). Assumes nothing.
 use mathlib.Core.Path.{_≡_}
+use mathlib.Core.Logic.{_≢_}
 use mathlib.Core.Bool.{cond}
-use mathlib.Core.List.{List}
+use mathlib.Core.List.{List, _++_}
 use Prim.Native.Nat.{ℕ}
 use lib.Dec.{eqb}
-use lib.ListN.{length}
-use lib.IntN.{ℤ}
+use lib.ListN.{length, drop}
+use lib.IntN.{ℤ, pos}
 use Rattle.rules.specs.Register.{Register}
 use Rattle.rules.specs.Cut.{Change, changed}
 use Rattle.rules.specs.Call.{Call, Makes}
@@ -14,8 +16,11 @@ use Rattle.rules.specs.Trace.{PlaceRight}
 use Rattle.rules.specs.History.{CutRight}
 use Rattle.block.specs.Block.{decode}
 use Rattle.steptable.specs.declared.Given.{Given}
+use Rattle.regfile.specs.FileText.{fileText}
 use Rattle.register.specs.CallOn.{Result, callOn, openOn}
 use Rattle.register.specs.declared.Answer.{Answer}
+use Rattle.transfer.specs.FileOn.{writeRefusal}
+use Rattle.transfer.specs.RoundTrip.{reading}
 use Rattle.seatreg.specs.Answers.{answersSize, answerBytes}
 
 -- the refusal number, 0 when accepted; the block and the answers buffer afterwards
@@ -55,6 +60,17 @@ EntryMade g c b a n b' a' = record { refusal = n; block = b'; answers = a' } ≡
 
 abbrev pub EntryOpened : List ℕ → List ℕ → ℕ → List ℕ → List ℕ → Type 0
 EntryOpened b a n b' a' = record { refusal = n; block = b'; answers = a' } ≡ entryOpen b a
+
+-- of a read of a register's text with a step table's
+abbrev pub EntryReadMade : (text table b a : List ℕ) → ℕ → List ℕ → List ℕ → Type 0
+EntryReadMade text table b a n b' a' = record { refusal = n; block = b'; answers = a' } ≡ entryOf (reading text table b) b a
+
+-- of a write of the block b: n was returned; the text buffer and the answers buffer held t and a, and hold t' and a'
+pub record EntryWriteMade (b t a : List ℕ) (n : ℕ) (t' a' : List ℕ) : Type 0 where
+  pub refusal : n ≡ cond (eqb (length a) answersSize) (writeRefusal b t) 1
+  pub refused : n ≢ 0 → (t' ≡ t) × (a' ≡ a)
+  -- the text of the register, the bytes past it as they were; the answers are its length, 0 and 0
+  pub text : n ≡ 0 → let s = fileText (decode b) in (t' ≡ s ++ drop (length s) t) × (a' ≡ answerBytes (pos (length s)) (pos 0) (pos 0))
 
 -- what an accepted cut leaves in both buffers: C is the register after its named change, and the bytes are those of three answers that are right for it
 pub record EntryCutRight (t : List ℤ) (C : Register) (r : Returned) : Type 0 where

@@ -1,18 +1,20 @@
--- Demand 1 for the entry points: refused, no lent byte changes; accepted, the block is well formed and the twelve bytes hold answers in range. Assumes nothing.
+-- Demand 1 for the entry points (document 02, C-13 among them): refused, no lent byte changes; accepted, the block is well formed and the twelve bytes hold answers in range. Assumes nothing.
 use mathlib.Core.Path.{_≡_}
 use mathlib.Core.Logic.{_≢_}
 use mathlib.Core.Bool.{true}
 use mathlib.Core.List.{List}
-use Prim.Native.Nat.{ℕ}
-use lib.ListN.{length}
-use lib.IntN.{ℤ}
+use Prim.Native.Nat.{ℕ, _≤_}
+use lib.ListN.{length, drop}
+use lib.IntN.{ℤ, pos}
 use Rattle.rules.specs.Call.{Call}
-use Rattle.rules.specs.Ranges.{Unused, InRange}
+use Rattle.rules.specs.Ranges.{FromTo, Unused, InRange}
 use Rattle.block.specs.Bytes.{IsBytes}
 use Rattle.block.specs.WellFormed.{wellFormed}
 use Rattle.steptable.specs.declared.Given.{Given}
+use Rattle.transfer.specs.RoundTrip.{reading}
+use Rattle.demands.specs.Kept.{mostWritten}
 use Rattle.seatreg.specs.Answers.{answersSize, answerBytes, answerIn}
-use Rattle.seatreg.specs.Entry.{Returned, entryOn, entryOpen}
+use Rattle.seatreg.specs.Entry.{Returned, entryOf, entryOn, entryOpen}
 
 -- what holds of what an entry point returned, on the block b and the answers buffer a; Range is that of the call's answers
 pub record BuffersKept (Range : ℤ → ℤ → ℤ → Type 0) (b a : List ℕ) (r : Returned) : Type 0 where
@@ -26,6 +28,22 @@ pub record BuffersKept (Range : ℤ → ℤ → ℤ → Type 0) (b a : List ℕ)
 abbrev pub EntryKept : Given → Call → List ℕ → List ℕ → Type 0
 EntryKept g c b a = BuffersKept (InRange c) b a (entryOn g a b c)
 
--- open answers 0
+-- open and read answer 0
+abbrev pub AllUnused : ℤ → ℤ → ℤ → Type 0
+AllUnused x y z = Unused x × Unused y × Unused z
+
 abbrev pub EntryKeptOpen : List ℕ → List ℕ → Type 0
-EntryKeptOpen b a = BuffersKept (λ x y z. Unused x × Unused y × Unused z) b a (entryOpen b a)
+EntryKeptOpen b a = BuffersKept AllUnused b a (entryOpen b a)
+
+abbrev pub EntryKeptRead : (text table b a : List ℕ) → Type 0
+EntryKeptRead text table b a = BuffersKept AllUnused b a (entryOf (reading text table b) b a)
+
+-- a write changes no block: what holds of the number returned, the text buffer and the answers buffer, which held t and a, and hold t' and a'
+pub record EntryKeptWrite (t a : List ℕ) (n : ℕ) (t' a' : List ℕ) : Type 0 where
+  pub refused : n ≢ 0 → (t' ≡ t) × (a' ≡ a)
+  pub size : n ≡ 0 → length a' ≡ answersSize
+  pub answers : n ≡ 0 → a' ≡ answerBytes (answerIn a' 0) (answerIn a' 1) (answerIn a' 2)
+  pub range : n ≡ 0 → FromTo 1 mostWritten (answerIn a' 0) × Unused (answerIn a' 1) × Unused (answerIn a' 2)
+  -- as many bytes are written as the first answer says, no more than the text buffer has; those past them don't change
+  pub within : length t' ≡ length t
+  pub rest : n ≡ 0 → (k : ℕ) → answerIn a' 0 ≡ pos k → (k ≤ length t) × (drop k t' ≡ drop k t)

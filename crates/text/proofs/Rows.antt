@@ -1,13 +1,14 @@
 -- The rows of a text that begins with a line are its values, and the rows of what follows. Assumes nothing.
 use mathlib.Core.Path.{_≡_, refl, sym, ap, _∙_}
 use mathlib.Core.Logic.{_≢_}
-use mathlib.Core.Bool.{Bool, true, false}
+use mathlib.Core.Bool.{Bool, true, false, _&&_}
 use mathlib.Core.List.{List, [], _∷_, _++_, map, append-assoc}
 use Prim.Native.Nat.{ℕ, zero, suc, _+_, _*_, _-_, _/_, _%_, _≤_, _<_}
 use native.Mathlib.Omega.{arith}
 use borrow.Author.Tests.{ltb-true, ltb-false, ne-eqb, eq-eqb}
-use lib.Dec.{ltb}
+use lib.Dec.{T, ltb, ltb→lt}
 use lib.IntN.{ℤ, pos, negsuc}
+use lib.ListN.{drop}
 use Rattle.text.specs.Text.{digits, number, line}
 use Rattle.text.specs.Rows.{onto, cut, valueOn, partNumber, rows}
 use Rattle.text.proofs.Digits.{digits-one, digits-more}
@@ -117,3 +118,34 @@ rows-line (z ∷ zs) s n =
     ap (λ (t : List ℕ). rows t) a
     ∙ ap (map (λ l. map partNumber (cut 32 l))) (cut-end 10 32 (omega arith) (body (z ∷ zs)) s (body-low z zs))
     ∙ ap (λ (r : List ℤ). r ∷ rows s) (body-parts z zs)
+
+-- ── lines that hold no numbers ──
+pub rows-none : rows [] ≡ []
+unfolding rows
+rows-none = refl
+
+pub rows-empty : (s : List ℕ) → rows (10 ∷ s) ≡ [] ∷ rows s
+unfolding rows
+rows-empty s = refl
+
+-- every byte is above 10
+abbrev pub above : List ℕ → Bool
+above [] = true
+above (b ∷ s) = ltb 10 b && above s
+
+above-low : (p : List ℕ) → T (above p) → Low 11 p
+above-low [] h = tt
+above-low (b ∷ p) h = (omega (arith, ltb→lt 10 b (T-first (ltb 10 b) (above p) h)), above-low p (T-rest (ltb 10 b) (above p) h))
+  where
+    T-first : (x y : Bool) → T (x && y) → T x
+    T-first true y t = tt
+    T-first false y t = absurd t
+
+    T-rest : (x y : Bool) → T (x && y) → T y
+    T-rest true y t = t
+    T-rest false y t = absurd t
+
+-- the row of a line of names is dropped
+pub rows-names : (p s : List ℕ) → T (above p) → drop 1 (rows (p ++ (10 ∷ s))) ≡ rows s
+unfolding rows
+rows-names p s h = ap (λ (x : List (List ℕ)). drop 1 (map (λ l. map partNumber (cut 32 l)) x)) (cut-end 10 11 (omega arith) p s (above-low p h))

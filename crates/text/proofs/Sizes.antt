@@ -12,11 +12,12 @@ use Rattle.text.specs.Text.{digits, number, after, line, most, Allowed, 
 use Rattle.text.proofs.Digits.{digits-one, digits-more}
 use Rattle.text.proofs.Writing.{number-some}
 
-abbrev tens : ℕ → ℕ
+-- ten to the k
+abbrev pub tens : ℕ → ℕ
 tens zero = 1
 tens (suc k) = 10 * tens k
 
-digits-below : (k n : ℕ) → n < tens (suc k) → length (digits n) ≤ suc k
+pub digits-below : (k n : ℕ) → n < tens (suc k) → length (digits n) ≤ suc k
 digits-below zero n h = let l : n < 10 = omega arith in rw (digits-one n l) (omega arith)
 digits-below (suc k) n h = go (ltb n 10) refl (λ m. digits-below k (n / 10) m)
   where

@@ -155,3 +155,9 @@ then-written at xs ys before r mid r′ last h v w = record {
   next = omega (arith, v .next, w .next, length-append xs ys);
   bytes = w .bytes ∙ (λ p. put (v .next p) ys (v .bytes p)) ∙ put-put at xs ys before h;
 }
+
+-- there is room for the other
+pub then-room : (at : ℕ) (xs ys before : List ℕ) (r : ℕ) (mid : List ℕ) → Room at (xs ++ ys) before → Written at xs before r mid → Room r ys mid
+then-room at xs ys before r mid h w =
+    let l = length-append xs ys in
+    omega (arith, h, w .next, l, ap length (w .bytes) ∙ put-length at xs before (omega arith))

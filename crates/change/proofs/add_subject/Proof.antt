@@ -3,20 +3,19 @@ use borrow.Author.Needs.{needs}
 use native.Mathlib.Omega.{arith}
 use lib.ListN.{length-set}
 use Rattle.rules.specs.CallStep.{before}
-use Rattle.block.proofs.Bytes.{fits-bytes}
-use Rattle.block.proofs.Held.{size-held}
-use Rattle.change.proofs.Changing.{enrol-held}
+use Rattle.block.proofs.Fitting.{fitting-size}
+use Rattle.change.proofs.Changing.{enrol-fitting}
 use Rattle.change.proofs.add_subject.Statement.{statement}
 use Rattle.change.proofs.add_subject.Tie as tie
 
 subjects-requires : tie.Need-subjects-requires
-subjects-requires c κs = omega (arith, size-held (c .before .before .args .b .now) (fits-bytes (c .before .before .args .b .now) (c .before .slice-known .given)) (c .before .before .pre .0))
+subjects-requires c κs = omega (arith, fitting-size (c .before .before .args .b .now) (c .before .before .pre .0))
 
 add-b : tie.Need-add-b
 add-b c = search needs
 
 slice-write-b : tie.Need-slice-write-b
-slice-write-b c = omega (arith, size-held (c .before .before .before .args .b .now) (fits-bytes (c .before .before .before .args .b .now) (c .before .before .slice-known .given)) (c .before .before .before .pre .0))
+slice-write-b c = omega (arith, fitting-size (c .before .before .before .args .b .now) (c .before .before .before .pre .0))
 
 cast-put-two : tie.Need-cast-put-two
 cast-put-two c = search needs
@@ -30,10 +29,7 @@ add-put-two c = search needs
 put-two-requires : tie.Need-put-two-requires
 put-two-requires c κs =
     let s = c .before .before .before .before in
-    let a = s .args in
-    let b = a .b .now in
-    let bytes = fits-bytes b (c .before .before .before .slice-known .given) in
-    simp length-set (omega (arith, size-held b bytes (s .pre .0), c .before .subjects .ensures, s .pre .1))
+    simp length-set (omega (arith, fitting-size (s .args .b .now) (s .pre .0), c .before .subjects .ensures, s .pre .1))
 
 same-length : tie.Need-same-length
 same-length c = omega (arith, simp length-set at (c .before .before .put-two .kept .0))
@@ -42,11 +38,9 @@ returns : tie.Need-returns
 returns c =
     let s = c .before .before .before .before .before .before .before in
     let a = s .args in
-    let b = a .b .now in
-    let bytes = fits-bytes b (c .before .before .before .before .before .before .slice-known .given) in
     let at-subjects = c .before .before .before .before .subjects in
     let at-put-two = c .before .before .put-two in
-    rw (at-put-two .ensures, at-subjects .ensures) (enrol-held b bytes (s .pre .0) (a .marks) (s .pre .1))
+    rw (at-put-two .ensures, at-subjects .ensures) (enrol-fitting (a .b .now) (s .pre .0) (a .marks) (s .pre .1))
 
 pub add-subject-spec : {M : Type 1} → statement M
 add-subject-spec =

@@ -7,6 +7,7 @@ use native.Mathlib.Omega.{arith}
 use Rattle.rules.specs.Call.{Call, enrol}
 use Rattle.block.specs.Bytes.{IsBytes}
 use Rattle.block.proofs.Bytes.{fits-bytes}
+use Rattle.block.proofs.Held.{held-fitting}
 use Rattle.steptable.specs.TableText.{ours}
 use Rattle.refusals.proofs.EarlyTests.{Through, through}
 use Rattle.register.proofs.Enrolling.{enrol-done, enrol-room}
@@ -52,7 +53,7 @@ add-subject-requires : tie.Need-add-subject-requires
 add-subject-requires c κs =
     let e = c .before .before .before in
     let a = start e .args in
-    (past e .early .formed, enrol-room ours (a .marks) (a .block .now) (bytes e) (past e))
+    (held-fitting (a .block .now) (bytes e) (past e .early .formed), enrol-room ours (a .marks) (a .block .now) (bytes e) (past e))
 
 cast-answered : tie.Need-cast-answered
 cast-answered c = search needs

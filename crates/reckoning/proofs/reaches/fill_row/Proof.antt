@@ -8,8 +8,7 @@ use lib.ListN.{length}
 use Rattle.rules.proofs.Lists.{yes}
 use Rattle.block.specs.Block.{decode}
 use Rattle.block.proofs.Bytes.{fits-bytes}
-use Rattle.block.proofs.Held.{rules-of}
-use Rattle.search.proofs.Searching.{marks-held}
+use Rattle.block.proofs.Held.{rules-of, marks-held}
 use Rattle.reckoning.proofs.Filling.{bit-read, row-copied}
 use Rattle.reckoning.proofs.reaches.fill_row.Statement.{statement}
 use Rattle.reckoning.proofs.reaches.fill_row.Tie as tie

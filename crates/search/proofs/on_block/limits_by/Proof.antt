@@ -2,8 +2,8 @@
 use borrow.Author.Needs.{needs}
 use Rattle.block.specs.Bytes.{IsBytes}
 use Rattle.block.proofs.Bytes.{fits-bytes}
-use Rattle.block.proofs.Held.{has-marks, has-records}
-use Rattle.search.proofs.Searching.{lent-held, marks-held}
+use Rattle.block.proofs.Held.{has-marks, has-records, marks-held}
+use Rattle.search.proofs.Searching.{lent-held}
 use Rattle.search.proofs.on_block.limits_by.Statement.{statement}
 use Rattle.search.proofs.on_block.limits_by.Tie as tie
 

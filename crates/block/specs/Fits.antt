@@ -1,0 +1,33 @@
+-- Registers whose numbers have room in a block, whatever rules they break (document 01, 'The block'). Assumes nothing.
+use mathlib.Core.Path.{_≡_}
+use mathlib.Core.List.{List, []}
+use Prim.Native.Nat.{ℕ, _≤_}
+use lib.ListN.{length}
+use Rattle.rules.specs.List.{_∈_}
+use Rattle.rules.specs.Register.{Delegation, Register}
+use Rattle.block.specs.Layout.{mostSubjects, mostRecords}
+use Rattle.block.specs.Block.{decode, encode}
+
+-- each number has room in its byte, or its two bytes
+pub record DelegationFits (d : Delegation) : Type 0 where
+  pub giver : d .giver ≤ 255
+  pub receiver : d .receiver ≤ 255
+  pub weight : d .weight ≤ 255
+  pub need : d .need ≤ 65535
+  pub bar : d .bar ≤ 65535
+
+pub record Fits (R : Register) : Type 0 where
+  pub most : R .subjects ≤ mostSubjects
+  pub marked : length (R .marks) ≡ R .subjects
+  pub marks : (m : ℕ) → m ∈ R .marks → m ≤ 65535
+  pub few : length (R .delegations) ≤ mostRecords
+  pub each : (d : Delegation) → d ∈ R .delegations → DelegationFits d
+
+-- the bytes are such a register written
+pub record Fitting (b : List ℕ) : Type 0 where
+  pub fits : Fits (decode b)
+  pub written : b ≡ encode (decode b)
+
+-- no subject and no delegation: no well-formed register, but its numbers have room
+abbrev pub empty : Register
+empty = record { subjects = 0; marks = []; delegations = [] }

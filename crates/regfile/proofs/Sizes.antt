@@ -1,0 +1,92 @@
+-- How many bytes the text of a register takes. Assumes nothing.
+use mathlib.Core.Path.{_≡_, refl}
+use mathlib.Core.Bool.{Bool, true, false}
+use mathlib.Core.List.{List, [], _∷_, _++_, map, List·Memᴰ·head, List·Memᴰ·tail}
+use Prim.Native.Nat.{ℕ, suc, _+_, _*_, _-_, _≤_, _<_}
+use native.Mathlib.Omega.{arith}
+use borrow.Author.Tests.{ltb-true, ltb-false}
+use lib.Dec.{ltb}
+use lib.IntN.{pos}
+use lib.ListN.{length, getD, length-append}
+use Rattle.rules.specs.List.{_∈_, concatMap}
+use Rattle.rules.specs.Register.{Delegation, Register}
+use Rattle.rules.specs.WellFormed.{DelegationFormed, WellFormed}
+use Rattle.text.specs.Text.{digits, after, line}
+use Rattle.text.proofs.Sizes.{tens, digits-below}
+use Rattle.regfile.specs.FileText.{subjectNames, delegationNames, subjectRows, delegationRow, fileText}
+
+-- a number of at most k + 1 digits, and what follows it
+line-more : (k n : ℕ) (ns : List ℕ) → n < tens (suc k) → length (line (map pos (n ∷ ns))) ≤ suc (suc k) + length (line (map pos ns))
+line-more k n ns h = omega (arith, length-append (digits n) (after (map pos ns) ∷ line (map pos ns)), digits-below k n h)
+
+-- ── the subjects ──
+
+-- the lines from subject s on; those below 10 have one digit
+subjects-from : (s : ℕ) (ms : List ℕ) → s + length ms ≤ 64 → ((m : ℕ) → m ∈ ms → m ≤ 65535) → length (concatMap line (subjectRows s ms)) + 9 * s + (10 - s) ≤ 576
+subjects-from s [] l h = omega arith
+subjects-from s (m ∷ ms) l h = go (ltb s 10) refl (subjects-from (suc s) ms (omega arith) (λ x i. h x (List·Memᴰ·tail i)))
+  where
+    row : length (line (map pos (m ∷ []))) ≤ 6
+    row = line-more 4 m [] (omega (arith, h m (List·Memᴰ·head refl)))
+
+    both : length (concatMap line (subjectRows s (m ∷ ms))) ≡ length (line (pos s ∷ pos m ∷ [])) + length (concatMap line (subjectRows (suc s) ms))
+    both = length-append (line (pos s ∷ pos m ∷ [])) (concatMap line (subjectRows (suc s) ms))
+
+    go : (x : Bool) → ltb s 10 ≡ x → length (concatMap line (subjectRows (suc s) ms)) + 9 * suc s + (10 - suc s) ≤ 576 → length (concatMap line (subjectRows s (m ∷ ms))) + 9 * s + (10 - s) ≤ 576
+    go true e ih = let q : s < 10 = ltb-true s 10 e in omega (arith, both, row, line-more 0 s (m ∷ []) (omega arith))
+    go false e ih = let q : 10 ≤ s = ltb-false s 10 e in omega (arith, both, row, line-more 1 s (m ∷ []) (omega arith))
+
+-- the owner's is the shortest
+subjects-short : (ms : List ℕ) → length ms ≤ 64 → getD ms 0 0 ≡ 0 → ((m : ℕ) → m ∈ ms → m ≤ 65535) → length (concatMap line (subjectRows 0 ms)) ≤ 562
+subjects-short [] l e h = omega arith
+subjects-short (m ∷ ms) l e h =
+    omega (
+      arith,
+      length-append (line (pos 0 ∷ pos m ∷ [])) (concatMap line (subjectRows 1 ms)),
+      line-more 0 0 (m ∷ []) (omega arith),
+      line-more 0 m [] (omega (arith, e)),
+      subjects-from 1 ms (omega arith) (λ x i. h x (List·Memᴰ·tail i)),
+    )
+
+-- ── the delegations ──
+
+delegation-short : (n : ℕ) (d : Delegation) → n ≤ 64 → DelegationFormed n d → length (line (delegationRow d)) ≤ 22
+delegation-short n d l f =
+    omega (
+      arith,
+      line-more 1 (d .giver) (d .receiver ∷ d .weight ∷ d .need ∷ d .bar ∷ []) (omega (arith, f .giver)),
+      line-more 1 (d .receiver) (d .weight ∷ d .need ∷ d .bar ∷ []) (omega (arith, f .receiver)),
+      line-more 2 (d .weight) (d .need ∷ d .bar ∷ []) (omega (arith, f .weight)),
+      line-more 4 (d .need) (d .bar ∷ []) (omega (arith, f .need)),
+      line-more 4 (d .bar) [] (omega (arith, f .bar)),
+    )
+
+delegations-short : (n : ℕ) (ds : List Delegation) → n ≤ 64 → ((d : Delegation) → d ∈ ds → DelegationFormed n d) → length (concatMap line (map delegationRow ds)) ≤ 22 * length ds
+delegations-short n [] l h = omega arith
+delegations-short n (d ∷ ds) l h =
+    omega (arith, length-append (line (delegationRow d)) (concatMap line (map delegationRow ds)), delegation-short n d l (h d (List·Memᴰ·head refl)), delegations-short n ds l (λ e i. h e (List·Memᴰ·tail i)))
+
+-- ── the whole text ──
+
+names-length : length subjectNames ≡ 14
+unfolding subjectNames
+names-length = refl
+
+more-length : length delegationNames ≡ 32
+unfolding delegationNames
+more-length = refl
+
+module _ (R : Register) where
+  length-file : length (fileText R) ≡ 14 + (length (concatMap line (subjectRows 0 (R .marks))) + (32 + length (concatMap line (map delegationRow (R .delegations)))))
+  unfolding fileText
+  length-file =
+      let S = concatMap line (subjectRows 0 (R .marks)) in
+      let D = concatMap line (map delegationRow (R .delegations)) in
+      omega (arith, names-length, more-length, length-append subjectNames (S ++ (delegationNames ++ D)), length-append S (delegationNames ++ D), length-append delegationNames D)
+
+  pub file-some : 1 ≤ length (fileText R)
+  file-some = omega (arith, length-file)
+
+  pub file-short : WellFormed R → length (fileText R) ≤ 6240
+  file-short f =
+      omega (arith, length-file, f .few, subjects-short (R .marks) (omega (arith, f .marked, f .most)) (f .owner) (f .marks), delegations-short (R .subjects) (R .delegations) (f .most) (f .each))

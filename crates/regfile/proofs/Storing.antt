@@ -1,0 +1,238 @@
+-- A row stored after those of a register, or one that no well-formed register has there. Assumes nothing.
+use mathlib.Core.Path.{_≡_, refl, sym, ap, subst, _∙_}
+use mathlib.Core.Logic.{_≢_, _⊎_, inl, inr}
+use mathlib.Core.Bool.{true, false, _&&_}
+use mathlib.Core.List.{List, [], _∷_, _++_, map, List·Memᴰ·head, List·Memᴰ·tail}
+use Prim.Native.Nat.{ℕ, suc, _+_, _≤_, _<_}
+use native.Mathlib.Nat.{add-zero, add-suc, suc-add, zero-add}
+use native.Mathlib.Omega.{arith}
+use lib.Dec.{T, leb, leb→le, le→leb}
+use lib.IntN.{ℤ, pos}
+use lib.ListN.{length, getD, drop, length-append, length-map}
+use Rattle.rules.specs.List.{_∈_}
+use Rattle.rules.specs.Register.{Delegation, Register, withDelegations}
+use Rattle.rules.specs.Call.{enrolled}
+use Rattle.rules.proofs.Lists.{T-left, T-right, T-both, T-true, yes, clash, map-mem}
+use Rattle.rules.proofs.Chains.{mem-snoc}
+use Rattle.block.specs.Layout.{mostSubjects, mostRecords}
+use Rattle.block.specs.Block.{subjectsIn, countIn, decode, encode}
+use Rattle.block.specs.Fits.{DelegationFits, Fits, Fitting}
+use Rattle.block.proofs.Fitting.{fitting-subjects, fitting-count}
+use mir.Syntax.{w64}
+use mir.Val.{ofZ, toZ}
+use Rattle.text.specs.Text.{Allowed, AllAllowed}
+use Rattle.text.proofs.Signed.{kept, allowed-fits}
+use Rattle.text.proofs.Lines.{allowed-at}
+use Rattle.regfile.specs.FileText.{subjectColumns, delegationColumns, subjectRows, delegationRow, rowsOf, plainOf, valueAt, delegationOf}
+use Rattle.regfile.specs.Parsed.{withRow, Holds, Unformed, hasRoom, RowPut}
+use Rattle.regfile.proofs.FileRight.{length-subjects}
+
+-- ── lists ──
+-- what holds of all and of one more holds of these
+all-more : {A : Type 0} (P : A → Type 0) (xs : List A) (y : A) → ((x : A) → x ∈ xs → P x) → P y → (x : A) → x ∈ (xs ++ (y ∷ [])) → P x
+all-more P xs y all one x m = go (mem-snoc xs m)
+  where
+    go : (x ∈ xs) ⊎ (x ≡ y) → P x
+    go (inl i) = all x i
+    go (inr e) = subst P (sym e) one
+
+length-more : {A : Type 0} (xs : List A) (y : A) → length (xs ++ (y ∷ [])) ≡ suc (length xs)
+length-more xs y = length-append xs (y ∷ []) ∙ omega arith
+
+-- a list cut where an element stands
+record Stands {A : Type 0} (xs : List A) (y : A) (ys more : List A) : Type 0 where
+  inside : y ∈ ys
+  long : suc (length xs) ≤ length ys
+
+stands : {A : Type 0} (xs : List A) (y : A) (ys more : List A) → ys ≡ (xs ++ (y ∷ [])) ++ more → Stands xs y ys more
+stands xs y ys more e = record {
+  inside = subst (λ (s : List _). y ∈ s) (sym e) (middle xs);
+  long = omega (arith, ap length e, length-append (xs ++ (y ∷ [])) more, length-more xs y);
+}
+  where
+    middle : (s : List _) → y ∈ ((s ++ (y ∷ [])) ++ more)
+    middle [] = List·Memᴰ·head refl
+    middle (z ∷ s) = List·Memᴰ·tail (middle s)
+
+-- ── subjects ──
+subjects-more : (s : ℕ) (ms : List ℕ) (m : ℕ) → subjectRows s (ms ++ (m ∷ [])) ≡ subjectRows s ms ++ ((pos (s + length ms) ∷ pos m ∷ []) ∷ [])
+subjects-more s [] m = ap (λ (k : ℕ). (pos k ∷ pos m ∷ []) ∷ []) (sym (add-zero s))
+subjects-more s (x ∷ ms) m =
+    ap (λ (t : List (List ℤ)). (pos s ∷ pos x ∷ []) ∷ t)
+    (subjects-more (suc s) ms m ∙ ap (λ (k : ℕ). subjectRows (suc s) ms ++ ((pos k ∷ pos m ∷ []) ∷ [])) (suc-add s (length ms) ∙ sym (add-suc s (length ms))))
+
+-- the row at a place is that of the subject whose number is the place
+record Subject (s : ℕ) (ms : List ℕ) (k : ℕ) (row : List ℤ) : Type 0 where
+  marks : ℕ
+  held : marks ∈ ms
+  same : row ≡ pos (s + k) ∷ pos marks ∷ []
+  long : k < length ms
+
+subject-at : (s : ℕ) (ms : List ℕ) (xs : List (List ℤ)) (row : List ℤ) (more : List (List ℤ)) → subjectRows s ms ≡ (xs ++ (row ∷ [])) ++ more → Subject s ms (length xs) row
+subject-at s [] [] row more e = absurd (omega (arith, ap length e))
+subject-at s [] (x ∷ xs) row more e = absurd (omega (arith, ap length e))
+subject-at s (m ∷ ms) [] row more e = record {
+  marks = m;
+  held = List·Memᴰ·head refl;
+  same = ap (λ (t : List (List ℤ)). getD t 0 []) (sym e) ∙ ap (λ (k : ℕ). pos k ∷ pos m ∷ []) (sym (add-zero s));
+  long = omega arith;
+}
+subject-at s (m ∷ ms) (x ∷ xs) row more e =
+    let r = subject-at (suc s) ms xs row more (ap (drop 1) e) in
+    record {
+      marks = r .marks;
+      held = List·Memᴰ·tail (r .held);
+      same = r .same ∙ ap (λ (k : ℕ). pos k ∷ pos (r .marks) ∷ []) (suc-add s (length xs) ∙ sym (add-suc s (length xs)));
+      long = omega (arith, r .long);
+    }
+
+two-of : (row : List ℤ) (a b : ℕ) → length row ≡ 2 → pos a ≡ getD row 0 (pos 0) → pos b ≡ getD row 1 (pos 0) → row ≡ pos a ∷ pos b ∷ []
+two-of [] a b h p q = absurd (omega arith)
+two-of (x ∷ []) a b h p q = absurd (omega arith)
+two-of (x ∷ y ∷ []) a b h p q = λ i. sym p i ∷ sym q i ∷ []
+two-of (x ∷ y ∷ z ∷ zs) a b h p q = absurd (omega arith)
+
+module _ (b : List ℕ) (h : Fitting b) (row : List ℤ) where
+  -- a row left out: no well-formed register has it there
+  left-out : (w : ℕ) (after : List ℕ) → Unformed w (rowsOf w (decode b) ++ (row ∷ [])) → RowPut w (decode b) row false after
+  left-out w after n = record { put = λ e. clash (sym e); out = λ e. n }
+
+  -- the subject that a well-formed register has there
+  there : (S : Register) (more : List (List ℤ)) → rowsOf subjectColumns S ≡ (rowsOf subjectColumns (decode b) ++ (row ∷ [])) ++ more → Subject 0 (S .marks) (decode b .subjects) row
+  there S more e =
+      let k : length (subjectRows 0 (decode b .marks)) ≡ decode b .subjects = length-subjects 0 (decode b .marks) ∙ h .fits .marked in
+      subst (λ (n : ℕ). Subject 0 (S .marks) n row) k (subject-at 0 (S .marks) (subjectRows 0 (decode b .marks)) row more e)
+
+  pub subject-full : mostSubjects ≤ subjectsIn b → RowPut subjectColumns (decode b) row false b
+  subject-full l = left-out subjectColumns b (λ S f more e. absurd (omega (arith, l, fitting-subjects b h, there S more e .long, f .marked, f .most)))
+
+  pub subject-other : (s : ℕ) → pos s ≡ getD row 0 (pos 0) → s ≢ subjectsIn b → RowPut subjectColumns (decode b) row false b
+  subject-other s p n = left-out subjectColumns b (λ S f more e.
+      let q : pos s ≡ pos (0 + decode b .subjects) = p ∙ ap (λ (r : List ℤ). getD r 0 (pos 0)) (there S more e .same) in
+      n (ap plainOf q ∙ zero-add (decode b .subjects) ∙ sym (fitting-subjects b h)))
+
+  pub subject-large : (m : ℕ) → pos m ≡ getD row 1 (pos 0) → 65535 < m → RowPut subjectColumns (decode b) row false b
+  subject-large m p l = left-out subjectColumns b (λ S f more e.
+      let t = there S more e in
+      let q : m ≡ t .marks = ap plainOf (p ∙ ap (λ (r : List ℤ). getD r 1 (pos 0)) (t .same)) in
+      absurd (omega (arith, f .marks (t .marks) (t .held))))
+
+  module _ (size : length row ≡ subjectColumns) (s m : ℕ) (p : pos s ≡ getD row 0 (pos 0)) (q : pos m ≡ getD row 1 (pos 0)) (next : s ≡ subjectsIn b) (room : subjectsIn b < mostSubjects) (small : m ≤ 65535) where
+    enrolled-fits : Fits (enrolled (decode b) m)
+    enrolled-fits = record {
+      most = omega (arith, room, fitting-subjects b h);
+      marked = length-more (decode b .marks) m ∙ ap suc (h .fits .marked);
+      marks = all-more (λ (x : ℕ). x ≤ 65535) (decode b .marks) m (h .fits .marks) small;
+      few = h .fits .few;
+      each = h .fits .each;
+    }
+
+    pub subject-put : (after : List ℕ) → after ≡ encode (enrolled (decode b) m) → RowPut subjectColumns (decode b) row true after
+    subject-put after e = record { put = λ t. held; out = λ t. clash t }
+      where
+        v : m ≡ valueAt row 1
+        v = ap plainOf q
+
+        place : pos (0 + length (decode b .marks)) ≡ pos s
+        place = ap pos (zero-add (length (decode b .marks)) ∙ h .fits .marked ∙ sym (fitting-subjects b h) ∙ sym next)
+
+        held : Holds subjectColumns (withRow subjectColumns (decode b) row) (rowsOf subjectColumns (decode b) ++ (row ∷ [])) after
+        held = record {
+          fits = subst (λ (x : ℕ). Fits (enrolled (decode b) x)) v enrolled-fits;
+          bytes = e ∙ ap (λ (x : ℕ). encode (enrolled (decode b) x)) v;
+          same = ap (λ (x : ℕ). subjectRows 0 (decode b .marks ++ (x ∷ []))) (sym v) ∙ subjects-more 0 (decode b .marks) m
+              ∙ ap (λ (z : ℤ). subjectRows 0 (decode b .marks) ++ ((z ∷ pos m ∷ []) ∷ [])) place
+              ∙ ap (λ (r : List ℤ). subjectRows 0 (decode b .marks) ++ (r ∷ [])) (sym (two-of row s m size p q));
+        }
+
+-- ── delegations ──
+rows-more : (ds : List Delegation) (d : Delegation) → map delegationRow (ds ++ (d ∷ [])) ≡ map delegationRow ds ++ (delegationRow d ∷ [])
+rows-more [] d = refl
+rows-more (e ∷ ds) d = ap (λ (t : List (List ℤ)). delegationRow e ∷ t) (rows-more ds d)
+
+-- a row of five plain numbers is that of a delegation
+pub five-of : (row : List ℤ) (d : Delegation) → length row ≡ 5 → pos (d .giver) ≡ getD row 0 (pos 0) → pos (d .receiver) ≡ getD row 1 (pos 0) → pos (d .weight) ≡ getD row 2 (pos 0) → pos (d .need) ≡ getD row 3 (pos 0) → pos (d .bar) ≡ getD row 4 (pos 0)
+    → row ≡ delegationRow d
+five-of [] d h p q r s t = absurd (omega arith)
+five-of (x ∷ []) d h p q r s t = absurd (omega arith)
+five-of (x ∷ y ∷ []) d h p q r s t = absurd (omega arith)
+five-of (x ∷ y ∷ z ∷ []) d h p q r s t = absurd (omega arith)
+five-of (x ∷ y ∷ z ∷ u ∷ []) d h p q r s t = absurd (omega arith)
+five-of (x ∷ y ∷ z ∷ u ∷ v ∷ []) d h p q r s t = λ i. sym p i ∷ sym q i ∷ sym r i ∷ sym s i ∷ sym t i ∷ []
+five-of (x ∷ y ∷ z ∷ u ∷ v ∷ c ∷ cs) d h p q r s t = absurd (omega arith)
+
+pub room-fits : (d : Delegation) → T (hasRoom d) → DelegationFits d
+room-fits d t =
+    let w = leb (d .weight) 255 in
+    let n = leb (d .need) 65535 in
+    let b = leb (d .bar) 65535 in
+    let t₁ = T-right (leb (d .giver) 255) (leb (d .receiver) 255 && (w && (n && b))) t in
+    let t₂ = T-right (leb (d .receiver) 255) (w && (n && b)) t₁ in
+    let t₃ = T-right w (n && b) t₂ in
+    record {
+      giver = leb→le (d .giver) 255 (T-left (leb (d .giver) 255) (leb (d .receiver) 255 && (w && (n && b))) t);
+      receiver = leb→le (d .receiver) 255 (T-left (leb (d .receiver) 255) (w && (n && b)) t₁);
+      weight = leb→le (d .weight) 255 (T-left w (n && b) t₂);
+      need = leb→le (d .need) 65535 (T-left n b t₃);
+      bar = leb→le (d .bar) 65535 (T-right n b t₃);
+    }
+
+fits-room : (d : Delegation) → DelegationFits d → T (hasRoom d)
+fits-room d k =
+    let w = leb (d .weight) 255 in
+    let n = leb (d .need) 65535 in
+    let b = leb (d .bar) 65535 in
+    T-both (leb (d .giver) 255) (leb (d .receiver) 255 && (w && (n && b))) (le→leb (d .giver) 255 (k .giver))
+    (T-both (leb (d .receiver) 255) (w && (n && b)) (le→leb (d .receiver) 255 (k .receiver))
+    (T-both w (n && b) (le→leb (d .weight) 255 (k .weight))
+    (T-both n b (le→leb (d .need) 65535 (k .need)) (le→leb (d .bar) 65535 (k .bar)))))
+
+module _ (b : List ℕ) (h : Fitting b) (row : List ℤ) where
+  standing : (S : Register) (more : List (List ℤ)) → rowsOf delegationColumns S ≡ (rowsOf delegationColumns (decode b) ++ (row ∷ [])) ++ more → Stands (rowsOf delegationColumns (decode b)) row (rowsOf delegationColumns S) more
+  standing S more e = stands (rowsOf delegationColumns (decode b)) row (rowsOf delegationColumns S) more e
+
+  pub delegations-full : mostRecords ≤ countIn b → RowPut delegationColumns (decode b) row false b
+  delegations-full l = left-out b h row delegationColumns b (λ S f more e.
+      absurd (omega (arith, l, fitting-count b h, standing S more e .long, f .few, length-map (S .delegations) delegationRow, length-map (decode b .delegations) delegationRow)))
+
+  module _ (d : Delegation) (same : row ≡ delegationRow d) where
+    pub delegation-large : hasRoom d ≡ false → RowPut delegationColumns (decode b) row false b
+    delegation-large n = left-out b h row delegationColumns b (λ S f more e.
+        let (x, i, q) = map-mem delegationRow (S .delegations) (standing S more e .inside) in
+        let k = f .each x i in
+        let y : d ≡ x = ap delegationOf (sym same ∙ q) in
+        let t = fits-room x record { giver = omega (arith, k .giver, f .most); receiver = omega (arith, k .receiver, f .most); weight = k .weight; need = k .need; bar = k .bar } in
+        clash (sym (sym n ∙ ap hasRoom y ∙ T-true (hasRoom x) t)))
+
+    module _ (room : countIn b < mostRecords) (t : hasRoom d ≡ true) where
+      more-fits : Fits (withDelegations (decode b) (decode b .delegations ++ (d ∷ [])))
+      more-fits = record {
+        most = h .fits .most;
+        marked = h .fits .marked;
+        marks = h .fits .marks;
+        few = omega (arith, room, fitting-count b h, length-more (decode b .delegations) d);
+        each = all-more DelegationFits (decode b .delegations) d (h .fits .each) (room-fits d (yes t));
+      }
+
+      pub delegation-put : (after : List ℕ) → after ≡ encode (withDelegations (decode b) (decode b .delegations ++ (d ∷ []))) → RowPut delegationColumns (decode b) row true after
+      delegation-put after e = record { put = λ u. held; out = λ u. clash u }
+        where
+          v : d ≡ delegationOf row
+          v = ap delegationOf (sym same)
+
+          held : Holds delegationColumns (withRow delegationColumns (decode b) row) (rowsOf delegationColumns (decode b) ++ (row ∷ [])) after
+          held = record {
+            fits = subst (λ (x : Delegation). Fits (withDelegations (decode b) (decode b .delegations ++ (x ∷ [])))) v more-fits;
+            bytes = e ∙ ap (λ (x : Delegation). encode (withDelegations (decode b) (decode b .delegations ++ (x ∷ [])))) v;
+            same = ap (λ (x : Delegation). map delegationRow (decode b .delegations ++ (x ∷ []))) (sym v) ∙ rows-more (decode b .delegations) d
+                ∙ ap (λ (r : List ℤ). map delegationRow (decode b .delegations) ++ (r ∷ [])) (sym same);
+          }
+
+-- ── a column of a row ──
+module _ (row : List ℤ) (a : AllAllowed false row) (i : ℕ) (l : i < length row) where
+  -- it is read as it stands
+  pub column-held : toZ w64 (ofZ w64 (getD row i (pos 0))) ≡ getD row i (pos 0)
+  column-held = kept (getD row i (pos 0)) (allowed-fits false (getD row i (pos 0)) (allowed-at false row i l a))
+
+  pub column-plain : Allowed false (toZ w64 (ofZ w64 (getD row i (pos 0))))
+  column-plain = subst (Allowed false) (sym column-held) (allowed-at false row i l a)

@@ -1,0 +1,2 @@
+pub mod FileText
+pub mod Parsed

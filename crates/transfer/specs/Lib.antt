@@ -1,0 +1,2 @@
+pub mod FileOn
+pub mod RoundTrip
