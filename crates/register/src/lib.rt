@@ -19,7 +19,8 @@ pub struct Answer {
     pub third: i32,
 }
 
-fn refused(number: u32) -> Answer
+// What a refused call returns.
+pub fn refused(number: u32) -> Answer
     ensures { λ r. ⌜ r ≡ refusedBy number ⌝ }
 {
     Answer {
@@ -30,7 +31,8 @@ fn refused(number: u32) -> Answer
     }
 }
 
-fn answered(first: i32, second: i32, third: i32) -> Answer
+// What an accepted call returns.
+pub fn answered(first: i32, second: i32, third: i32) -> Answer
     ensures { λ r. ⌜ r ≡ answeredBy first second third ⌝ }
 {
     Answer {

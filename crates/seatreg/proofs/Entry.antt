@@ -2,24 +2,29 @@
 use mathlib.Core.Path.{_≡_, refl, sym, ap, subst, _∙_}
 use mathlib.Core.Logic.{_≢_}
 use mathlib.Core.Bool.{Bool, cond}
-use mathlib.Core.List.{List}
+use mathlib.Core.List.{List, _++_}
 use Prim.Native.Nat.{ℕ}
 use native.Mathlib.Omega.{arith}
 use borrow.Author.Tests.{eq-eqb, ne-eqb}
-use lib.ListN.{length}
-use lib.IntN.{ℤ}
+use lib.Dec.{eqb}
+use lib.ListN.{length, drop}
+use lib.IntN.{ℤ, pos}
 use Rattle.rules.specs.Register.{Register}
 use Rattle.rules.specs.Cut.{changed}
 use Rattle.rules.specs.Call.{Call}
 use Rattle.rules.specs.History.{CutRight}
 use Rattle.block.specs.Block.{decode}
 use Rattle.steptable.specs.declared.Given.{Given}
+use Rattle.regfile.specs.FileText.{fileText}
 use Rattle.register.specs.CallOn.{Result, callOn, openOn}
-use Rattle.register.specs.Made.{result, Made, MadeOpen}
+use Rattle.register.specs.Made.{answeredBy, result, Made, MadeOpen}
 use Rattle.register.specs.Cuts.{onRegister, CutMade}
 use Rattle.register.specs.declared.Answer.{Answer}
+use Rattle.transfer.specs.FileOn.{writeRefusal, WriteMade, ReadMade}
+use Rattle.transfer.specs.RoundTrip.{reading}
+use Rattle.transfer.specs.declared.Filled.{Filled}
 use Rattle.seatreg.specs.Answers.{answerBytes}
-use Rattle.seatreg.specs.Entry.{handedOut, wrongAnswers, entryOf, entryOn, entryOpen, EntryMade, EntryOpened, EntryCutRight, EntryCutMade, AnswersPut}
+use Rattle.seatreg.specs.Entry.{handedOut, wrongAnswers, entryOf, entryOn, entryOpen, EntryMade, EntryOpened, EntryReadMade, EntryWriteMade, EntryCutRight, EntryCutMade, AnswersPut}
 
 -- ── what is handed out ──
 module _ (o : Answer) (a : List ℕ) where
@@ -85,3 +90,31 @@ module _ (b a : List ℕ) where
   pub open-made : length a ≡ 12 → (o : Answer) (b' : List ℕ) → MadeOpen b o b' → (n : ℕ) (a' : List ℕ) → AnswersPut o a n a' → EntryOpened b a n b' a'
   unfolding entryOpen
   open-made l o b' e n a' h = made-of (openOn b) b a l o b' e n a' h
+
+-- ── of a read and a write ──
+module _ (text table b a : List ℕ) where
+  pub read-short : length a ≢ 12 → EntryReadMade text table b a 1 b a
+  read-short n = short-of (reading text table b) b a n
+
+  pub read-made : length a ≡ 12 → (o : Answer) (b' : List ℕ) → ReadMade text table b o b' → (n : ℕ) (a' : List ℕ) → AnswersPut o a n a' → EntryReadMade text table b a n b' a'
+  read-made l o b' e n a' h = made-of (reading text table b) b a l o b' e n a' h
+
+module _ (b t a : List ℕ) where
+  pub write-short : length a ≢ 12 → EntryWriteMade b t a 1 t a
+  write-short n = record { refusal = rw (ne-eqb (length a) 12 n); refused = λ _. (refl, refl); text = λ z. absurd (omega arith) }
+
+  module _ (l : length a ≡ 12) (o : Filled) (t' : List ℕ) (made : WriteMade b t o t') where
+    number : o .refusal ≡ cond (eqb (length a) 12) (writeRefusal b t) 1
+    number = made .refusal ∙ rw (eq-eqb (length a) 12 l)
+
+    pub write-refused : o .refusal ≢ 0 → EntryWriteMade b t a (o .refusal) t' a
+    write-refused k = record { refusal = number; refused = λ _. (made .refused k .1, refl); text = λ z. absurd (k z) }
+
+    pub write-made : o .refusal ≡ 0 → (n : ℕ) (a' : List ℕ) → AnswersPut (answeredBy (pos (o .length)) (pos 0) (pos 0)) a n a' → EntryWriteMade b t a n t' a'
+    write-made z n a' h =
+        let (m, e) = made .text z in
+        record {
+          refusal = h .0 ∙ sym z ∙ number;
+          refused = λ k. absurd (k (h .0));
+          text = λ _. (e ∙ ap (λ (k : ℕ). fileText (decode b) ++ drop k t) m, h .1 ∙ ap (λ (k : ℕ). answerBytes (pos k) (pos 0) (pos 0)) m);
+        }

@@ -1,36 +1,44 @@
 -- Demand 1 for the entry points follows from that of the calls on bytes. Assumes nothing.
-use mathlib.Core.Path.{_≡_, refl, sym, subst, _∙_}
-use mathlib.Core.Logic.{_≢_}
+use mathlib.Core.Path.{_≡_, refl, sym, ap, subst, _∙_}
+use mathlib.Core.Logic.{_≢_, _⊎_, inl, inr}
 use mathlib.Core.Bool.{Bool, true, false, cond}
 use mathlib.Core.List.{List}
-use Prim.Native.Nat.{ℕ, zero, suc, _<_}
+use Prim.Native.Nat.{ℕ, zero, suc, _≤_, _<_}
 use native.Mathlib.Omega.{arith}
 use borrow.Author.Tests.{eq-eqb}
 use lib.Dec.{T, eqb, eqb→eq}
-use lib.ListN.{length}
+use lib.ListN.{length, drop, length-append, length-drop}
+use lib.Seq.{drop-at}
 use lib.IntN.{ℤ, pos, negsuc}
-use Rattle.rules.specs.Limit.{_≼_, fromNone}
+use Rattle.rules.specs.Limit.{code, _≼_, fromNone}
 use Rattle.rules.specs.Table.{TableRule}
 use Rattle.rules.specs.Call.{Call, enrol, grant, revoke, downgrade, askReach, askUse, fresh}
 use Rattle.rules.specs.Ranges.{FromTo, Unused, CutInRange, InRange}
 use Rattle.rules.proofs.Table.{steps-rule}
 use Rattle.rules.proofs.Calls.{fresh-formed}
+use Rattle.rules.proofs.Lists.{eqOr}
 use Rattle.block.specs.Layout.{blockSize}
 use Rattle.block.specs.Bytes.{IsBytes}
-use Rattle.block.specs.Block.{encode}
+use Rattle.block.specs.Block.{decode, encode}
 use Rattle.block.specs.WellFormed.{wellFormed}
 use Rattle.block.proofs.Encode.{bytes-encode}
+use Rattle.block.proofs.Held.{held-formed}
 use Rattle.steptable.specs.TableText.{ours, given}
 use Rattle.steptable.specs.declared.Given.{Given}
 use Rattle.steptable.proofs.Right.{given-keeps}
+use Rattle.regfile.specs.FileText.{fileText}
+use Rattle.regfile.proofs.Sizes.{file-some, file-short}
 use Rattle.register.specs.CallOn.{Result, turned, callOn, openOn}
+use Rattle.transfer.specs.FileOn.{writeRefusal}
 use Rattle.transfer.specs.RoundTrip.{reading}
+use Rattle.transfer.proofs.Writing.{write-through}
+use Rattle.demands.specs.History.{reads}
+use Rattle.demands.specs.Kept.{mostWritten}
 use Rattle.demands.proofs.Keeping.{kept, kept-open, kept-read}
 use Rattle.demands.proofs.History.{bytes-left}
-use Rattle.demands.specs.History.{reads}
-use Rattle.seatreg.specs.Answers.{answerBytes, answerIn}
-use Rattle.seatreg.specs.Entry.{wrongAnswers, entryOf, entryOn, entryOpen}
-use Rattle.seatreg.specs.Kept.{BuffersKept, AllUnused, EntryKept, EntryKeptOpen, EntryKeptRead}
+use Rattle.seatreg.specs.Answers.{answersSize, answerBytes, answerIn}
+use Rattle.seatreg.specs.Entry.{wrongAnswers, entryOf, entryOn, entryOpen, EntryWriteMade}
+use Rattle.seatreg.specs.Kept.{BuffersKept, AllUnused, EntryKept, EntryKeptOpen, EntryKeptRead, EntryKeptWrite}
 use Rattle.seatreg.proofs.AnswerBytes.{Fits32, length-answers, bytes-answers, first-back, second-back, third-back}
 
 -- ── answers in range have 32 bits ──
@@ -176,3 +184,49 @@ entry-kept-read text table b a found lent =
       fits = λ e. unused-fit (r .first) (r .second) (r .third) (k .range e);
       bytes = bytes-left b (reads text table) found;
     }
+
+-- ── write ──
+module _ (b t a : List ℕ) (n : ℕ) (t' a' : List ℕ) (found : IsBytes b) (made : EntryWriteMade b t a n t' a') where
+  abbrev size : ℕ
+  size = length (fileText (decode b))
+
+  -- how many bytes an accepted write writes
+  written : n ≡ 0 → (1 ≤ size) × (size ≤ mostWritten) × (size ≤ length t)
+  written z =
+      let w = write-through b t (go (eqb (length a) answersSize) (sym (made .refusal) ∙ z)) in
+      let some = file-some (decode b) in
+      let most = file-short (decode b) (held-formed b found (w .formed)) in
+      (some, most, omega (arith, w .room))
+    where
+      go : (x : Bool) → cond x (writeRefusal b t) 1 ≡ 0 → writeRefusal b t ≡ 0
+      go true e = e
+      go false e = absurd (omega arith)
+
+  bytes-back : n ≡ 0 → (answerIn a' 0 ≡ pos size) × (answerIn a' 1 ≡ pos 0) × (answerIn a' 2 ≡ pos 0)
+  bytes-back z =
+      let e = made .text z .1 in
+      let h : size ≤ mostWritten = written z .1 in (
+        ap (λ (s : List ℕ). answerIn s 0) e ∙ first-back (pos size) (pos 0) (pos 0) (omega arith),
+        ap (λ (s : List ℕ). answerIn s 1) e ∙ second-back (pos size) (pos 0) (pos 0) (omega arith),
+        ap (λ (s : List ℕ). answerIn s 2) e ∙ third-back (pos size) (pos 0) (pos 0) (omega arith),
+      )
+
+  pub entry-kept-write : EntryKeptWrite t a n t' a'
+  entry-kept-write = record {
+    refused = made .refused;
+    size = λ z. ap length (made .text z .1) ∙ length-answers (pos size) (pos 0) (pos 0);
+    answers = λ z. let (x, y, w) = bytes-back z in made .text z .1 ∙ sym (λ i. answerBytes (x i) (y i) (w i));
+    range = λ z. let (x, y, w) = bytes-back z in ((size, x, written z .0, written z .1), y, w);
+    within = within (eqOr n 0);
+    rest = λ z k e.
+        let q : k ≡ size = pos-same (sym e ∙ bytes-back z .0) in
+        let l : size ≤ length t = written z .2 in
+        (omega arith, ap (λ (j : ℕ). drop j t') q ∙ ap (drop size) (made .text z .0) ∙ drop-at (fileText (decode b)) (drop size t) size refl ∙ ap (λ (j : ℕ). drop j t) (sym q));
+  }
+    where
+      pos-same : {j k : ℕ} → pos j ≡ pos k → j ≡ k
+      pos-same e = let c = ap code e in omega arith
+
+      within : (n ≡ 0) ⊎ (n ≢ 0) → length t' ≡ length t
+      within (inl z) = ap length (made .text z .0) ∙ length-append (fileText (decode b)) (drop size t) ∙ omega (arith, length-drop size t, written z .2)
+      within (inr k) = ap length (made .refused k .0)

@@ -1,10 +1,10 @@
-// The C entry points of the register: the calls on plain numbers, a lent block and twelve lent bytes for the answers, both of any length and content; those that reckon reach also with the text of a step table.
+// The C entry points of the register: the calls on plain numbers, a lent block and twelve lent bytes for the answers, both of any length and content; those that reckon reach also with the text of a step table; the register as a file, out and in.
 mod answers;
 
 ghost use Rattle.rules.specs.Register.{granted};
 ghost use Rattle.rules.specs.Call.{enrol, grant, revoke, downgrade, askReach, askUse};
 ghost use Rattle.steptable.specs.TableText.{ours, given};
-ghost use Rattle.seatreg.specs.Entry.{EntryMade, EntryOpened, EntryCutMade};
+ghost use Rattle.seatreg.specs.Entry.{EntryMade, EntryOpened, EntryCutMade, EntryReadMade, EntryWriteMade};
 use rules::refusal;
 
 // Writes a fresh register: one subject, no delegation.
@@ -187,5 +187,38 @@ pub extern "C" fn seatreg_downgrade_table(
         return refusal::WRONG_LENGTH;
     }
     let o = register::downgrade_table(block, by, giver, receiver, weight, table);
+    answers::hand_out(o, answers)
+}
+
+// Writes the register as text into a lent buffer; answers how many bytes.
+#[no_mangle]
+pub extern "C" fn seatreg_write(block: &[u8], text: &mut [u8], answers: &mut [u8]) -> u32
+    ensures { λ r. ⌜ EntryWriteMade (now (block .entry)) (now (text .entry)) (now (answers .entry)) r (now (text .exit)) (now (answers .exit)) ⌝ }
+{
+    if answers.len() != answers::ANSWERS_SIZE {
+        return refusal::WRONG_LENGTH;
+    }
+    let o = transfer::write_file(block, text);
+    if o.refusal != 0 {
+        return o.refusal;
+    }
+    let length = o.length as i32;
+    answers::hand_out(register::answered(length, 0, 0), answers)
+}
+
+// Reads the register of a text into a block of any content, by the step table of a text, ours where it is empty.
+#[no_mangle]
+pub extern "C" fn seatreg_read(
+    block: &mut [u8],
+    text: &[u8],
+    table: &[u8],
+    answers: &mut [u8],
+) -> u32
+    ensures { λ r. ⌜ EntryReadMade (now (text .entry)) (now (table .entry)) (now (block .entry)) (now (answers .entry)) r (now (block .exit)) (now (answers .exit)) ⌝ }
+{
+    if answers.len() != answers::ANSWERS_SIZE {
+        return refusal::WRONG_LENGTH;
+    }
+    let o = transfer::read_file(block, text, table);
     answers::hand_out(o, answers)
 }

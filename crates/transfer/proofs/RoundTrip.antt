@@ -98,7 +98,7 @@ module _ (R : Register) (f : WellFormed R) (table before : List ℕ) (long : len
   written-number : reading (fileText R) table before .refusal ≡ cond heavy 18 0
   written-number = ap (λ (r : Result). r .refusal) as-passing ∙ read-same (given table) (passingFile R) before ∙ passing-number
 
-  light : Held → cond heavy 18 0 ≡ 0
+  light : Held → _≡_ {A = ℕ} (cond heavy 18 0) 0
   light s = ap (λ (x : Bool). cond x 18 0) (tooHeavy-right (given table .steps) (given-keeps table) R .1 s)
 
   pub written-read : Held → reading (fileText R) table before .refusal ≡ 0

@@ -1,0 +1,15 @@
+-- `transfer::front` hands back the front of the buffer that was filled. Assumes nothing.
+use borrow.Author.Needs.{needs}
+use mathlib.Core.Path.{sym}
+use lib.Seq.{length-take-le}
+use Rattle.transfer.proofs.front.Statement.{statement}
+use Rattle.transfer.proofs.front.Tie as tie
+
+slice-aggregate-result : tie.Need-slice-aggregate-result
+slice-aggregate-result c = sym (length-take-le _ _ (c .before .pre))
+
+returns : tie.Need-returns
+returns c = search needs
+
+pub front-spec : {M : Type 1} → statement M
+front-spec = tie.close (tie.spec slice-aggregate-result returns)
