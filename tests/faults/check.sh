@@ -84,10 +84,7 @@ past='    if written.refusal == 0 && LINK_SIZE * written.links < buf.len() {
 by_text='    write_chain_by(block, &g.steps, g.refusal, giver, receiver, buf)'
 by_ours='    write_chain(block, giver, receiver, buf)'
 text='    if text.len() == 0 {'
-file_end='    let end = filled.length;'
-file_after='    if filled.refusal == 0 && end < buf.len() {
-        buf[end] = 0;
-    }'
+file_end='    let end = written.length;'
 sized='    if !is_sized(calls.len(), blocks.len(), refusals.len(), answers.len()) {'
 first='        if blocks.len() > 0 {
             blocks[0] = 0;
@@ -100,6 +97,6 @@ step "a refused chain spoils a byte" found "$end" "$end"$'\n'"$front" '0 0 =' '1
 step "chain_table spoils the byte after its part" found "$tabled" "$tabled"$'\n'"$past" '1 1 =' '0 1 ='
 step "chain_table goes by our table" found "$by_text" "$by_ours" '16 0 0 0 =' '0 0 0 0 ='
 step "a table's text is left out" found "$text" '    if text.len() + 1 > 0 {' '7 0 0 =' '8 0 0 ='
-step "file spoils the byte after its part" found "$file_end" "$file_end"$'\n'"$file_after" '1 1 50:' '0 1 50:'
+step "file spoils the byte after its part" found "$file_end" "$file_end"$'\n'"$after" '1 1 50:' '0 1 50:'
 step "a refused list spoils a byte" found "$sized" "$sized"$'\n'"$first" '=' '2180:'
 step "a list does not copy its blocks" found '    copy_slot(blocks, i);' '' '0 1 0 0 2180:' '8 0 0 0 '
