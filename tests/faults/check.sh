@@ -13,15 +13,17 @@ part="faults"
 . "$root/tests/step.sh"
 
 # A copy of the sources, whose program runs one file of chain calls, one of
-# lists and one of calls that are lent tables.
+# lists, one of calls that are lent tables and one of register files.
 copy() {
-    local crate="$out/copy/crates/cases" from="$root/target/second/cases"
+    local crate="$out/copy/crates/cases" from="$root/target/second/cases" file
     rm -rf "$out/copy" && mkdir -p "$crate/data" &&
         cp "$root/crates.txt" "$out/copy/" &&
-        (cd "$root/crates" && cp -r --parents */src "$out/copy/crates/") &&
-        cp "$from/chain-00.cases" "$from/list-00.lists" "$from/table-00.cases" "$crate/data/" &&
-        printf '%s\n' chain-00.cases list-00.lists table-00.cases >"$crate/args" &&
-        cat "$from/chain-00.expected" "$from/list-00.expected" "$from/table-00.expected" >"$crate/stdout"
+        (cd "$root/crates" && cp -r --parents */src "$out/copy/crates/") || return 1
+    for file in chain-00.cases list-00.lists table-00.cases file-00.cases; do
+        cp "$from/$file" "$crate/data/" &&
+            echo "$file" >>"$crate/args" &&
+            cat "$from/${file%.*}.expected" >>"$crate/stdout" || return 1
+    done
 }
 
 # edit OLD NEW: puts a text in the place of a line that the copy has once.
@@ -82,6 +84,7 @@ past='    if written.refusal == 0 && LINK_SIZE * written.links < buf.len() {
 by_text='    write_chain_by(block, &g.steps, g.refusal, giver, receiver, buf)'
 by_ours='    write_chain(block, giver, receiver, buf)'
 text='    if text.len() == 0 {'
+file_end='    let end = written.length;'
 sized='    if !is_sized(calls.len(), blocks.len(), refusals.len(), answers.len()) {'
 first='        if blocks.len() > 0 {
             blocks[0] = 0;
@@ -94,5 +97,6 @@ step "a refused chain spoils a byte" found "$end" "$end"$'\n'"$front" '0 0 =' '1
 step "chain_table spoils the byte after its part" found "$tabled" "$tabled"$'\n'"$past" '1 1 =' '0 1 ='
 step "chain_table goes by our table" found "$by_text" "$by_ours" '16 0 0 0 =' '0 0 0 0 ='
 step "a table's text is left out" found "$text" '    if text.len() + 1 > 0 {' '7 0 0 =' '8 0 0 ='
+step "file spoils the byte after its part" found "$file_end" "$file_end"$'\n'"$after" '1 1 50:' '0 1 50:'
 step "a refused list spoils a byte" found "$sized" "$sized"$'\n'"$first" '=' '2180:'
 step "a list does not copy its blocks" found '    copy_slot(blocks, i);' '' '0 1 0 0 2180:' '8 0 0 0 '

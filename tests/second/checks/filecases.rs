@@ -222,6 +222,11 @@ fn unformed_before(on: &Bytes) -> u32 {
     if formed_fronts(&on.file).any(unformed) { 8 } else { 7 }
 }
 
+/// The last refusal that applies.
+fn last_applying(on: &Bytes) -> u32 {
+    applying_to_read(&FAST, &on.block, &on.file, &on.table).last().copied().unwrap_or(0)
+}
+
 /// What a refused read leaves where it was the register that was refused.
 fn left_half(on: &Bytes) -> Left {
     let left = right(&on.block, &on.file, &on.table);
@@ -270,20 +275,24 @@ const WRONG_READERS: [Wrong; 29] = [
     ("no subjects are the owner alone", |on| {
         on_rows(on, |rows| if rows.subjects.is_empty() { rows.subjects.push([0, 0]) })
     }),
-    ("the owner's marks are left out", |on| on_rows(on, |rows| rows.subjects.iter_mut().take(1).for_each(|row| row[1] = 0))),
+    ("the owner's marks are left out", |on| {
+        on_rows(on, |rows| rows.subjects.iter_mut().take(1).for_each(|row| row[1] = 0))
+    }),
     ("marks keep 16 bits", |on| on_rows(on, |rows| rows.subjects.iter_mut().for_each(|row| row[1] &= 0xFFFF))),
     ("numbers of subjects keep 8 bits", |on| {
-        on_rows(on, |rows| rows.delegations.iter_mut().for_each(|row| [row[0], row[1]] = [row[0] & 0xFF, row[1] & 0xFF]))
+        on_rows(on, |rows| rows.delegations.iter_mut().for_each(|row| row[..2].iter_mut().for_each(|n| *n &= 0xFF)))
     }),
     ("weights keep 8 bits", |on| on_rows(on, |rows| rows.delegations.iter_mut().for_each(|row| row[2] &= 0xFF))),
     ("need and bar keep 16 bits", |on| {
-        on_rows(on, |rows| rows.delegations.iter_mut().for_each(|row| [row[3], row[4]] = [row[3] & 0xFFFF, row[4] & 0xFFFF]))
+        on_rows(on, |rows| rows.delegations.iter_mut().for_each(|row| row[3..].iter_mut().for_each(|n| *n &= 0xFFFF)))
     }),
-    ("a shared mark is taken from bar", |on| on_rows(on, |rows| rows.delegations.iter_mut().for_each(|row| row[4] &= !row[3]))),
+    ("a shared mark is taken from bar", |on| {
+        on_rows(on, |rows| rows.delegations.iter_mut().for_each(|row| row[4] &= !row[3]))
+    }),
     ("7 in the place of 8", |on| instead(on, 8, |_| 7)),
     ("8 before a later malformed line", |on| instead(on, 7, unformed_before)),
     ("17 before 7", |on| instead(on, 7, |on| if Table::read(&on.table) == Err(17) { 17 } else { 7 })),
-    ("8 before 17", |on| instead(on, 17, |on| *applying_to_read(&FAST, &on.block, &on.file, &on.table).last().unwrap_or(&17))),
+    ("8 before 17", |on| instead(on, 17, last_applying)),
     ("8 for what the block held", |on| {
         let spoiled = on.block.len() == BLOCK_LEN && !well_formed(&on.block);
         if spoiled { (8, on.block.clone()) } else { right(&on.block, &on.file, &on.table) }

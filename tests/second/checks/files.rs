@@ -102,7 +102,8 @@ fn read_back(engine: &Engine, draw: Draw) -> Result<[u32; 2], String> {
     let mut random = Random::new(0xBAC4);
     let mut found = [0; 2];
     for _ in 0..3000 {
-        let register = if random.chance(70) { small(&mut random) } else { unsupported::random_unsupported(&mut random) };
+        let any = random.chance(70);
+        let register = if any { small(&mut random) } else { unsupported::random_unsupported(&mut random) };
         let table = draw(&mut random);
         let supported = is_supported(&table, &register);
         let due = if supported { Ok(register.clone()) } else { Err(18) };
@@ -191,9 +192,10 @@ fn due(text: &[u8]) -> Result<Register, u32> {
     let rows = loosely(text).filter(|rows| rows.text() == text).ok_or(7u32)?;
     let (subjects, delegations) = (&rows.subjects, &rows.delegations);
     let enrolled = |subject: u32| (subject as usize) < subjects.len();
-    let right = |(place, row): (usize, &[u32; 2])| row[0] as usize == place && row[1] <= if place == 0 { 0 } else { 65_535 };
+    let most_marks = |place: usize| if place == 0 { 0 } else { 65_535 };
+    let right = |(place, row): (usize, &[u32; 2])| row[0] as usize == place && row[1] <= most_marks(place);
     let apart = |&[giver, receiver, ..]: &[u32; 5]| giver != receiver && receiver != 0;
-    let fits = |&[_, _, weight, need, bar]: &[u32; 5]| weight <= 255 && need <= 65_535 && bar <= 65_535 && need & bar == 0;
+    let fits = |&[_, _, weight, need, bar]: &[u32; 5]| weight <= 255 && need.max(bar) <= 65_535 && need & bar == 0;
     let well_formed = (1..=64).contains(&subjects.len())
         && delegations.len() <= 256
         && subjects.iter().enumerate().all(right)
@@ -203,7 +205,8 @@ fn due(text: &[u8]) -> Result<Register, u32> {
         return Err(8);
     }
     let delegation = |&[giver, receiver, weight, need, bar]: &[u32; 5]| {
-        Delegation { giver: giver as u8, receiver: receiver as u8, weight: weight as u8, need: need as u16, bar: bar as u16 }
+        let [giver, receiver, weight] = [giver, receiver, weight].map(|number| number as u8);
+        Delegation { giver, receiver, weight, need: need as u16, bar: bar as u16 }
     };
     let marks = subjects.iter().map(|row| row[1] as u16).collect();
     Ok(Register { marks, delegations: delegations.iter().map(delegation).collect() })
@@ -244,7 +247,8 @@ fn every_other_form_is_refused_with_7() {
 fn fronts_of_a_file_are_refused() {
     let read: Vec<usize> = (0..=EXAMPLE.len()).filter(|&length| refusal(&EXAMPLE[..length]) == 0).collect();
     assert_eq!(read, [58, 68, 78]);
-    assert!((0..EXAMPLE.len()).all(|length| read.contains(&length) || malformed().contains(&EXAMPLE[..length].to_vec())));
+    let malformed = malformed();
+    assert!((0..EXAMPLE.len()).all(|length| read.contains(&length) || malformed.contains(&EXAMPLE[..length].to_vec())));
 }
 
 #[test]
@@ -322,7 +326,8 @@ fn an_accepted_text_is_what_its_block_writes() {
 #[test]
 fn any_text_is_answered() {
     let mut random = Random::new(0xA12);
-    let tables = [Vec::new(), texts::by_two().text(), texts::refused_at_the_end()[0].clone(), texts::broken()[0].bytes.clone()];
+    let [malformed, broken] = texts::refused_at_the_end();
+    let tables = [Vec::new(), texts::by_two().text(), malformed, broken];
     for _ in 0..6000 {
         let mut text = file_text(&small(&mut random));
         (0..random.below(4)).for_each(|_| text = changed(&mut random, &text));

@@ -51,7 +51,8 @@ const OTHER_SECOND: [&[u8]; 9] = [
 
 /// After the whole file.
 const AFTER: [&[u8]; 12] = [
-    b" ", b"\0", b"a", b"\xff", b"\r", b"\n", b"\n\n", b"0", b"2 1\n", SUBJECT_NAMES, DELEGATION_NAMES, b"\n0 2 0 0 0\n",
+    b" ", b"\0", b"a", b"\xff", b"\r", b"\n", b"\n\n", b"0", b"2 1\n", SUBJECT_NAMES, DELEGATION_NAMES,
+    b"\n0 2 0 0 0\n",
 ];
 
 /// Whole texts.
