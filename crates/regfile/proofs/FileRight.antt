@@ -49,7 +49,7 @@ module _ (w : ℕ) where
   rows-test [] h = tt
   rows-test (r ∷ rs) h = T-both (eqb (length r) w && allPlain r) (areRows w rs) (T-both (eqb (length r) w) (allPlain r) (eq→eqb (h .0)) (all-test r (h .1))) (rows-test rs (h .2))
 
-  test-rows : (rs : List (List ℤ)) → T (areRows w rs) → AreRows w rs
+  pub test-rows : (rs : List (List ℤ)) → T (areRows w rs) → AreRows w rs
   test-rows [] h = tt
   test-rows (r ∷ rs) h =
       let k = T-left (eqb (length r) w && allPlain r) (areRows w rs) h in
@@ -215,6 +215,21 @@ formed-lines R f = record {
   delegations = delegations-formed (R .subjects) (R .delegations) (f .most) (f .each);
   same = refl;
 }
+
+-- ── the lines of a text are determined ──
+pub lines-same : (text : List ℕ) (ss ds us es : List (List ℤ)) → FileLines text ss ds → FileLines text us es → (ss ≡ us) × (ds ≡ es)
+lines-same text ss ds us es h k =
+    let e : fileOf ss ds ≡ fileOf us es = sym (h .same) ∙ k .same in (
+      sym (subjects-of ss ds (h .subjects) (h .delegations)) ∙ ap subjectsOf e ∙ subjects-of us es (k .subjects) (k .delegations),
+      sym (delegations-of ss ds (h .subjects) (h .delegations)) ∙ ap delegationsOf e ∙ delegations-of us es (k .subjects) (k .delegations),
+    )
+
+-- those of a well-formed register whose text this is
+pub known-rows : (text : List ℕ) (ss ds : List (List ℤ)) → FileLines text ss ds → (R : Register) → WellFormed R → text ≡ fileText R → (ss ≡ rowsOf subjectColumns R) × (ds ≡ rowsOf delegationColumns R)
+known-rows text ss ds h R f e =
+    let us = rowsOf subjectColumns R in
+    let es = rowsOf delegationColumns R in
+    lines-same text ss ds us es h (subst (λ (s : List ℕ). FileLines s us es) (sym e) (formed-lines R f))
 
 -- ── what is read ──
 other : (text : List ℕ) (ss ds : List (List ℤ)) (formed : Bool) (R : Register) (b : Bool) → isFile text ss ds ≡ b → ((us es : List (List ℤ)) → FileLines text us es → ⊥) → judged b formed R ≡ refusedFile 7

@@ -4,3 +4,4 @@ pub mod Rowing
 pub mod Parsing
 pub mod Writing
 pub mod Sizes
+pub mod Examples

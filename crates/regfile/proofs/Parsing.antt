@@ -27,12 +27,12 @@ use Rattle.text.specs.Rows.{rows}
 use Rattle.regfile.specs.FileText.{subjectNames, delegationNames, subjectColumns, delegationColumns, subjectRows, delegationRow, rowsOf, fileOf, fileText, AreRows, FileLines, Filed, refusedFile, passingFile, valueAt, delegationOf, filed}
 use Rattle.regfile.specs.Parsed.{withRow, withRows, Holds, RowsLent, RowsRead, Parsed}
 use Rattle.regfile.specs.declared.Rows.{Rows}
-use Rattle.regfile.proofs.FileRight.{filed-right, formed-lines, subject-marks, delegation-rows}
+use Rattle.regfile.proofs.FileRight.{filed-right, known-rows, subject-marks, delegation-rows}
 
 -- ── lines one after another ──
 
 -- no line of w values begins here
-abbrev NoRow : ℕ → List ℕ → Type 0
+abbrev pub NoRow : ℕ → List ℕ → Type 0
 NoRow w s = (row : List ℤ) (rest : List ℕ) → length row ≡ w → AllAllowed false row → s ≢ line row ++ rest
 
 signed-too : (zs : List ℤ) → AllAllowed false zs → AllAllowed true zs
@@ -41,7 +41,7 @@ signed-too (pos n ∷ zs) h = (h .0, signed-too zs (h .1))
 signed-too (negsuc n ∷ zs) h = absurd (h .0)
 
 -- the lines at the front of a text, as many as there are, are determined
-lines-unique : (w : ℕ) (xs ys : List (List ℤ)) (s t : List ℕ) → AreRows w xs → AreRows w ys → NoRow w s → NoRow w t → concatMap line xs ++ s ≡ concatMap line ys ++ t → (xs ≡ ys) × (s ≡ t)
+pub lines-unique : (w : ℕ) (xs ys : List (List ℤ)) (s t : List ℕ) → AreRows w xs → AreRows w ys → NoRow w s → NoRow w t → concatMap line xs ++ s ≡ concatMap line ys ++ t → (xs ≡ ys) × (s ≡ t)
 lines-unique w [] [] s t a b m n e = (refl, e)
 lines-unique w [] (y ∷ ys) s t a b m n e = absurd (m y (concatMap line ys ++ t) (b .0) (b .1) (e ∙ append-assoc (line y) (concatMap line ys) t))
 lines-unique w (x ∷ xs) [] s t a b m n e = absurd (n x (concatMap line xs ++ s) (a .0) (a .1) (sym e ∙ append-assoc (line x) (concatMap line xs) s))
@@ -52,16 +52,16 @@ lines-unique w (x ∷ xs) (y ∷ ys) s t a b m n e =
     (λ i. q .0 i ∷ r .0 i, r .1)
 
 -- an empty line is no row, nor is the end of the text
-empty-apart : (w : ℕ) (s : List ℕ) → NoRow (suc w) (10 ∷ s)
+pub empty-apart : (w : ℕ) (s : List ℕ) → NoRow (suc w) (10 ∷ s)
 empty-apart w s row rest l a e =
     let some : row ≢ [] = λ z. absurd (omega (arith, l, ap length z)) in
     let q : _≡_ {A = List (List ℤ)} ([] ∷ rows s) (row ∷ rows rest) = sym (rows-empty s) ∙ ap rows e ∙ rows-line row rest some in
     some (ap (λ (x : List (List ℤ)). getD x 0 []) (sym q))
 
-end-apart : (w : ℕ) → NoRow (suc w) []
+pub end-apart : (w : ℕ) → NoRow (suc w) []
 end-apart w row rest l a e = absurd (omega (arith, ap length e, length-append (line row) rest, line-long row, l))
 
-names-apart : (w : ℕ) (s : List ℕ) → NoRow (suc w) (delegationNames ++ s)
+pub names-apart : (w : ℕ) (s : List ℕ) → NoRow (suc w) (delegationNames ++ s)
 unfolding delegationNames
 names-apart w s = empty-apart w _
 
@@ -99,7 +99,7 @@ module _ (text : List ℕ) where
   no-names b after m e = other-form after (λ ss ds h. m .no e (concatMap line ss ++ (delegationNames ++ concatMap line ds)) (h .same))
 
   -- where the rows of subjects begin
-  names-after : (s : List ℕ) → text ≡ subjectNames ++ s → drop 14 text ≡ s
+  pub names-after : (s : List ℕ) → text ≡ subjectNames ++ s → drop 14 text ≡ s
   unfolding subjectNames
   names-after s e = ap (drop 14) e
 
@@ -171,9 +171,7 @@ module _ (text : List ℕ) where
 
         -- the rows of a well-formed register whose text this is
         known : (R : Register) → WellFormed R → text ≡ fileText R → (m₁ .rows ≡ rowsOf subjectColumns R) × (m₂ .rows ≡ rowsOf delegationColumns R)
-        known R f e =
-            let h = subst (λ (s : List ℕ). FileLines s (rowsOf subjectColumns R) (rowsOf delegationColumns R)) (sym e) (formed-lines R f) in
-            (subjects-known (rowsOf subjectColumns R) (rowsOf delegationColumns R) h .0, delegations-known (rowsOf subjectColumns R) (rowsOf delegationColumns R) h .0)
+        known = known-rows text (m₁ .rows) (m₂ .rows) lines
 
         not-formed : (after : List ℕ) → ((R : Register) → WellFormed R → text ≢ fileText R) → Parsed text 8 after
         not-formed after n = refused-text text 8 after (λ z. absurd (omega arith)) (filed-right .unformed text (m₁ .rows) (m₂ .rows) lines n)

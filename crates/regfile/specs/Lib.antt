@@ -1,2 +1,3 @@
 pub mod FileText
 pub mod Parsed
+pub mod Examples

@@ -1,2 +1,3 @@
 pub mod FileOn
 pub mod RoundTrip
+pub mod Examples
