@@ -1,12 +1,14 @@
--- What is not true of every list of calls: that each block is supported by the table that the call there is given. Assumes nothing.
-use mathlib.Core.Path.{_≡_, refl, ap, subst, _∙_}
-use mathlib.Core.List.{List, [], _∷_, _++_, map}
+-- What is not true of every list of calls: that each block is supported by the table that the call there is given, or by every table that no table given to the calls other than reads exceeds. Assumes nothing.
+use mathlib.Core.Path.{_≡_, refl, sym, ap, subst, _∙_}
+use mathlib.Core.Bool.{Bool, true, false}
+use mathlib.Core.List.{List, [], _∷_, _++_, map, List·Memᴰ·head, List·Memᴰ·tail, List·Memᴰ·not-nil}
 use Prim.Native.Nat.{ℕ}
 use lib.Dec.{T}
-use lib.ListN.{length}
-use Rattle.rules.specs.List.{At}
+use lib.ListN.{length, take}
+use lib.IntN.{ℤ}
+use Rattle.rules.specs.List.{_∈_, At}
 use Rattle.rules.specs.Limit.{fromNone}
-use Rattle.rules.specs.Table.{steps}
+use Rattle.rules.specs.Table.{TableRule, steps}
 use Rattle.rules.specs.Register.{Register}
 use Rattle.rules.specs.Support.{Supported}
 use Rattle.rules.specs.WellFormed.{WellFormed}
@@ -18,14 +20,17 @@ use Rattle.rules.specs.Examples.{two, twos, twos-given}
 use Rattle.rules.proofs.Answers.{twos-rule}
 use Rattle.rules.proofs.BadOutcomes.{not-supported-next}
 use Rattle.rules.proofs.Calls.{fresh-formed, callStep-formed}
+use Rattle.rules.proofs.Lists.{clash}
 use Rattle.rules.proofs.History.{demand3-steps}
 use Rattle.block.specs.Block.{decode, encode}
-use Rattle.block.proofs.Encode.{decode-encode}
+use Rattle.block.proofs.Encode.{length-encode, decode-encode}
 use Rattle.steptable.specs.TableText.{tableText, AreNexts, passing, given}
 use Rattle.steptable.specs.declared.Given.{Given}
 use Rattle.steptable.proofs.Right.{given-right, test-entries}
+use Rattle.regfile.specs.FileText.{fileText}
 use Rattle.register.specs.CallOn.{Result}
-use Rattle.demands.specs.History.{Asked, asks, reckons, askedOn, bytesLeft, blockAt}
+use Rattle.transfer.proofs.RoundTrip.{written-left}
+use Rattle.demands.specs.History.{Asked, asks, reads, reckons, askedOn, bytesLeft, blockAt, GivenBelow}
 use Rattle.demands.proofs.ByteExamples.{asked-encode}
 
 abbrev SupportedByOwn : Type 0
@@ -64,3 +69,38 @@ pub not-supported-by-own : SupportedByOwn → ⊥
 not-supported-by-own claim =
     let s = claim mixed 8 (tableText twos) (revoke 0 0 4) refl tt (ap (λ (g : Given). g .refusal) twos-passes) in
     not-supported-next .1 (subst (Supported twos) mixed-register (subst (λ (g : Given). Supported (g .steps) (decode (blockAt mixed 8))) twos-passes s))
+
+-- ── a read, of whose table nothing is asked ──
+abbrev SupportedAfterReads : Type 0
+SupportedAfterReads = (qs : List Asked) (i : ℕ) (m : List ℤ) → TableRule m → ((text : List ℕ) (c : Call) → asks text c ∈ take i qs → GivenBelow (asks text c) m) → Supported m (decode (blockAt qs i))
+
+-- what our table granted is read by our table
+granted-register : Register
+granted-register = registerAt steps twos-given 8
+
+granted-formed : WellFormed granted-register
+unfolding granted-register
+granted-formed = demand3-steps .wellFormed twos-given 8
+
+read-once : List Asked
+read-once = reads (fileText granted-register) [] ∷ []
+
+read-left : decode (blockAt read-once 1) ≡ granted-register
+unfolding granted-register read-once
+read-left =
+    ap decode
+    (written-left granted-register granted-formed [] (encode fresh) (length-encode fresh fresh-formed) (ap (λ (g : Given). g .refusal) (given-right .empty))
+    (subst (λ (g : Given). Supported (g .steps) granted-register) (sym (given-right .empty)) (not-supported-next .0)))
+    ∙ decode-encode granted-register granted-formed
+
+is-read : Asked → Bool
+is-read (asks text c) = false
+is-read (reads text table) = true
+
+pub not-supported-after-reads : SupportedAfterReads → ⊥
+unfolding granted-register read-once is-read
+not-supported-after-reads claim = not-supported-next .1 (subst (Supported twos) read-left (claim read-once 1 twos twos-rule none))
+  where
+    none : (text : List ℕ) (c : Call) → asks text c ∈ take 1 read-once → GivenBelow (asks text c) twos
+    none text c (List·Memᴰ·head e) = clash (sym (ap is-read e))
+    none text c (List·Memᴰ·tail k) = absurd (List·Memᴰ·not-nil k)

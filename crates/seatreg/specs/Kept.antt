@@ -1,4 +1,4 @@
--- Demand 1 for the entry points (document 02, C-13 among them): refused, no lent byte changes; accepted, the block is well formed and the twelve bytes hold answers in range. Assumes nothing.
+-- Demand 1 for the entry points (document 01, 'Turned back by what was passed'; document 02, C-11 and C-13): refused, no lent byte changes; accepted, the block is well formed and the twelve bytes hold answers in range. Assumes nothing.
 use mathlib.Core.Path.{_≡_}
 use mathlib.Core.Logic.{_≢_}
 use mathlib.Core.Bool.{true}
