@@ -85,9 +85,8 @@ fn front<'a>(written: ChainAnswer, refusal: &mut u32, buf: &'a mut [u8]) -> &'a 
     requires { ⌜ linkSize * written .links ≤ length (now buf) ⌝ }
     ensures { λ r. ⌜ (now (refusal .exit) ≡ written .refusal) × (now r ≡ take (linkSize * written .links) (now (buf .entry))) × (ptr r ≡ ptr (buf .entry)) ⌝ }
 {
-    *refusal = written.refusal;
     let end = LINK_SIZE * written.links;
-    &mut buf[..end]
+    refusals::front(written.refusal, end, refusal, buf)
 }
 
 // The same two: tells the refusal, 0 when accepted, and hands back the filled front of `buf`, empty where refused.

@@ -5,8 +5,11 @@ mod passed;
 ghost use mathlib.Core.Path.{_≡_};
 ghost use mathlib.Core.Bool.{not};
 ghost use mathlib.Core.List.{List, [], _∷_, _++_};
+ghost use Prim.Native.Nat.{_≤_};
+ghost use denote.Ref.{ptr};
 ghost use lib.Dec.{eqb};
 ghost use lib.IntN.{ℤ};
+ghost use lib.ListN.{length, take};
 ghost use Rattle.rules.specs.Table.{TableRule};
 ghost use Rattle.rules.specs.Register.{granted};
 ghost use Rattle.rules.specs.Call.{enrol, grant, revoke, downgrade, askReach, askUse};
@@ -143,4 +146,13 @@ pub fn downgrade_refusal(
         return n;
     }
     held::downgrade_held(block, by, giver, receiver, weight)
+}
+
+// What a call that fills a lent buffer tells and hands back: its refusal, 0 when accepted, and the filled front of the buffer.
+pub fn front<'a>(number: u32, filled: usize, refusal: &mut u32, buf: &'a mut [u8]) -> &'a mut [u8]
+    requires { ⌜ filled ≤ length (now buf) ⌝ }
+    ensures { λ r. ⌜ (now (refusal .exit) ≡ number) × (now r ≡ take filled (now (buf .entry))) × (ptr r ≡ ptr (buf .entry)) ⌝ }
+{
+    *refusal = number;
+    &mut buf[..filled]
 }

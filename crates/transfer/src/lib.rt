@@ -1,8 +1,6 @@
 // The register as a file: written as text into a lent buffer, and read from text into a block of any content.
 ghost use mathlib.Core.Path.{_≡_};
-ghost use Prim.Native.Nat.{_≤_};
 ghost use denote.Ref.{ptr};
-ghost use lib.ListN.{length, take};
 ghost use Rattle.transfer.specs.FileOn.{unfilledBy, WriteMade, WriteFront, ReadMade};
 use block::layout;
 use register::Answer;
@@ -47,22 +45,13 @@ pub fn write_file(block: &[u8], buf: &mut [u8]) -> Filled
     }
 }
 
-// Tells the refusal of what was written, 0 when accepted, and hands back the filled front of `buf`.
-fn front<'a>(written: Filled, refusal: &mut u32, buf: &'a mut [u8]) -> &'a mut [u8]
-    requires { ⌜ written .length ≤ length (now buf) ⌝ }
-    ensures { λ r. ⌜ (now (refusal .exit) ≡ written .refusal) × (now r ≡ take (written .length) (now (buf .entry))) × (ptr r ≡ ptr (buf .entry)) ⌝ }
-{
-    *refusal = written.refusal;
-    let end = written.length;
-    &mut buf[..end]
-}
-
 // The same: tells the refusal, 0 when accepted, and hands back the filled front of `buf`, empty where refused.
 pub fn file<'a>(block: &[u8], refusal: &mut u32, buf: &'a mut [u8]) -> &'a mut [u8]
     ensures { λ r. ⌜ WriteFront (now (block .entry)) (now (buf .entry)) (now (refusal .exit)) (now r) × (ptr r ≡ ptr (buf .entry)) ⌝ }
 {
     let written = write_file(block, buf);
-    front(written, refusal, buf)
+    let end = written.length;
+    refusals::front(written.refusal, end, refusal, buf)
 }
 
 // Reads the register of a text into a block of any content, by the step table of a text, ours where it is empty. The block changes only at the end.

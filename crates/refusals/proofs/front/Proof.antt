@@ -1,9 +1,9 @@
--- `transfer::front` hands back the front of the buffer that was filled. Assumes nothing.
+-- `refusals::front` tells a refusal and hands back the front of a buffer. Assumes nothing.
 use borrow.Author.Needs.{needs}
 use mathlib.Core.Path.{sym}
 use lib.Seq.{length-take-le}
-use Rattle.transfer.proofs.front.Statement.{statement}
-use Rattle.transfer.proofs.front.Tie as tie
+use Rattle.refusals.proofs.front.Statement.{statement}
+use Rattle.refusals.proofs.front.Tie as tie
 
 slice-aggregate-result : tie.Need-slice-aggregate-result
 slice-aggregate-result c = sym (length-take-le _ _ (c .before .pre))
