@@ -1,5 +1,5 @@
--- The text of a fresh register and of an example of C-13 (document 02), and texts beside the example's: those that differ from every file in their form are refused with 7, those that hold
--- the lines of no well-formed register with 8. Assumes nothing.
+-- Examples of the register file (document 02, C-13): the text of a fresh register and of a register with three subjects, and texts beside the latter: those that differ from every file in their form
+-- are refused with 7, those that hold the lines of no well-formed register with 8. Assumes nothing.
 use mathlib.Core.Path.{_≡_}
 use mathlib.Core.List.{List, [], _∷_, _++_}
 use Prim.Native.Nat.{ℕ}

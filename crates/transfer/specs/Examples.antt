@@ -1,4 +1,4 @@
--- Reads of the example of C-13 (document 02) and of texts beside it, over a block of any content: what is returned and what is left. Assumes nothing.
+-- Reads of these examples (document 02, C-13), over a block of any content: what is returned and what is left. Assumes nothing.
 use mathlib.Core.Path.{_≡_}
 use mathlib.Core.List.{List, []}
 use Prim.Native.Nat.{ℕ}
