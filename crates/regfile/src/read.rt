@@ -2,12 +2,14 @@
 ghost use mathlib.Core.Path.{_≡_};
 ghost use mathlib.Core.Bool.{true, false};
 ghost use mathlib.Core.Logic.{_⊎_};
+ghost use mathlib.Core.List.{[], _∷_, _++_};
+ghost use Prim.Native.Nat.{_<_};
 ghost use lib.ListN.{length};
-ghost use Rattle.rules.specs.Register.{granted};
+ghost use Rattle.rules.specs.Register.{withDelegations, granted};
 ghost use Rattle.text.specs.Text.{AllAllowed};
-ghost use Rattle.block.specs.Layout.{blockSize};
-ghost use Rattle.block.specs.Block.{decode};
-ghost use Rattle.block.specs.Fits.{Fitting};
+ghost use Rattle.block.specs.Layout.{blockSize, mostRecords};
+ghost use Rattle.block.specs.Block.{countIn, decode, encode};
+ghost use Rattle.block.specs.Fits.{DelegationFits, Fitting};
 ghost use Rattle.regfile.specs.FileText.{subjectColumns, delegationColumns};
 ghost use Rattle.regfile.specs.Parsed.{hasRoom, RowPut, RowsLent, RowsRead, Parsed};
 use crate::DELEGATION_COLUMNS;
@@ -66,6 +68,21 @@ fn has_room(giver: u32, receiver: u32, weight: u32, need: u32, bar: u32) -> bool
     bar <= TWO_BYTES_MOST
 }
 
+// One more delegation, whose numbers have room.
+fn append(b: &mut [u8], giver: u32, receiver: u32, weight: u32, need: u32, bar: u32)
+    requires { ⌜ Fitting (now b) × (countIn (now b) < mostRecords) × DelegationFits (granted giver receiver weight need bar) ⌝ }
+    ensures { λ _. ⌜ now (b .exit) ≡ encode (withDelegations (decode (now (b .entry))) (decode (now (b .entry)) .delegations ++ (granted giver receiver weight need bar ∷ []))) ⌝ }
+{
+    change::append(
+        b,
+        giver as u8,
+        receiver as u8,
+        weight as u8,
+        need as u16,
+        bar as u16,
+    );
+}
+
 // One more delegation, where there is room.
 fn put_delegation(b: &mut [u8], row: &[i64]) -> bool
     requires { ⌜ Fitting (now b) × (length (now row) ≡ delegationColumns) × AllAllowed false (now row) ⌝ }
@@ -82,14 +99,7 @@ fn put_delegation(b: &mut [u8], row: &[i64]) -> bool
     if !has_room(giver, receiver, weight, need, bar) {
         return false;
     }
-    change::append(
-        b,
-        giver as u8,
-        receiver as u8,
-        weight as u8,
-        need as u16,
-        bar as u16,
-    );
+    append(b, giver, receiver, weight, need, bar);
     true
 }
 

@@ -72,38 +72,11 @@ returns-2 c =
     (u₄ .ensures ∙ held 4 (omega (arith, s .pre .1))) in
     delegation-large (s .args .b .now) (s .pre .0) row d same (sym (c .before .has-room .ensures) ∙ not-true _ (c .if2 .taken))
 
-cast-append : tie.Need-cast-append
-cast-append c =
-    let h = c .before .before .has-room in
-    let room = room-fits (granted (c .before .before .before .before .before .before .before .before .before .before .before .unsigned .result) (c .before .before .before .before .before .before .before .before .before .unsigned2 .result) (c .before .before .before .before .before .before .before .unsigned3 .result) (c .before .before .before .before .before .unsigned4 .result) (c .before .before .before .unsigned5 .result)) (yes (sym (h .ensures) ∙ not-false _ (c .before .if2 .left))) in
-    record { fits = omega (arith, room .giver) }
-
-cast-append-2 : tie.Need-cast-append-2
-cast-append-2 c =
-    let h = c .before .before .has-room in
-    let room = room-fits (granted (c .before .before .before .before .before .before .before .before .before .before .before .unsigned .result) (c .before .before .before .before .before .before .before .before .before .unsigned2 .result) (c .before .before .before .before .before .before .before .unsigned3 .result) (c .before .before .before .before .before .unsigned4 .result) (c .before .before .before .unsigned5 .result)) (yes (sym (h .ensures) ∙ not-false _ (c .before .if2 .left))) in
-    record { fits = omega (arith, room .receiver) }
-
-cast-append-3 : tie.Need-cast-append-3
-cast-append-3 c =
-    let h = c .before .before .has-room in
-    let room = room-fits (granted (c .before .before .before .before .before .before .before .before .before .before .before .unsigned .result) (c .before .before .before .before .before .before .before .before .before .unsigned2 .result) (c .before .before .before .before .before .before .before .unsigned3 .result) (c .before .before .before .before .before .unsigned4 .result) (c .before .before .before .unsigned5 .result)) (yes (sym (h .ensures) ∙ not-false _ (c .before .if2 .left))) in
-    record { fits = omega (arith, room .weight) }
-
-cast-append-4 : tie.Need-cast-append-4
-cast-append-4 c =
-    let h = c .before .before .has-room in
-    let room = room-fits (granted (c .before .before .before .before .before .before .before .before .before .before .before .unsigned .result) (c .before .before .before .before .before .before .before .before .before .unsigned2 .result) (c .before .before .before .before .before .before .before .unsigned3 .result) (c .before .before .before .before .before .unsigned4 .result) (c .before .before .before .unsigned5 .result)) (yes (sym (h .ensures) ∙ not-false _ (c .before .if2 .left))) in
-    record { fits = omega (arith, room .need) }
-
-cast-append-5 : tie.Need-cast-append-5
-cast-append-5 c =
-    let h = c .before .before .has-room in
-    let room = room-fits (granted (c .before .before .before .before .before .before .before .before .before .before .before .unsigned .result) (c .before .before .before .before .before .before .before .before .before .unsigned2 .result) (c .before .before .before .before .before .before .before .unsigned3 .result) (c .before .before .before .before .before .unsigned4 .result) (c .before .before .before .unsigned5 .result)) (yes (sym (h .ensures) ∙ not-false _ (c .before .if2 .left))) in
-    record { fits = omega (arith, room .bar) }
-
 append-requires : tie.Need-append-requires
-append-requires c κs = search needs
+append-requires c κs =
+    let s = c .before .before .before .before .before .before .before .before .before .before .before .before .before .before .before .before .before in
+    let d = granted (c .before .before .before .before .before .before .before .before .before .before .before .unsigned .result) (c .before .before .before .before .before .before .before .before .before .unsigned2 .result) (c .before .before .before .before .before .before .before .unsigned3 .result) (c .before .before .before .before .before .unsigned4 .result) (c .before .before .before .unsigned5 .result) in
+    (s .pre .0, omega (arith, c .before .before .before .before .before .before .before .before .before .before .before .before .before .if1 .left, c .before .before .before .before .before .before .before .before .before .before .before .before .before .before .count .ensures), room-fits d (yes (sym (c .before .before .has-room .ensures) ∙ not-false _ (c .before .if2 .left))))
 
 same-length-3 : tie.Need-same-length-3
 same-length-3 c = search needs
@@ -143,11 +116,6 @@ put-delegation-spec =
     has-room-requires
     same-length-2
     returns-2
-    cast-append
-    cast-append-2
-    cast-append-3
-    cast-append-4
-    cast-append-5
     append-requires
     same-length-3
     returns-3)
