@@ -1,4 +1,4 @@
--- The refusals of a call on any list of bytes (document 01, 'Turned back by what was passed' and 'by what the register holds'; document 02, C-11). Assumes nothing.
+-- The refusals of a call on any list of bytes (document 01, 'Turned back by what was passed' and 'by what the register holds'; document 02, C-11 and C-13). Assumes nothing.
 use mathlib.Core.Bool.{Bool, not, _||_}
 use mathlib.Core.List.{List, [], _∷_, _++_}
 use Prim.Native.Nat.{ℕ}

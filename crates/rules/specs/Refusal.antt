@@ -1,4 +1,4 @@
--- Refusals (document 01, 'Turned back by what was passed' and 'Turned back by what the register holds'; document 02, C-12): each number with the test under which it applies, and for each call
+-- Refusals (document 01, 'Turned back by what was passed' and 'Turned back by what the register holds'; document 02, C-12 and C-13): each number with the test under which it applies, and for each call
 -- two ordered lists of them. The refusal is the first that applies of 1, `passed`, 8 and `held`; 1 and 8 speak of bytes and have no place in a register. Assumes nothing.
 use mathlib.Core.Bool.{Bool, cond, not, _&&_, _||_}
 use mathlib.Core.List.{List, [], _∷_, _++_}
