@@ -25,7 +25,7 @@ use Rattle.text.proofs.Sizes.{line-long}
 use Rattle.text.proofs.Injective.{line-inj}
 use Rattle.text.specs.Rows.{rows}
 use Rattle.regfile.specs.FileText.{subjectNames, delegationNames, subjectColumns, delegationColumns, subjectRows, delegationRow, rowsOf, fileOf, fileText, AreRows, FileLines, Filed, refusedFile, passingFile, valueAt, delegationOf, filed}
-use Rattle.regfile.specs.Parsed.{withRow, withRows, Holds, RowsLent, RowsRead, Parsed}
+use Rattle.regfile.specs.Parsed.{withRow, withRows, RowsHeld, RowsLent, RowsRead, Parsed}
 use Rattle.regfile.specs.declared.Rows.{Rows}
 use Rattle.regfile.proofs.FileRight.{filed-right, known-rows, subject-marks, delegation-rows}
 
@@ -184,9 +184,9 @@ module _ (text : List ℕ) where
           S₁ : Register
           S₁ = withRows subjectColumns empty (m₁ .rows)
 
-          held₁ : Holds subjectColumns S₁ (m₁ .rows) b₁
+          held₁ : RowsHeld subjectColumns S₁ (m₁ .rows) b₁
           unfolding S₁
-          held₁ = subst (λ (x : Register). Holds subjectColumns (withRows subjectColumns x (m₁ .rows)) (rowsOf subjectColumns x ++ m₁ .rows) b₁) empty-decoded (m₁ .held k₁ .1)
+          held₁ = subst (λ (x : Register). RowsHeld subjectColumns (withRows subjectColumns x (m₁ .rows)) (rowsOf subjectColumns x ++ m₁ .rows) b₁) empty-decoded (m₁ .held k₁ .1)
 
           decoded₁ : decode b₁ ≡ S₁
           decoded₁ = ap decode (held₁ .bytes) ∙ decode-encode S₁ (held₁ .fits)
@@ -212,11 +212,11 @@ module _ (text : List ℕ) where
           S₂ : Register
           S₂ = withRows delegationColumns (S₁ k₁) (m₂ .rows)
 
-          held₂ : Holds delegationColumns S₂ (m₂ .rows) b₂
+          held₂ : RowsHeld delegationColumns S₂ (m₂ .rows) b₂
           unfolding S₂
           held₂ =
-              let h = subst (λ (x : Register). Holds delegationColumns (withRows delegationColumns x (m₂ .rows)) (rowsOf delegationColumns (decode b₁) ++ m₂ .rows) b₂) (decoded₁ k₁) (m₂ .held k₂ .1) in
-              subst (λ (x : List (List ℤ)). Holds delegationColumns (withRows delegationColumns (S₁ k₁) (m₂ .rows)) (x ++ m₂ .rows) b₂) (no-delegations k₁) h
+              let h = subst (λ (x : Register). RowsHeld delegationColumns (withRows delegationColumns x (m₂ .rows)) (rowsOf delegationColumns (decode b₁) ++ m₂ .rows) b₂) (decoded₁ k₁) (m₂ .held k₂ .1) in
+              subst (λ (x : List (List ℤ)). RowsHeld delegationColumns (withRows delegationColumns (S₁ k₁) (m₂ .rows)) (x ++ m₂ .rows) b₂) (no-delegations k₁) h
 
           subjects₂ : rowsOf subjectColumns S₂ ≡ m₁ .rows
           unfolding S₂

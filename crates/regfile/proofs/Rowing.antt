@@ -18,7 +18,7 @@ use Rattle.text.specs.Read.{LineRead}
 use Rattle.text.specs.declared.Line.{Line}
 use Rattle.text.proofs.Sizes.{line-long}
 use Rattle.regfile.specs.FileText.{subjectColumns, delegationColumns, rowsOf, AreRows}
-use Rattle.regfile.specs.Parsed.{withRow, withRows, Holds, Unformed, RowPut, RowsLent, RowsRead}
+use Rattle.regfile.specs.Parsed.{withRow, withRows, RowsHeld, Unformed, RowPut, RowsLent, RowsRead}
 use Rattle.regfile.specs.declared.Rows.{Rows}
 
 -- ── lists of rows ──
@@ -40,7 +40,7 @@ pub record Reading (text : List ℕ) (at w : ℕ) (R : Register) (fits : Bool) (
   pub formed : AreRows w rows
   pub front : drop at text ≡ concatMap line rows ++ drop next text
   pub within : next ≤ length text
-  pub held : kept ≡ true → (fits ≡ true) × Holds w (withRows w R rows) (rowsOf w R ++ rows) b
+  pub held : kept ≡ true → (fits ≡ true) × RowsHeld w (withRows w R rows) (rowsOf w R ++ rows) b
   pub out : fits ≡ true → kept ≡ false → Unformed w (rowsOf w R ++ rows)
 
 module _ (text : List ℕ) (at w : ℕ) (wide : (w ≡ subjectColumns) ⊎ (w ≡ delegationColumns)) (R : Register) (fits : Bool) where
@@ -124,9 +124,9 @@ module _ (text : List ℕ) (at w : ℕ) (wide : (w ≡ subjectColumns) ⊎ (w �
               joined : rowsOf w (withRows w R (g .rows)) ++ (after ∷ []) ≡ rowsOf w R ++ (g .rows ++ (after ∷ []))
               joined = ap (λ (x : List (List ℤ)). x ++ (after ∷ [])) (g .held k .1 .same) ∙ append-assoc (rowsOf w R) (g .rows) (after ∷ [])
 
-              held : o ≡ true → Holds w (withRows w R (g .rows ++ (after ∷ []))) (rowsOf w R ++ (g .rows ++ (after ∷ []))) c
-              held t = subst (λ (x : Register). Holds w x (rowsOf w R ++ (g .rows ++ (after ∷ []))) c) (sym (with-last w R (g .rows) after))
-                  (subst (λ (x : List (List ℤ)). Holds w (withRow w (withRows w R (g .rows)) after) x c) joined (q .put t))
+              held : o ≡ true → RowsHeld w (withRows w R (g .rows ++ (after ∷ []))) (rowsOf w R ++ (g .rows ++ (after ∷ []))) c
+              held t = subst (λ (x : Register). RowsHeld w x (rowsOf w R ++ (g .rows ++ (after ∷ []))) c) (sym (with-last w R (g .rows) after))
+                  (subst (λ (x : List (List ℤ)). RowsHeld w (withRow w (withRows w R (g .rows)) after) x c) joined (q .put t))
 
 -- before the first row
 pub rows-start : (text : List ℕ) (at : ℕ) (row : List ℤ) (b : List ℕ) (fits : Bool) → RowsLent text at row b fits → Reading text at (length row) (decode b) fits at fits b

@@ -24,7 +24,7 @@ use Rattle.text.specs.Text.{Allowed, AllAllowed}
 use Rattle.text.proofs.Signed.{kept, allowed-fits}
 use Rattle.text.proofs.Lines.{allowed-at}
 use Rattle.regfile.specs.FileText.{subjectColumns, delegationColumns, subjectRows, delegationRow, rowsOf, plainOf, valueAt, delegationOf}
-use Rattle.regfile.specs.Parsed.{withRow, Holds, Unformed, hasRoom, RowPut}
+use Rattle.regfile.specs.Parsed.{withRow, RowsHeld, Unformed, hasRoom, RowPut}
 use Rattle.regfile.proofs.FileRight.{length-subjects}
 
 -- ── lists ──
@@ -136,7 +136,7 @@ module _ (b : List ℕ) (h : Fitting b) (row : List ℤ) where
         place : pos (0 + length (decode b .marks)) ≡ pos s
         place = ap pos (zero-add (length (decode b .marks)) ∙ h .fits .marked ∙ sym (fitting-subjects b h) ∙ sym next)
 
-        held : Holds subjectColumns (withRow subjectColumns (decode b) row) (rowsOf subjectColumns (decode b) ++ (row ∷ [])) after
+        held : RowsHeld subjectColumns (withRow subjectColumns (decode b) row) (rowsOf subjectColumns (decode b) ++ (row ∷ [])) after
         held = record {
           fits = subst (λ (x : ℕ). Fits (enrolled (decode b) x)) v enrolled-fits;
           bytes = e ∙ ap (λ (x : ℕ). encode (enrolled (decode b) x)) v;
@@ -220,7 +220,7 @@ module _ (b : List ℕ) (h : Fitting b) (row : List ℤ) where
           v : d ≡ delegationOf row
           v = ap delegationOf (sym same)
 
-          held : Holds delegationColumns (withRow delegationColumns (decode b) row) (rowsOf delegationColumns (decode b) ++ (row ∷ [])) after
+          held : RowsHeld delegationColumns (withRow delegationColumns (decode b) row) (rowsOf delegationColumns (decode b) ++ (row ∷ [])) after
           held = record {
             fits = subst (λ (x : Delegation). Fits (withDelegations (decode b) (decode b .delegations ++ (x ∷ [])))) v more-fits;
             bytes = e ∙ ap (λ (x : Delegation). encode (withDelegations (decode b) (decode b .delegations ++ (x ∷ [])))) v;

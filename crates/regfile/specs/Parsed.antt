@@ -29,7 +29,7 @@ withRows w R [] = R
 withRows w R (row ∷ rows) = withRows w (withRow w R row) rows
 
 -- the block is that of a register with room in it, whose rows these are
-pub record Holds (w : ℕ) (R : Register) (rows : List (List ℤ)) (b : List ℕ) : Type 0 where
+pub record RowsHeld (w : ℕ) (R : Register) (rows : List (List ℤ)) (b : List ℕ) : Type 0 where
   pub fits : Fits R
   pub bytes : b ≡ encode R
   pub same : rowsOf w R ≡ rows
@@ -46,7 +46,7 @@ hasRoom d = leb (d .giver) 255 && (leb (d .receiver) 255 && (leb (d .weight) 255
 
 -- a row stored after those of R, or left out
 pub record RowPut (w : ℕ) (R : Register) (row : List ℤ) (r : Bool) (after : List ℕ) : Type 0 where
-  pub put : r ≡ true → Holds w (withRow w R row) (rowsOf w R ++ (row ∷ [])) after
+  pub put : r ≡ true → RowsHeld w (withRow w R row) (rowsOf w R ++ (row ∷ [])) after
   pub out : r ≡ false → Unformed w (rowsOf w R ++ (row ∷ []))
 
 -- ── the rows from a place on ──
@@ -64,7 +64,7 @@ pub record RowsRead (text : List ℕ) (at w : ℕ) (R : Register) (fits : Bool) 
   pub front : drop at text ≡ concatMap line rows ++ drop (r .next) text
   pub within : r .next ≤ length text
   pub last : (row : List ℤ) (rest : List ℕ) → length row ≡ w → AllAllowed false row → drop (r .next) text ≢ line row ++ rest
-  pub held : r .fits ≡ true → (fits ≡ true) × Holds w (withRows w R rows) (rowsOf w R ++ rows) after
+  pub held : r .fits ≡ true → (fits ≡ true) × RowsHeld w (withRows w R rows) (rowsOf w R ++ rows) after
   pub out : fits ≡ true → r .fits ≡ false → Unformed w (rowsOf w R ++ rows)
 
 -- ── the whole text ──
