@@ -73,9 +73,6 @@ module _ (text : List ℕ) (ss ds : List (List ℤ)) where
       }
 
 -- ── the rows of a text ──
-nil-apart : {A : Type 0} (x : A) (xs : List A) → x ∷ xs ≢ []
-nil-apart x xs e = let z : _≡_ {A = ℕ} 0 1 = cc in absurd (omega arith)
-
 row-some : (w : ℕ) (r : List ℤ) → length r ≡ suc w → r ≢ []
 row-some w r h e = absurd (omega (arith, h, ap length e))
 

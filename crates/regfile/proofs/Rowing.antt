@@ -97,9 +97,6 @@ module _ (text : List ℕ) (at w : ℕ) (wide : (w ≡ subjectColumns) ⊎ (w �
         }
 
         module _ (k : kept ≡ true) where
-          S : Register
-          S = withRows w R (g .rows)
-
           -- the block is one to which a row can be added
           pub row-fitting : Fitting b
           row-fitting = let h = g .held k .1 in subst Fitting (sym (h .bytes)) (encode-fitting (withRows w R (g .rows)) (h .fits))
