@@ -1,11 +1,13 @@
 -- Rounds one after another: how it goes on after some that changed something, and how one that changes nothing ends it. Assumes nothing.
 use mathlib.Core.Path.{_≡_, refl, sym, ap, subst, _∙_}
-use mathlib.Core.Logic.{_≢_}
-use mathlib.Core.Bool.{Bool, true, false}
+use mathlib.Core.Logic.{_≢_, _⊎_, inl, inr}
+use mathlib.Core.Bool.{Bool, true, false, not}
 use mathlib.Core.List.{List}
-use Prim.Native.Nat.{ℕ, suc, _+_, _≤_, _<_}
-use native.Mathlib.Nat.{zero-add, add-zero}
+use Prim.Native.Nat.{ℕ, zero, suc, _+_, _≤_, _<_}
+use native.Mathlib.Nat.{zero-add, add-zero, suc-add}
 use native.Mathlib.Omega.{arith}
+use borrow.Author.Tests.{eq-eqb, ne-eqb}
+use lib.Dec.{eqb}
 use lib.IntN.{ℤ}
 use Rattle.rules.specs.Register.{Register, withDelegations}
 use Rattle.rules.specs.Table.{TableRule}
@@ -14,9 +16,10 @@ use Rattle.rules.specs.Remainder.{Within}
 use Rattle.rules.specs.Refusal.{tooHeavy}
 use Rattle.rules.specs.WellFormed.{WellFormed}
 use Rattle.rules.proofs.Rounds.{round-falls, round-right, settle-right, settles-unique, settle-best}
-use Rattle.rules.proofs.WellFormed.{round-formed}
+use Rattle.rules.proofs.WellFormed.{round-formed, settles-formed}
+use Rattle.rules.proofs.Bound.{rounds-most}
 use Rattle.rules.proofs.Ranges.{total-most}
-use Rattle.rules.proofs.Lists.{T-true, no}
+use Rattle.rules.proofs.Lists.{T-true, no, clash, eqOr}
 use Rattle.block.specs.Bytes.{IsBytes}
 use Rattle.block.specs.Block.{countIn, decode, encode}
 use Rattle.block.specs.WellFormed.{wellFormed}
@@ -27,6 +30,7 @@ use Rattle.block.specs.Records.{delegationAt, leftTo}
 use Rattle.reckoning.specs.Reckoned.{IndexOf, Reckoned}
 use Rattle.reckoning.specs.declared.Index.{Index}
 use Rattle.rounds.specs.Rounded.{RoundMade}
+use Rattle.rounds.specs.Settled.{RoundsMade, SupportTold}
 use Rattle.rounds.proofs.Indexing.{index-kept}
 
 -- n rounds from C on changed something and left R: however it goes on from R, it goes on from C
@@ -70,15 +74,6 @@ round-none t b bytes formed x ws r e = record {
 pub round-some : (t : List ℤ) (b : List ℕ) (x : Bool) (ws : List ℤ) → Reckoned t b x ws → x ≡ true → (after : List ℕ)
     → after ≡ encode (withDelegations (decode b) (leftTo (delegationAt b) ws (countIn b))) → RoundMade t (decode b) true after
 round-some t b x ws r e after w = record { left = w ∙ ap encode (r .left); same = λ z. absurd (no z tt); change = λ _. r .change e }
-
--- a round lowers a weight exactly where one is above the reach that counts for it
-pub reckoned-heavy : (t : List ℤ) (b : List ℕ) (x : Bool) (ws : List ℤ) → Reckoned t b x ws → x ≡ tooHeavy t (decode b) (decode b .delegations)
-reckoned-heavy t b false ws r = sym (round-right t (decode b) .1 (r .same refl))
-reckoned-heavy t b true ws r = go (tooHeavy t (decode b) (decode b .delegations)) refl
-  where
-    go : (y : Bool) → tooHeavy t (decode b) (decode b .delegations) ≡ y → true ≡ y
-    go true e = refl
-    go false e = absurd (r .change refl (round-right t (decode b) .0 e))
 
 -- the block holds what n rounds left
 abbrev pub GoingOn : List ℤ → Register → ℕ → List ℕ → Type 0
@@ -126,16 +121,63 @@ module _ (t : List ℤ) (C : Register) (n : ℕ) (b : List ℕ) (s : GoingOn t C
     stays e = subst (λ (R : Register). round t R ≡ R) held (r .same e)
 
     -- the end: what is left is what the definition leaves, after as many rounds
-    pub on-end : x ≡ false → (n ≡ settle t C .changed) × (decode after ≡ settle t C .left) × (after ≡ encode (settle t C .left)) × (wellFormed after ≡ true)
-    on-end e =
-        let (m, F) = going-end t C n (s .0) (s .2) (stays e) in
-        let a = left ∙ ap encode (stays e) in (
-          m,
-          ap decode a ∙ decode-encode (s .0) (s .2 .formed) ∙ F,
-          a ∙ ap encode F,
-          ap wellFormed a ∙ T-true (wellFormed (encode (s .0))) (encode-formed (s .0) (s .2 .formed)),
-        )
+    on-end : x ≡ false → (n ≡ settle t C .changed) × (after ≡ encode (settle t C .left))
+    on-end e = let (m, F) = going-end t C n (s .0) (s .2) (stays e) in (m, left ∙ ap encode (stays e ∙ F))
 
-    -- which is within the register that it began with
-    pub on-within : TableRule t → x ≡ false → Within (decode after) C
-    on-within rule e = subst (λ (F : Register). Within F C) (sym (on-end e .1)) (settle-best t rule C .remainder .within)
+  -- some round changed something: the first did
+  began : n ≢ 0 → round t C ≢ C
+  began h = go n h (s .2 .on (settle t (s .0) .changed) (settle t (s .0) .left) (settle-right t (s .0)))
+    where
+      go : (k : ℕ) → k ≢ 0 → SettlesIn t (k + settle t (s .0) .changed) C (settle t (s .0) .left) → round t C ≢ C
+      go zero q i = absurd (q refl)
+      go (suc k) q i = subst (λ (m : ℕ). SettlesIn t m C (settle t (s .0) .left)) (suc-add k (settle t (s .0) .changed)) i .0
+
+  -- a round that changed something ends it where one is enough
+  pub made-once : n ≢ 0 → RoundsMade t C true n b
+  made-once h = record { all = λ e. absurd (no e tt); none = λ z. absurd (h z); some = began }
+
+  -- one that changes nothing ends it
+  pub made-all : (once x : Bool) (after : List ℕ) → RoundMade t (decode b) x after → x ≡ false → RoundsMade t C once n after
+  made-all once x after r e =
+      let (m, left) = on-end x after r e in
+      record {
+        all = λ z. (m, left);
+        none = λ z.
+            let q = subst (λ (k : ℕ). SettlesIn t k C (settle t C .left)) (sym m ∙ z) (settle-right t C) in
+            (q .1, left ∙ ap encode (sym (q .0)));
+        some = began;
+      }
+
+-- ── all rounds ──
+module _ (t : List ℤ) (rule : TableRule t) (C : Register) (f : WellFormed C) (n : ℕ) (after : List ℕ) (m : RoundsMade t C false n after) where
+  left-formed : WellFormed (settle t C .left)
+  left-formed = settles-formed t (settle t C .changed) C (settle t C .left) (settle-right t C) f
+
+  pub left-decoded : decode after ≡ settle t C .left
+  left-decoded = ap decode (m .all refl .1) ∙ decode-encode (settle t C .left) left-formed
+
+  pub left-block : wellFormed after ≡ true
+  left-block = ap wellFormed (m .all refl .1) ∙ T-true (wellFormed (encode (settle t C .left))) (encode-formed (settle t C .left) left-formed)
+
+  -- which is within the register that they began with
+  pub left-within : Within (decode after) C
+  left-within = subst (λ (F : Register). Within F C) (sym left-decoded) (settle-best t rule C .remainder .within)
+
+  pub few-rounds : n + 1 ≤ 512
+  few-rounds = let e = m .all refl .0 in omega (arith, e, rounds-most t rule C f .1)
+
+-- ── whether all is supported ──
+module _ (t : List ℤ) (b : List ℕ) (bytes : IsBytes b) (formed : wellFormed b ≡ true) (n : ℕ) (after : List ℕ) (m : RoundsMade t (decode b) true n after) where
+  pub told : SupportTold t b (eqb n 0) after
+  told = go (eqOr n 0)
+    where
+      C : Register
+      C = decode b
+
+      heavy : (y : Bool) → n ≢ 0 → tooHeavy t C (C .delegations) ≡ y → false ≡ not y
+      heavy true h e = refl
+      heavy false h e = absurd (m .some h (round-right t C .0 e))
+
+      go : (n ≡ 0) ⊎ (n ≢ 0) → SupportTold t b (eqb n 0) after
+      go (inl z) = record { told = eq-eqb n 0 z ∙ ap not (sym (round-right t C .1 (m .none z .0))); same = λ e. m .none z .1 ∙ sym (held-written b bytes formed) }
+      go (inr h) = record { told = ne-eqb n 0 h ∙ heavy (tooHeavy t C (C .delegations)) h refl; same = λ e. clash (sym e ∙ ne-eqb n 0 h) }

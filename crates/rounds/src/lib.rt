@@ -5,7 +5,6 @@ ghost use mathlib.Core.Path.{_≡_};
 ghost use mathlib.Core.Bool.{true, not};
 ghost use lib.ListN.{length};
 ghost use Rattle.rules.specs.Table.{TableRule};
-ghost use Rattle.rules.specs.Refusal.{tooHeavy};
 ghost use Rattle.block.specs.Layout.{mostRecords};
 ghost use Rattle.block.specs.Block.{countIn, decode};
 ghost use Rattle.block.specs.WellFormed.{wellFormed};
@@ -14,7 +13,7 @@ ghost use Rattle.runs.specs.Steps.{startCount};
 ghost use Rattle.search.specs.Found.{Searchable};
 ghost use Rattle.reckoning.specs.Reckoned.{IndexOf, TablesLent};
 ghost use Rattle.rounds.specs.Rounded.{RoundMade};
-ghost use Rattle.rounds.specs.Settled.{SettledMade};
+ghost use Rattle.rounds.specs.Settled.{RoundsMade, SettledMade, SupportTold};
 use block::layout;
 use reckoning::Index;
 
@@ -62,13 +61,11 @@ fn renewed(block: &[u8], starts: &mut [u16], index: Index) -> Index
     reckoning::index_of(block, starts)
 }
 
-// Rounds until one changes nothing, which counts.
-pub fn settled(block: &mut [u8], table: &[i16]) -> Tally
+// Rounds until one changes nothing, or, where `once` is set, until the first has changed something; how many changed something.
+fn make_rounds(block: &mut [u8], table: &[i16], once: bool) -> u32
     requires { ⌜ (wellFormed (now block) ≡ true) × TableRule (now table) ⌝ }
-    ensures { λ r. ⌜ SettledMade (now (table .entry)) (decode (now (block .entry))) r (now (block .exit)) ⌝ }
+    ensures { λ r. ⌜ RoundsMade (now (table .entry)) (decode (now (block .entry))) once r (now (block .exit)) ⌝ }
 {
-    let mut before = [0u8; layout::BLOCK_SIZE];
-    change::copy(block, &mut before);
     let mut starts = [0u16; runs::STARTS];
     let mut index = reckoning::index_of(block, &mut starts);
     let mut reaches = [0i16; reckoning::REACHES];
@@ -86,7 +83,21 @@ pub fn settled(block: &mut [u8], table: &[i16]) -> Tally
     ) {
         index = renewed(block, &mut starts, index);
         changed += 1;
+        if once {
+            return changed;
+        }
     }
+    changed
+}
+
+// Rounds until one changes nothing, which counts.
+pub fn settled(block: &mut [u8], table: &[i16]) -> Tally
+    requires { ⌜ (wellFormed (now block) ≡ true) × TableRule (now table) ⌝ }
+    ensures { λ r. ⌜ SettledMade (now (table .entry)) (decode (now (block .entry))) r (now (block .exit)) ⌝ }
+{
+    let mut before = [0u8; layout::BLOCK_SIZE];
+    change::copy(block, &mut before);
+    let changed = make_rounds(block, table, false);
     let counts = counted::counts(&before, block);
     Tally {
         dropped: counts.dropped,
@@ -95,23 +106,10 @@ pub fn settled(block: &mut [u8], table: &[i16]) -> Tally
     }
 }
 
-// Every delegation is supported: a round would change nothing.
-pub fn supports(block: &[u8], table: &[i16]) -> bool
+// Every delegation is supported: a round changes nothing. Where one is not, the block is left as one round leaves it.
+pub fn supports(block: &mut [u8], table: &[i16]) -> bool
     requires { ⌜ (wellFormed (now block) ≡ true) × TableRule (now table) ⌝ }
-    ensures { λ r. ⌜ r ≡ not (tooHeavy (now (table .entry)) (decode (now (block .entry))) (decode (now (block .entry)) .delegations)) ⌝ }
+    ensures { λ r. ⌜ SupportTold (now (table .entry)) (now (block .entry)) r (now (block .exit)) ⌝ }
 {
-    let mut starts = [0u16; runs::STARTS];
-    let index = reckoning::index_of(block, &mut starts);
-    let mut reaches = [0i16; reckoning::REACHES];
-    let mut waiting = [0u64; queue::GROUPS];
-    let mut weights = [0i16; layout::MOST_RECORDS];
-    !reckoning::reckon(
-        block,
-        &starts,
-        table,
-        index,
-        &mut reaches,
-        &mut waiting,
-        &mut weights,
-    )
+    make_rounds(block, table, true) == 0
 }

@@ -73,7 +73,7 @@ pub fn read_file(block: &mut [u8], text: &[u8], table: &[u8]) -> Answer
     if n != 0 {
         return register::refused(n);
     }
-    if !rounds::supports(&read, &g.steps) {
+    if !rounds::supports(&mut read, &g.steps) {
         return register::refused(refusal::UNSUPPORTED);
     }
     change::copy(&read, block);

@@ -1,166 +1,72 @@
--- `rounds::settled` makes rounds until one changes nothing. Assumes nothing.
+-- `rounds::settled` makes rounds until one changes nothing, and counts what became of the delegations. Assumes nothing.
 use borrow.Author.Needs.{needs}
-use mathlib.Core.Path.{_≡_, refl, sym, ap, subst, _∙_}
+use mathlib.Core.Path.{refl, sym, ap, subst, _∙_}
 use mathlib.Core.List.{List}
-use Prim.Native.Nat.{ℕ, suc, _+_}
+use Prim.Native.Nat.{ℕ, suc}
 use native.Mathlib.Numerals.{add-one}
 use native.Mathlib.Omega.{arith}
-use lib.ListN.{length}
-use Rattle.rules.specs.Round.{total}
 use Rattle.rules.specs.Remainder.{Within}
 use Rattle.rules.specs.Cut.{dropped, lowered}
-use Rattle.block.specs.Layout.{mostRecords}
 use Rattle.block.specs.Block.{decode}
 use Rattle.block.specs.WellFormed.{wellFormed}
 use Rattle.block.proofs.Bytes.{fits-bytes}
 use Rattle.block.proofs.Held.{size-held, held-formed}
-use Rattle.queue.specs.Queue.{groups, Empty}
-use Rattle.queue.proofs.Buckets.{empty-waits}
-use Rattle.reckoning.specs.Reckoned.{reachCount, IndexOf}
-use Rattle.rounds.proofs.Settling.{GoingOn, on-first, on-formed, on-few, on-more, on-falls, on-index, on-end, on-within}
+use Rattle.rounds.proofs.Settling.{left-decoded, left-block, left-within, few-rounds}
 use Rattle.rounds.proofs.settled.Statement.{statement}
 use Rattle.rounds.proofs.settled.Tie as tie
 
-abbrev Inv-loop : tie.InvT-loop
-Inv-loop block₀ table before starts₀ index₀ reaches₀ waiting₀ weights₀ changed₀ block starts index reaches waiting weights changed =
-    (length block ≡ length block₀) × GoingOn table (decode block₀) changed block × (length reaches ≡ reachCount) × Empty waiting × (length weights ≡ mostRecords) × IndexOf block index starts
-
-abbrev μ-loop : tie.MeasureT-loop
-μ-loop block₀ table before starts₀ index₀ reaches₀ waiting₀ weights₀ changed₀ block starts index reaches waiting weights changed = total (decode block .delegations)
-
-slice-aggregate-copy : tie.Need-slice-aggregate-copy Inv-loop μ-loop
+slice-aggregate-copy : tie.Need-slice-aggregate-copy
 slice-aggregate-copy c = search needs
 
-copy-requires : tie.Need-copy-requires Inv-loop μ-loop
+copy-requires : tie.Need-copy-requires
 copy-requires c κs =
     let s = c .before .before .before in
     size-held (s .args .block .now) (fits-bytes (s .args .block .now) (c .before .before .slice-known .given)) (s .pre .0)
 
-slice-aggregate-index-of : tie.Need-slice-aggregate-index-of Inv-loop μ-loop
-slice-aggregate-index-of c = search needs
+make-rounds-requires : tie.Need-make-rounds-requires
+make-rounds-requires c κs = search needs
 
-index-of-requires : tie.Need-index-of-requires Inv-loop μ-loop
-index-of-requires c κs = search needs
-
-loop-holds : tie.Need-loop-holds Inv-loop μ-loop
-loop-holds c =
-    let s = c .before .before .before .before .before .before .before .before .before in
-    (refl, on-first (s .args .table .now) (s .args .block .now) (fits-bytes (s .args .block .now) (c .before .before .before .before .before .before .before .before .slice-known .given)) (s .pre .0), refl, record { size = refl; none = empty-waits groups }, refl, c .before .index-of .ensures)
-
-slice-aggregate-round : tie.Need-slice-aggregate-round Inv-loop μ-loop
-slice-aggregate-round c = sym (c .before .before .loop .inv .5 .starts .size)
-
-slice-aggregate-round-2 : tie.Need-slice-aggregate-round-2 Inv-loop μ-loop
-slice-aggregate-round-2 c = sym (c .before .before .before .loop .inv .2)
-
-slice-aggregate-round-3 : tie.Need-slice-aggregate-round-3 Inv-loop μ-loop
-slice-aggregate-round-3 c = sym (c .before .before .before .before .loop .inv .3 .size)
-
-slice-aggregate-round-4 : tie.Need-slice-aggregate-round-4 Inv-loop μ-loop
-slice-aggregate-round-4 c = sym (c .before .before .before .before .before .loop .inv .4)
-
-round-requires : tie.Need-round-requires Inv-loop μ-loop
-round-requires c κs =
-    let s = c .before .before .before .before .before .before .before .before .before .before .before .before .before .before .before in
-    let l = c .before .before .before .before .before .loop in
-    (record { formed = on-formed (s .args .table .now) (decode (s .args .block .now)) (l .changed) (l .block) (l .inv .1); rule = s .pre .1 }, l .inv .5, record { size = l .inv .2; queue = l .inv .3 }, l .inv .4)
-
-slice-aggregate-renewed : tie.Need-slice-aggregate-renewed Inv-loop μ-loop
-slice-aggregate-renewed c = sym (c .before .before .before .before .before .before .before .before .before .before .before .before .before .before .loop .inv .5 .starts .size)
-
-renewed-requires : tie.Need-renewed-requires Inv-loop μ-loop
-renewed-requires c κs =
-    let s = c .before .before .before .before .before .before .before .before .before .before .before .before .before .before .before .before .before .before .before .before .before .before .before .before in
-    let l = c .before .before .before .before .before .before .before .before .before .before .before .before .before .before .loop in
-    let o = c .before .before .before .before .before .before .before .before .round in
-    let g = on-more (s .args .table .now) (decode (s .args .block .now)) (l .changed) (l .block) (l .inv .1) (o .result) (o .last .0) (o .ensures .0) (c .before .before .if1 .taken) in
-    (on-formed (s .args .table .now) (decode (s .args .block .now)) (l .changed + 1) (o .last .0) g, l .inv .5 .starts .size, on-index (s .args .table .now) (decode (s .args .block .now)) (l .changed) (l .block) (l .inv .1) (o .result) (o .last .0) (o .ensures .0) (l .index) (l .starts) (l .inv .5))
-
-add-changed : tie.Need-add-changed Inv-loop μ-loop
-add-changed c =
-    let s = c .before .before .before .before .before .before .before .before .before .before .before .before .before .before .before .before .before .before .before .before .before .before .before .before .before .before in
-    let l = c .before .before .before .before .before .before .before .before .before .before .before .before .before .before .before .before .loop in
-    omega (arith, on-few (s .args .table .now) (decode (s .args .block .now)) (l .changed) (l .block) (l .inv .1) (held-formed (s .args .block .now) (fits-bytes (s .args .block .now) (c .before .before .before .before .before .before .before .before .before .before .before .before .before .before .before .before .before .before .before .before .before .before .before .before .before .slice-known .given)) (s .pre .0)))
-
-loop-less : tie.Need-loop-less Inv-loop μ-loop
-loop-less c =
-    let s = c .before .before .before .before .before .before .before .before .before .before .before .before .before .before .before .before .before .before .before .before .before .before .before .before .before .before in
-    let l = c .before .before .before .before .before .before .before .before .before .before .before .before .before .before .before .before .loop in
-    let o = c .before .before .before .before .before .before .before .before .before .before .round in
-    on-falls (s .args .table .now) (decode (s .args .block .now)) (l .changed) (l .block) (l .inv .1) (o .result) (o .last .0) (o .ensures .0) (c .before .before .before .before .if1 .taken)
-
-loop-again : tie.Need-loop-again Inv-loop μ-loop
-loop-again c =
-    let s = c .before .before .before .before .before .before .before .before .before .before .before .before .before .before .before .before .before .before .before .before .before .before .before .before .before .before in
-    let l = c .before .before .before .before .before .before .before .before .before .before .before .before .before .before .before .before .loop in
-    let o = c .before .before .before .before .before .before .before .before .before .before .round in (
-      o .kept .0 ∙ l .inv .0,
-      on-more (s .args .table .now) (decode (s .args .block .now)) (l .changed) (l .block) (l .inv .1) (o .result) (o .last .0) (o .ensures .0) (c .before .before .before .before .if1 .taken),
-      o .kept .1 .1 .1 .1 .0 ∙ l .inv .2,
-      o .ensures .1,
-      o .kept .1 .1 .1 .1 .1 .1 .0 ∙ l .inv .4,
-      c .before .renewed .ensures,
-    )
-
-slice-aggregate-counts : tie.Need-slice-aggregate-counts Inv-loop μ-loop
+slice-aggregate-counts : tie.Need-slice-aggregate-counts
 slice-aggregate-counts c = search needs
 
-counts-requires : tie.Need-counts-requires Inv-loop μ-loop
+counts-requires : tie.Need-counts-requires
 counts-requires c κs =
-    let s = c .before .before .before .before .before .before .before .before .before .before .before .before .before .before .before .before .before .before .before .before .before .before .before .before in
-    let l = c .before .before .before .before .before .before .before .before .before .before .before .before .before .before .loop in
-    let o = c .before .before .before .before .before .before .before .before .round in
-    let e = on-end (s .args .table .now) (decode (s .args .block .now)) (l .changed) (l .block) (l .inv .1) (o .result) (o .last .0) (o .ensures .0) (c .before .before .if1 .left) in
-    let w = on-within (s .args .table .now) (decode (s .args .block .now)) (l .changed) (l .block) (l .inv .1) (o .result) (o .last .0) (o .ensures .0) (s .pre .1) (c .before .before .if1 .left) in
-    let b = c .before .before .before .before .before .before .before .before .before .before .before .before .before .before .before .before .before .before .before .before .copy .ensures in
-    (ap wellFormed b ∙ s .pre .0, e .3, subst (λ (x : List ℕ). Within (decode (o .last .0)) (decode x)) (sym b) w)
+    let s = c .before .before .before .before .before .before .before .before .before .before .before in
+    let m = c .before .before .before .before .make-rounds in
+    let b = c .before .before .before .before .before .before .before .copy .ensures in
+    (ap wellFormed b ∙ s .pre .0, left-block (s .args .table .now) (s .pre .1) (decode (s .args .block .now)) (held-formed (s .args .block .now) (fits-bytes (s .args .block .now) (c .before .before .before .before .before .before .before .before .before .before .slice-known .given)) (s .pre .0)) (m .result) (m .last .0) (m .ensures), subst (λ (x : List ℕ). Within (decode (m .last .0)) (decode x)) (sym b) (left-within (s .args .table .now) (s .pre .1) (decode (s .args .block .now)) (held-formed (s .args .block .now) (fits-bytes (s .args .block .now) (c .before .before .before .before .before .before .before .before .before .before .slice-known .given)) (s .pre .0)) (m .result) (m .last .0) (m .ensures)))
 
-add-t39 : tie.Need-add-t39 Inv-loop μ-loop
-add-t39 c =
-    let s = c .before .before .before .before .before .before .before .before .before .before .before .before .before .before .before .before .before .before .before .before .before .before .before .before .before in
-    let l = c .before .before .before .before .before .before .before .before .before .before .before .before .before .before .before .loop in
-    omega (arith, on-few (s .args .table .now) (decode (s .args .block .now)) (l .changed) (l .block) (l .inv .1) (held-formed (s .args .block .now) (fits-bytes (s .args .block .now) (c .before .before .before .before .before .before .before .before .before .before .before .before .before .before .before .before .before .before .before .before .before .before .before .before .slice-known .given)) (s .pre .0)))
+add-t17 : tie.Need-add-t17
+add-t17 c =
+    let s = c .before .before .before .before .before .before .before .before .before .before .before .before in
+    let m = c .before .before .before .before .before .make-rounds in
+    record { fits = omega (arith, few-rounds (s .args .table .now) (s .pre .1) (decode (s .args .block .now)) (held-formed (s .args .block .now) (fits-bytes (s .args .block .now) (c .before .before .before .before .before .before .before .before .before .before .before .slice-known .given)) (s .pre .0)) (m .result) (m .last .0) (m .ensures)) }
 
-same-length : tie.Need-same-length Inv-loop μ-loop
-same-length c = c .before .before .before .before .before .before .before .before .before .round .kept .0 ∙ c .before .before .before .before .before .before .before .before .before .before .before .before .before .before .before .loop .inv .0
+same-length : tie.Need-same-length
+same-length c = search needs
 
-returns : tie.Need-returns Inv-loop μ-loop
+returns : tie.Need-returns
 returns c =
-    let s = c .before .before .before .before .before .before .before .before .before .before .before .before .before .before .before .before .before .before .before .before .before .before .before .before .before in
-    let l = c .before .before .before .before .before .before .before .before .before .before .before .before .before .before .before .loop in
-    let o = c .before .before .before .before .before .before .before .before .before .round in
-    let (n, F, left, formed) = on-end (s .args .table .now) (decode (s .args .block .now)) (l .changed) (l .block) (l .inv .1) (o .result) (o .last .0) (o .ensures .0) (c .before .before .before .if1 .left) in
-    let b = c .before .before .before .before .before .before .before .before .before .before .before .before .before .before .before .before .before .before .before .before .before .copy .ensures in
+    let s = c .before .before .before .before .before .before .before .before .before .before .before .before in
+    let m = c .before .before .before .before .before .make-rounds in
+    let b = c .before .before .before .before .before .before .before .before .copy .ensures in
+    let F = left-decoded (s .args .table .now) (s .pre .1) (decode (s .args .block .now)) (held-formed (s .args .block .now) (fits-bytes (s .args .block .now) (c .before .before .before .before .before .before .before .before .before .before .before .slice-known .given)) (s .pre .0)) (m .result) (m .last .0) (m .ensures) in
     record {
-      left = left;
+      left = m .ensures .all refl .1;
       dropped = c .counts .ensures .0 ∙ (λ i. dropped (decode (b i)) (F i));
       lowered = c .counts .ensures .1 ∙ (λ i. lowered (decode (b i)) (F i));
-      rounds = add-one (l .changed) ∙ ap suc n;
+      rounds = add-one (m .result) ∙ ap suc (m .ensures .all refl .0);
     }
 
 pub settled-spec : {M : Type 1} → statement M
 settled-spec =
     tie.close
     (tie.spec
-    Inv-loop
-    μ-loop
     slice-aggregate-copy
     copy-requires
-    slice-aggregate-index-of
-    index-of-requires
-    loop-holds
-    slice-aggregate-round
-    slice-aggregate-round-2
-    slice-aggregate-round-3
-    slice-aggregate-round-4
-    round-requires
-    slice-aggregate-renewed
-    renewed-requires
-    add-changed
-    loop-less
-    loop-again
+    make-rounds-requires
     slice-aggregate-counts
     counts-requires
-    add-t39
+    add-t17
     same-length
     returns)

@@ -36,7 +36,7 @@ found : (c : tie.After-supports) → let p = read (tested c .before .before) in 
 found c =
     let t = tested c .before .before in
     let R = decode (read t .parse .last .1 .0) in
-    c .supports .ensures ∙ ap (λ (g : Given). not (tooHeavy (g .steps) R (R .delegations))) (t .read-table .ensures)
+    c .supports .ensures .told ∙ ap (λ (g : Given). not (tooHeavy (g .steps) R (R .delegations))) (t .read-table .ensures)
 
 -- ── the needs ──
 refused-requires : tie.Need-refused-requires
@@ -108,7 +108,7 @@ refused-requires-5 c κs = search needs
 
 returns-5 : tie.Need-returns-5
 returns-5 c =
-    let s = c .before .before in
+    let s = c .before .before .before in
     let f = tested s in
     let e = f .before in
     let p = read (e .before) in
@@ -133,15 +133,16 @@ same-length c = search needs
 returns-6 : tie.Need-returns-6
 returns-6 c =
     let k = c .before .before .before in
-    let s = k .before .before .before .before in
+    let s = k .before .before .before .before .before in
     let f = tested s in
     let e = f .before in
     let p = read (e .before) in
     let a = start p .args in
     let r = p .parse in
+    let t = not-false (s .supports .result) (k .before .before .before .if5 .left) in
     rw (c .answered .ensures)
     (read-done (a .text .now) (a .table .now) (a .block .now) (long p) (r .result) (r .last .1 .0) (r .ensures) (e .before .before .if2 .left) (passes e) (f .if4 .left)
-    (s .supports .result) (found s) (not-false (s .supports .result) (k .before .before .before .if5 .left)) (k .copy .last .1 .0) (k .copy .ensures))
+    (s .supports .result) (found s) t (k .copy .last .1 .0) (k .copy .ensures ∙ s .supports .ensures .same t))
 
 pub read-file-spec : {M : Type 1} → statement M
 read-file-spec =
