@@ -27,7 +27,7 @@ subjectNames = bytesOf "subject marks\n"
 unfoldable pub delegationNames : List ℕ
 delegationNames = bytesOf "\ngiver receiver weight need bar\n"
 
--- the values of a line: of subjects with these marks, from s on; of a delegation
+-- the values of each line: those of subjects with these marks, from s on, and that of a delegation
 abbrev pub subjectRows : ℕ → List ℕ → List (List ℤ)
 subjectRows s [] = []
 subjectRows s (m ∷ ms) = (pos s ∷ pos m ∷ []) ∷ subjectRows (suc s) ms
@@ -66,7 +66,7 @@ pub record FileLines (text : List ℕ) (ss ds : List (List ℤ)) : Type 0 where
   pub delegations : AreRows delegationColumns ds
   pub same : text ≡ fileOf ss ds
 
--- ── what is read of a text ──
+-- ── what is read of a text: its rows are made a block, written again and compared; `FiledRight` fixes it on every text ──
 
 -- the text is refused with this number, 0 where it passes; the register that it holds
 pub record Filed : Type 0 where
