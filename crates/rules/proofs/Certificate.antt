@@ -26,6 +26,18 @@ pub record Certificate (t : List ℤ) (R : Register) (v : ℕ) (L : ℕ → ℤ)
   pub closed : (d : Delegation) → d ∈ R .delegations → Meets R v d → next t (L (d .giver)) (d .weight) ≼ L (d .receiver)
   pub attained : (u : ℕ) → (L u ≡ none) ⊎ ((ds : List Delegation) × IsChain t R u v ds × (L u ≡ limit t ds))
 
+-- no walk carries more than limits that are closed so and at most 255
+pub closed-bound : (t : List ℤ) → TableRule t → (R : Register) (v : ℕ) (L : ℕ → ℤ) → ((d : Delegation) → d ∈ R .delegations → Meets R v d → next t (L (d .giver)) (d .weight) ≼ L (d .receiver)) → ((u : ℕ) → L u ≼ pos 255)
+    → (ds : List Delegation) (a u : ℕ) (l : ℤ) → l ≼ L a → Linked a ds u → ((d : Delegation) → d ∈ ds → d ∈ R .delegations) → ((d : Delegation) → d ∈ ds → Meets R v d) → limitFrom t l ds ≼ L u
+unfolding limitFrom
+closed-bound t rule R v L closed top [] a u l h p at q = subst (λ (x : ℕ). l ≼ L x) p h
+closed-bound t rule R v L closed top (d ∷ ds) a u l h p at q =
+    closed-bound t rule R v L closed top ds (d .receiver) u (next t l (d .weight))
+    (le-trans
+    (next-mono t rule l (L (d .giver)) (d .weight) (d .weight) (subst (λ (x : ℕ). l ≼ L x) (sym (p .0)) h) (top (d .giver)) (le-refl (d .weight)))
+    (closed d (at d (List·Memᴰ·head refl)) (q d (List·Memᴰ·head refl))))
+    (p .1) (λ x i. at x (List·Memᴰ·tail i)) (λ x i. q x (List·Memᴰ·tail i))
+
 module _ (t : List ℤ) (rule : TableRule t) (R : Register) (v : ℕ) (L : ℕ → ℤ) (c : Certificate t R v L) where
   certified-top : (u : ℕ) → L u ≼ pos 255
   certified-top u = go (c .attained u)
@@ -35,22 +47,11 @@ module _ (t : List ℤ) (rule : TableRule t) (R : Register) (v : ℕ) (L : ℕ �
       go (inr r) = subst (λ (x : ℤ). x ≼ pos 255) (sym (r .2)) (limitFrom-top t rule (pos 255) (r .0) (le-refl 256))
 
   -- no walk carries more than the certificate says
-  certified-bound : (ds : List Delegation) (a u : ℕ) (l : ℤ) → l ≼ L a → Linked a ds u → ((d : Delegation) → d ∈ ds → d ∈ R .delegations)
-      → ((d : Delegation) → d ∈ ds → Meets R v d) → limitFrom t l ds ≼ L u
-  unfolding limitFrom
-  certified-bound [] a u l h p at q = subst (λ (x : ℕ). l ≼ L x) p h
-  certified-bound (d ∷ ds) a u l h p at q =
-      certified-bound ds (d .receiver) u (next t l (d .weight))
-      (le-trans
-      (next-mono t rule l (L (d .giver)) (d .weight) (d .weight) (subst (λ (x : ℕ). l ≼ L x) (sym (p .0)) h) (certified-top (d .giver)) (le-refl (d .weight)))
-      (c .closed d (at d (List·Memᴰ·head refl)) (q d (List·Memᴰ·head refl))))
-      (p .1) (λ x i. at x (List·Memᴰ·tail i)) (λ x i. q x (List·Memᴰ·tail i))
+  certified-bound : (ds : List Delegation) (u : ℕ) → Linked 0 ds u → ((d : Delegation) → d ∈ ds → d ∈ R .delegations) → ((d : Delegation) → d ∈ ds → Meets R v d) → limit t ds ≼ L u
+  certified-bound ds u = closed-bound t rule R v L (c .closed) certified-top ds 0 u (pos 255) (subst (λ (x : ℤ). pos 255 ≼ x) (sym (c .owner)) (le-refl 256))
 
   pub certified : (u : ℕ) → reach t R u v ≡ L u
-  certified u = reach-only t R u v (L u) record {
-    bounds = λ ds k. certified-bound ds 0 u (pos 255) (subst (λ (x : ℤ). pos 255 ≼ x) (sym (c .owner)) (le-refl 256)) (k .linked) (k .standing) (k .met);
-    attained = c .attained u;
-  }
+  certified u = reach-only t R u v (L u) record { bounds = λ ds k. certified-bound ds u (k .linked) (k .standing) (k .met); attained = c .attained u }
 
 -- ── walks ──
 
@@ -61,7 +62,7 @@ pub record IsWalk (R : Register) (u v : ℕ) (ds : List Delegation) : Type 0 whe
   pub met : (d : Delegation) → d ∈ ds → Meets R v d
 
 module _ (t : List ℤ) (rule : TableRule t) (R : Register) (v : ℕ) where
-  reach-owner : reach t R 0 v ≡ pos 255
+  pub reach-owner : reach t R 0 v ≡ pos 255
   unfolding limitFrom
   reach-owner = reach-only t R 0 v (pos 255) record {
     bounds = λ ds k. limitFrom-top t rule (pos 255) ds (le-refl 256);
@@ -96,4 +97,4 @@ module _ (t : List ℤ) (rule : TableRule t) (R : Register) (v : ℕ) where
   -- no walk carries more than the best chain
   pub walk-reach : (u : ℕ) (ds : List Delegation) → IsWalk R u v ds → limit t ds ≼ reach t R u v
   walk-reach u ds w =
-      certified-bound t rule R v (λ x. reach t R x v) reach-certificate ds 0 u (pos 255) (subst (λ (l : ℤ). pos 255 ≼ l) (sym reach-owner) (le-refl 256)) (w .linked) (w .standing) (w .met)
+      certified-bound t rule R v (λ x. reach t R x v) reach-certificate ds u (w .linked) (w .standing) (w .met)

@@ -51,7 +51,7 @@ receivers-append : (xs ys : List Delegation) → receivers (xs ++ ys) ≡ receiv
 receivers-append [] ys = refl
 receivers-append (x ∷ xs) ys = λ i. x .receiver ∷ receivers-append xs ys i
 
-distinct-snoc : (xs : List ℕ) (y : ℕ) → Distinct xs → ((x : ℕ) → x ∈ xs → x ≢ y) → Distinct (xs ++ (y ∷ []))
+pub distinct-snoc : (xs : List ℕ) (y : ℕ) → Distinct xs → ((x : ℕ) → x ∈ xs → x ≢ y) → Distinct (xs ++ (y ∷ []))
 distinct-snoc [] y a h = (λ z m. absurd (List·Memᴰ·not-nil m), tt)
 distinct-snoc (x ∷ xs) y a h = (new, distinct-snoc xs y (a .1) (λ z m. h z (List·Memᴰ·tail m)))
   where

@@ -22,6 +22,7 @@ pub mod History
 pub mod Certificate
 pub mod Search
 pub mod Links
+pub mod Order
 pub mod Answers
 pub mod BadOutcomes
 pub mod BadGrants

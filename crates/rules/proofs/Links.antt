@@ -17,7 +17,7 @@ use Rattle.rules.proofs.Chains.{mem-receivers, receivers-mem, distinct-
 use Rattle.rules.proofs.Search.{Found}
 
 -- a list is empty, or has a last element
-last-or : (ds : List Delegation) → (ds ≡ []) ⊎ ((xs : List Delegation) × (d : Delegation) × (ds ≡ xs ++ (d ∷ [])))
+pub last-or : (ds : List Delegation) → (ds ≡ []) ⊎ ((xs : List Delegation) × (d : Delegation) × (ds ≡ xs ++ (d ∷ [])))
 last-or [] = inl refl
 last-or (x ∷ xs) = go (last-or xs)
   where
@@ -25,7 +25,7 @@ last-or (x ∷ xs) = go (last-or xs)
     go (inl e) = inr ([], x, ap (λ (zs : List Delegation). x ∷ zs) e)
     go (inr r) = inr (x ∷ r .0, r .1, ap (λ (zs : List Delegation). x ∷ zs) (r .2))
 
-unsnoc-linked : (xs : List Delegation) (d : Delegation) (a u : ℕ) → Linked a (xs ++ (d ∷ [])) u → Linked a xs (d .giver) × (d .receiver ≡ u)
+pub unsnoc-linked : (xs : List Delegation) (d : Delegation) (a u : ℕ) → Linked a (xs ++ (d ∷ [])) u → Linked a xs (d .giver) × (d .receiver ≡ u)
 unsnoc-linked [] d a u p = (sym (p .0), p .1)
 unsnoc-linked (x ∷ xs) d a u p = let (q, e) = unsnoc-linked xs d (x .receiver) u (p .1) in ((p .0, q), e)
 

@@ -61,6 +61,15 @@ module _ (t : List ℤ) (rule : TableRule t) (R : Register) (v : ℕ) where
         traced = λ d m. absurd (List·Memᴰ·not-nil m);
       })
 
+  -- a settled subject gives no more than its receivers have
+  pub search-closed : (L : ℕ → ℤ) (settled : ℕ → Bool) (parent : ℕ → Delegation) → Search t R v L settled parent [] → (d : Delegation) → d ∈ R .delegations → Meets R v d → T (settled (d .giver))
+      → next t (L (d .giver)) (d .weight) ≼ L (d .receiver)
+  search-closed L settled parent s d m q k = go (s .closed d m q k)
+    where
+      go : (d ∈ []) ⊎ (next t (L (d .giver)) (d .weight) ≼ L (d .receiver)) → next t (L (d .giver)) (d .weight) ≼ L (d .receiver)
+      go (inl n) = absurd (List·Memᴰ·not-nil n)
+      go (inr h) = h
+
   -- the end: what is not settled has no limit
   search-end : (L : ℕ → ℤ) (settled : ℕ → Bool) (parent : ℕ → Delegation) → Search t R v L settled parent [] → ((y : ℕ) → T (not (settled y)) → L y ≡ none) → Certificate t R v L
   unfolding next
@@ -74,18 +83,14 @@ module _ (t : List ℤ) (rule : TableRule t) (R : Register) (v : ℕ) where
       at u (inl e) = inl e
       at u (inr f) = inr (f .links, f .chain, f .carries)
 
-      old : (d : Delegation) → (d ∈ []) ⊎ (next t (L (d .giver)) (d .weight) ≼ L (d .receiver)) → next t (L (d .giver)) (d .weight) ≼ L (d .receiver)
-      old d (inl m) = absurd (List·Memᴰ·not-nil m)
-      old d (inr k) = k
-
       shut : (d : Delegation) → d ∈ R .delegations → Meets R v d → T (settled (d .giver)) ⊎ T (not (settled (d .giver))) → next t (L (d .giver)) (d .weight) ≼ L (d .receiver)
-      shut d m q (inl k) = old d (s .closed d m q k)
+      shut d m q (inl k) = search-closed L settled parent s d m q k
       shut d m q (inr k) = subst (λ (l : ℤ). next t l (d .weight) ≼ L (d .receiver)) (sym (h (d .giver) k)) zero-le
 
   pub search-reach : (L : ℕ → ℤ) (settled : ℕ → Bool) (parent : ℕ → Delegation) → Search t R v L settled parent [] → ((y : ℕ) → T (not (settled y)) → L y ≡ none) → (u : ℕ) → reach t R u v ≡ L u
   search-reach L settled parent s h u = certified t rule R v L (search-end L settled parent s h) u
 
-  search-top : (L : ℕ → ℤ) (settled : ℕ → Bool) (parent : ℕ → Delegation) (ds : List Delegation) → Search t R v L settled parent ds → (u : ℕ) → L u ≼ pos 255
+  pub search-top : (L : ℕ → ℤ) (settled : ℕ → Bool) (parent : ℕ → Delegation) (ds : List Delegation) → Search t R v L settled parent ds → (u : ℕ) → L u ≼ pos 255
   search-top L settled parent ds s u = go (s .found u)
     where
       go : (L u ≡ none) ⊎ Found t R v L settled parent u → L u ≼ pos 255

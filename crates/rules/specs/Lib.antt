@@ -6,6 +6,7 @@ pub mod Condition
 pub mod Chain
 pub mod Reach
 pub mod Links
+pub mod Order
 pub mod Support
 pub mod Pair
 pub mod Round
