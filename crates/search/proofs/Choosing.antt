@@ -1,17 +1,18 @@
 -- The choice of the heaviest of a set, member by member. Assumes nothing.
 use mathlib.Core.Path.{_≡_, sym, ap, subst, _∙_}
 use mathlib.Core.Logic.{_≢_, _⊎_, inl, inr}
-use mathlib.Core.Bool.{true, false}
+use mathlib.Core.Bool.{true, false, not}
 use mathlib.Core.List.{List}
-use Prim.Native.Nat.{ℕ, _<_}
+use Prim.Native.Nat.{ℕ, _≤_, _<_}
 use native.Mathlib.Omega.{arith}
+use lib.Dec.{T, ltb, ltb→lt, nltb→le}
 use lib.ListN.{length, getD}
 use lib.IntN.{ℤ, pos, natAbs}
 use lib.Signed.{ltZ, mag}
 use mir.Syntax.{w16}
 use mir.Val.{ofZ, toZ}
 use Rattle.rules.specs.Limit.{none, code, _≼_}
-use Rattle.rules.proofs.Lists.{yes, no, eqOr}
+use Rattle.rules.proofs.Lists.{yes, no, either, eqOr}
 use Rattle.rules.proofs.Signed.{kept, getD-within, read-limit, more, not-more, code-live, code-pos}
 use Rattle.block.specs.Layout.{mostSubjects}
 use Rattle.queue.specs.Queue.{bit, BitPut, Lowest}
@@ -46,10 +47,12 @@ module _ (l : List ℤ) (i j : ℕ) (h : i < length l) (k : j < length l) where
         differ : code (getD l i none) ≢ code (getD l j none)
         differ e = d (ap (ofZ w16) (getD-within l i (pos 0) none h ∙ code-same (getD l i none) (getD l j none) a b e ∙ getD-within l j none (pos 0) k))
 
--- `best` has those of the set whose limit is the largest, that of `first`, but perhaps some of `rest`
+-- `best` has those of the set whose limit is the largest, that of `first`, which is the lowest of them, but perhaps some of `rest`, all of which are above `first`
 pub record Chosen (l : List ℤ) (set first best rest : ℕ) : Type 0 where
   pub small : first < mostSubjects
   pub member : bit best first ≡ 1
+  pub least : (y : ℕ) → bit best y ≡ 1 → first ≤ y
+  pub above : (y : ℕ) → bit rest y ≡ 1 → first ≤ y
   pub each : (y : ℕ) → bit best y ≡ 1 → (bit set y ≡ 1) × (getD l y none ≡ getD l first none)
   pub among : (y : ℕ) → bit rest y ≡ 1 → bit set y ≡ 1
   pub past : (y : ℕ) → bit set y ≡ 1 → (bit rest y ≡ 1) ⊎ ((bit best y ≡ 1) ⊎ (code (getD l y none) < code (getD l first none)))
@@ -77,11 +80,21 @@ left-over rest rest′ other out y w = go (eqOr other y)
     go (inl e) = absurd (omega (arith, sym (out .here) ∙ ap (bit rest′) e ∙ w))
     go (inr d) = sym (out .others y d) ∙ w
 
+-- no member of a set is below its lowest
+not-below : (set first : ℕ) → Lowest set first → (y : ℕ) → bit set y ≡ 1 → first ≤ y
+not-below set first low y w = go (either (ltb y first))
+  where
+    go : T (ltb y first) ⊎ T (not (ltb y first)) → first ≤ y
+    go (inl h) = absurd (omega (arith, w, low .least y (ltb→lt y first h)))
+    go (inr h) = nltb→le y first h
+
 module _ (l : List ℤ) (set : ℕ) where
   pub chosen-first : (first best rest : ℕ) → Lowest set first → BitPut 0 first 1 best → BitPut set first 0 rest → Chosen l set first best rest
   chosen-first first best rest low one out = record {
     small = low .small;
     member = one .here;
+    least = λ y w. omega (arith, only first best one y w);
+    above = λ y w. not-below set first low y (left-over set rest first out y w);
     each = λ y w. let e = only first best one y w in (ap (bit set) e ∙ low .member, ap (λ (x : ℕ). getD l x none) e);
     among = left-over set rest first out;
     past = λ y w. go y (looked set rest first out y w);
@@ -93,7 +106,7 @@ module _ (l : List ℤ) (set : ℕ) where
 
   module _ (first best rest : ℕ) (chosen : Chosen l set first best rest) where
     pub chosen-last : rest ≡ 0 → Heaviest l set first best
-    chosen-last e = record { small = chosen .small; member = chosen .member; each = chosen .each; rest = λ y w. go y (chosen .past y w) }
+    chosen-last e = record { small = chosen .small; member = chosen .member; least = chosen .least; each = chosen .each; rest = λ y w. go y (chosen .past y w) }
       where
         go : (y : ℕ) → (bit rest y ≡ 1) ⊎ ((bit best y ≡ 1) ⊎ (code (getD l y none) < code (getD l first none))) → (bit best y ≡ 1) ⊎ (code (getD l y none) < code (getD l first none))
         go y (inl w) = absurd (omega (arith, sym (ap (λ (n : ℕ). bit n y) e ∙ bit-zero y) ∙ w))
@@ -123,6 +136,8 @@ module _ (l : List ℤ) (set : ℕ) where
       chosen-heavier one h put = record {
         small = low .small;
         member = put .here;
+        least = λ y w. omega (arith, only other one put y w);
+        above = λ y w. not-below rest other low y (left-over rest rest′ other out y w);
         each = λ y w. let e = only other one put y w in (ap (bit set) e ∙ in-set, ap (λ (x : ℕ). getD l x none) e);
         among = among;
         past = past-by (inl (put .here)) (λ y w. inr (omega (arith, ap code (chosen .each y w .1), h))) (λ y k. inr (omega (arith, k, h)));
@@ -132,6 +147,8 @@ module _ (l : List ℤ) (set : ℕ) where
       chosen-equal more e put = record {
         small = chosen .small;
         member = kept-member first (chosen .member);
+        least = λ y w. lowest y w (eqOr other y);
+        above = λ y w. chosen .above y (left-over rest rest′ other out y w);
         each = λ y w. each y w (eqOr other y);
         among = among;
         past = past-by (inl (put .here)) (λ y w. inl (kept-member y w)) (λ y k. inr k);
@@ -144,9 +161,13 @@ module _ (l : List ℤ) (set : ℕ) where
               go (inl i) = ap (bit more) (sym i) ∙ put .here
               go (inr d) = put .others y d ∙ w
 
+          lowest : (y : ℕ) → bit more y ≡ 1 → (other ≡ y) ⊎ (other ≢ y) → first ≤ y
+          lowest y w (inl i) = omega (arith, i, chosen .above other (low .member))
+          lowest y w (inr d) = chosen .least y (sym (put .others y d) ∙ w)
+
           each : (y : ℕ) → bit more y ≡ 1 → (other ≡ y) ⊎ (other ≢ y) → (bit set y ≡ 1) × (getD l y none ≡ getD l first none)
           each y w (inl i) = (ap (bit set) (sym i) ∙ in-set, ap (λ (x : ℕ). getD l x none) (sym i) ∙ sym e)
           each y w (inr d) = chosen .each y (sym (put .others y d) ∙ w)
 
       pub chosen-lighter : code (getD l other none) < code (getD l first none) → Chosen l set first best rest′
-      chosen-lighter h = record { small = chosen .small; member = chosen .member; each = chosen .each; among = among; past = past-by (inr h) (λ y w. inl w) (λ y k. inr k) }
+      chosen-lighter h = record { small = chosen .small; member = chosen .member; least = chosen .least; above = λ y w. chosen .above y (left-over rest rest′ other out y w); each = chosen .each; among = among; past = past-by (inr h) (λ y w. inl w) (λ y k. inr k) }

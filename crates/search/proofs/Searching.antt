@@ -1,4 +1,4 @@
--- The search on the block: what is lent to it, and that what it finds are the reaches of the register that the block holds. Assumes nothing.
+-- The search on the block: what is lent to it, and that what it finds are the reaches of the register that the block holds, and the order. Assumes nothing.
 use mathlib.Core.Path.{_≡_, refl, sym, ap, subst, _∙_}
 use mathlib.Core.Logic.{_⊎_, inl, inr}
 use mathlib.Core.Bool.{true}
@@ -6,7 +6,7 @@ use mathlib.Core.List.{List, _∷_}
 use Prim.Native.Nat.{ℕ, zero, suc, _+_, _*_, _/_, _≤_, _<_}
 use native.Mathlib.Nat.{zero-add, add-zero, add-suc, suc-add, mul-div-right}
 use native.Mathlib.Omega.{arith}
-use lib.ListN.{length, getD, drop, length-take, length-drop}
+use lib.ListN.{length, getD, take, drop, length-take, length-drop}
 use lib.Seq.{getD-take, getD-drop}
 use lib.IntN.{ℤ, pos}
 use Rattle.rules.specs.List.{_∈_, tabulate}
@@ -16,18 +16,21 @@ use Rattle.rules.specs.Register.{Delegation, Register, marksOf}
 use Rattle.rules.specs.Chain.{limit, IsChain}
 use Rattle.rules.specs.Reach.{chains, reach}
 use Rattle.rules.specs.Links.{linksTo}
+use Rattle.rules.specs.Order.{Due, Precedes, WrittenSo, owner-first, heaviest-next, IsOrder}
 use Rattle.rules.specs.WellFormed.{Rising}
 use Rattle.rules.proofs.Lists.{getD-tabulate}
+use Rattle.rules.proofs.Signed.{getD-within}
 use Rattle.block.specs.Layout.{mostSubjects, mostRecords, recordsAt, recordSize}
 use Rattle.block.specs.Bytes.{IsBytes}
 use Rattle.block.specs.Block.{countIn, recordsIn, decode}
 use Rattle.block.specs.WellFormed.{wellFormed}
+use Rattle.block.proofs.Bytes.{length-tabulate}
 use Rattle.block.proofs.Held.{held-formed, size-held, count-most, delegations-held}
 use Rattle.block.specs.Records.{delegationAt, recordFrom}
 use Rattle.runs.specs.Lent.{recordCount, recordAt, delegationsOf, delegationsIn, Lent}
 use Rattle.runs.proofs.Records.{delegation-same}
 use Rattle.search.specs.Search.{underMarks, parentIn, mostLinks}
-use Rattle.search.specs.Found.{Searched}
+use Rattle.search.specs.Found.{Searched, SettledSo, OrderFound}
 
 tabulate-below : {A : Type 0} (f g : ℕ → A) (i n : ℕ) → ((k : ℕ) → k < n → f (i + k) ≡ g (i + k)) → tabulate f i n ≡ tabulate g i n
 tabulate-below f g i zero h = refl
@@ -44,6 +47,35 @@ reach-marks t R u v = refl
 -- and so do chains
 chain-marks : (t : List ℤ) (R : Register) (u v : ℕ) (ds : List Delegation) → IsChain t (underMarks (R .delegations) (marksOf R v)) u 0 ds → IsChain t R u v ds
 chain-marks t R u v ds c = record { standing = c .standing; linked = c .linked; distinct = c .distinct; met = c .met; live = c .live }
+
+-- and so does the order
+module _ (t : List ℤ) (R : Register) (v : ℕ) where
+  abbrev marked : Register
+  marked = underMarks (R .delegations) (marksOf R v)
+
+  due-marks : (ws : List ℕ) (s : ℕ) → Due t marked 0 ws s → Due t R v ws s
+  unfolding chains reach
+  due-marks ws s d =
+      let c = d .comes in
+      record { unwritten = d .unwritten; reached = d .reached; comes = record { by = c .by; standing = c .standing; from = c .from; to = c .to; met = c .met; limit = c .limit } }
+
+  marks-due : (ws : List ℕ) (s : ℕ) → Due t R v ws s → Due t marked 0 ws s
+  unfolding chains reach
+  marks-due ws s d =
+      let c = d .comes in
+      record { unwritten = d .unwritten; reached = d .reached; comes = record { by = c .by; standing = c .standing; from = c .from; to = c .to; met = c .met; limit = c .limit } }
+
+  precedes-marks : (s y : ℕ) → Precedes t marked 0 s y → Precedes t R v s y
+  unfolding chains reach
+  precedes-marks s y h = h
+
+  written-marks : {ws : List ℕ} → WrittenSo t marked 0 ws → WrittenSo t R v ws
+  written-marks owner-first = owner-first
+  written-marks (heaviest-next {ws} {s} a d h) = heaviest-next (written-marks a) (due-marks ws s d) (λ y e. precedes-marks s y (h y (marks-due ws y e)))
+
+  order-marks : {ws : List ℕ} → IsOrder t marked 0 ws → IsOrder t R v ws
+  unfolding chains reach
+  order-marks o = record { written = written-marks (o .written); reached = o .reached; all = o .all }
 
 module _ (b : List ℕ) (bytes : IsBytes b) (formed : wellFormed b ≡ true) where
   length-records : length (recordsIn b) ≡ recordSize * countIn b
@@ -113,3 +145,15 @@ module _ (b : List ℕ) (bytes : IsBytes b) (formed : wellFormed b ≡ true) whe
                   (subst (λ (x : List Delegation). IsChain t (underMarks x (marksOf (decode b) v)) u 0 (linksTo (parentIn (delegationsIn (recordsIn b)) p) mostLinks u)) records-held (r .0)),
               sym same ∙ r .1,
             )
+
+    -- and the order found is that of the register
+    pub order-found : (xs : List ℕ) (n : ℕ) → SettledSo t (recordsIn b) (marksOf (decode b) v) xs n → OrderFound t (decode b) v l xs n
+    order-found xs n o = record {
+      size = size;
+      limits = λ u h. getD-within l u none (pos 0) (subst (λ (m : ℕ). u < m) (sym size) h) ∙ reach-found u h;
+      within = o .within;
+      order = order-marks t (decode b) v (subst (λ (ds : List Delegation). IsOrder t (underMarks ds (marksOf (decode b) v)) 0 (take n xs)) records-held (o .order));
+    }
+      where
+        size : length l ≡ mostSubjects
+        size = ap length (s .limits) ∙ length-tabulate (λ x. reach t (underMarks (delegationsIn (recordsIn b)) (marksOf (decode b) v)) x 0) 0 mostSubjects

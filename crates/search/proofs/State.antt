@@ -264,3 +264,32 @@ module _ (t : List ℤ) (rule : TableRule t) (s : List ℕ) (marks : ℕ) (settl
           stepped (a + k) (left (suc k)) l′ p′ q′ (omega arith) (here (a + k) (omega arith) (omega arith)) (receivers (a + k) (omega arith))
           (subst (λ (ds : List Delegation). Kept l′ p′ q′ ds) (left-cons k (omega arith)) (ran k l′ p′ q′ before (omega arith))) l″ p″ q″
           (subst (λ (d : Delegation). Stepped t (pos at) marks d (a + k) l′ p′ q′ l″ p″ q″) (record-part s a (recordSize * e - recordSize * a) k (omega arith)) f)
+
+-- level `at` being at hand: whoever is open and has this limit waits here
+abbrev pub AllHere : (ℕ → Bool) → ℕ → List ℤ → List ℕ → Type 0
+AllHere settled at l q = (y : ℕ) → T (not (settled y)) → code (limitOf l y) ≡ suc at → waits q 0 y ≡ 1
+
+module _ (t : List ℤ) (marks : ℕ) (settled : ℕ → Bool) (at : ℕ) where
+  -- one record, from this limit
+  all-stepped : (d : Delegation) (place : ℕ) (l : List ℤ) (p q : List ℕ) (l′ : List ℤ) (p′ q′ : List ℕ) → d .receiver < length l → Stepped t (pos at) marks d place l p q l′ p′ q′ → AllHere settled at l q → AllHere settled at l′ q′
+  all-stepped d place l p q l′ p′ q′ b (inl (none-raised, el, ep, eq)) all = subst (λ (x : List ℤ). AllHere settled at x q′) (sym el) (subst (AllHere settled at l) (sym eq) all)
+  all-stepped d place l p q l′ p′ q′ b (inr (raises, el, ep, put)) all = subst (λ (x : List ℤ). AllHere settled at x q′) (sym el) (λ y o e. go y o e (eqOr (d .receiver) y))
+    where
+      go : (y : ℕ) → T (not (settled y)) → code (limitOf (set l (d .receiver) (next t (pos at) (d .weight))) y) ≡ suc at → (d .receiver ≡ y) ⊎ (d .receiver ≢ y) → waits q′ 0 y ≡ 1
+      go y o e (inr n) = put .others 0 y (inr n) ∙ all y o (ap code (sym (getD-set-other l (d .receiver) y (next t (pos at) (d .weight)) none (λ i. n (sym i)))) ∙ e)
+      go y o e (inl i) =
+          let has : code (next t (pos at) (d .weight)) ≡ suc at = ap code (sym (getD-set-same l (d .receiver) (next t (pos at) (d .weight)) none b)) ∙ ap (λ (x : ℕ). code (limitOf (set l (d .receiver) (next t (pos at) (d .weight))) x)) i ∙ e in
+          let level : natAbs (next t (pos at) (d .weight)) ≡ at = omega (arith, has, code-live (next t (pos at) (d .weight)) (omega (arith, has))) in
+          subst (λ (x : ℕ). waits q′ 0 x ≡ 1) i (subst (λ (x : ℕ). waits q′ x (d .receiver) ≡ 1) (place-here at (natAbs (next t (pos at) (d .weight))) level) (put .here))
+
+  -- the first records of a run
+  pub all-ran : (run : List ℕ) (first : ℕ) (l : List ℤ) (p q : List ℕ) → ((k : ℕ) → k < recordCount run → recordAt run k .receiver < length l) → (k : ℕ) → k ≤ recordCount run → (l′ : List ℤ) (p′ q′ : List ℕ)
+      → SteppedTo t (pos at) marks run first l p q k l′ p′ q′ → AllHere settled at l q → (length l′ ≡ length l) × AllHere settled at l′ q′
+  all-ran run first l p q small k b l′ p′ q′ stepped-none all = (refl, all)
+  all-ran run first l p q small (suc k) b l″ p″ q″ (stepped-more {l′ = l′} {p′ = p′} {q′ = q′} before f) all =
+      let ih = all-ran run first l p q small k (omega (arith, b)) l′ p′ q′ before all in
+      (same f ∙ ih .0, all-stepped (recordAt run k) (first + k) l′ p′ q′ l″ p″ q″ (subst (λ (n : ℕ). recordAt run k .receiver < n) (sym (ih .0)) (small k (omega (arith, b)))) f (ih .1))
+    where
+      same : Stepped t (pos at) marks (recordAt run k) (first + k) l′ p′ q′ l″ p″ q″ → length l″ ≡ length l′
+      same (inl (none-raised, el, ep, eq)) = ap length el
+      same (inr (raises, el, ep, put)) = ap length el ∙ length-set l′ (recordAt run k .receiver) (next t (pos at) (recordAt run k .weight))

@@ -28,8 +28,9 @@ use Rattle.runs.specs.Steps.{SteppedTo, part, Gave, Waiting}
 use Rattle.queue.specs.Queue.{groups, setBits, bit, BitPut, Without, Lowest, waits, groupOf, topOf, Covered, Empty, Taken}
 use Rattle.search.specs.Found.{Searched}
 use Rattle.runs.proofs.Records.{delegation-mem, mem-delegation}
+use Rattle.runs.proofs.Givers.{part-count, part-receivers}
 use Rattle.rules.proofs.Signed.{code-live, code-pos}
-use Rattle.search.proofs.State.{limitOf, isSettled, InGroup, Waits, waits-here, waits-near, waits-far, waits-same, State, state-limit, ran}
+use Rattle.search.proofs.State.{limitOf, isSettled, InGroup, Waits, waits-here, waits-near, waits-far, waits-same, State, state-limit, ran, AllHere, all-ran}
 use Rattle.queue.proofs.Buckets.{bit-zero, bit-small, left, left-falls, members, members-few, members-fall, part-put}
 
 -- how many subjects are open
@@ -56,6 +57,18 @@ bit-open n y e = go (either (isSettled n y))
     go : T (isSettled n y) ⊎ T (not (isSettled n y)) → T (not (isSettled n y))
     go (inl h) = absurd (omega (arith, e, eqb→eq (bit n y) 1 h))
     go (inr h) = h
+
+-- u is settled, and no other
+module _ (n n₁ u : ℕ) (put : BitPut n u 1 n₁) where
+  pub others : (y : ℕ) → u ≢ y → isSettled n₁ y ≡ isSettled n y
+  others y d = ap (λ (x : ℕ). eqb x 1) (put .others y d)
+
+  pub fewer-open : u < mostSubjects → T (not (isSettled n u)) → unsettled n₁ < unsettled n
+  fewer-open h o = left-falls (isSettled n) (isSettled n₁) mostSubjects u h o (eq→eqb (put .here)) (λ y k. kept y k (eqOr u y))
+    where
+      kept : (y : ℕ) → T (isSettled n y) → (u ≡ y) ⊎ (u ≢ y) → T (isSettled n₁ y)
+      kept y k (inl e) = eq→eqb (ap (bit n₁) (sym e) ∙ put .here)
+      kept y k (inr d) = subst T (sym (others y d)) k
 
 module _ (t : List ℤ) (s : List ℕ) (lent : Lent t s (recordCount s)) (marks : ℕ) where
   -- ── the start: the owner alone waits, here ──
@@ -86,6 +99,9 @@ module _ (t : List ℤ) (s : List ℕ) (lent : Lent t s (recordCount s)) (marks 
         owned y (inl e) w = ap code (ap (limitOf l) (sym e) ∙ st .owner)
         owned zero (inr n) w = absurd (n refl)
         owned (suc y) (inr n) w = absurd (omega (arith, sym (bit-zero y) ∙ w))
+
+    pub all-start : AllHere (isSettled 0) 255 l (1 ∷ 0 ∷ q)
+    all-start y o e = ap (bit 1) (sym (only y 255 e (eqOr 0 y) .0))
 
     pub waiting-start : Waiting l q 0
     waiting-start = record { queue = record { size = empty .size; covered = λ g y _. empty .none g y }; limits = λ y. go (eqOr 0 y) }
@@ -163,6 +179,18 @@ module _ (t : List ℤ) (s : List ℕ) (lent : Lent t s (recordCount s)) (marks 
                 go (inr e) = waits-near (g ∙ sym same-group) e
             waiting y z (waits-far g w) = waits-far (λ e. g (e ∙ same-group)) w
 
+        pub all-level : AllHere (isSettled n) level l (here₁ ∷ near₁ ∷ q)
+        all-level y o e = go (now .waiting y level o e)
+          where
+            by : (bit here₁ y ≡ 1) ⊎ (code (limitOf l y) < code (limitOf l (first))) → bit here₁ y ≡ 1
+            by (inl w) = w
+            by (inr h) = absurd (omega (arith, h, e, has-level))
+
+            go : Waits at (here ∷ near ∷ q) y level → bit here₁ y ≡ 1
+            go (waits-here g w) = absurd (omega (arith, w, none-here y))
+            go (waits-near g w) = by (heavy .rest y w)
+            go (waits-far g w) = absurd (g same-group)
+
       -- of the first group in which one may wait
       module _ (none-near : (y : ℕ) → bit near y ≡ 0) (g : ℕ) (first : Lowest far g) (here₁ near₁ : ℕ) (none : here₁ ≡ 0) (q₁ : List ℕ) (tk : Taken q g n near₁ q₁) where
         -- whoever is open waits in this group or below
@@ -220,8 +248,12 @@ module _ (t : List ℤ) (s : List ℕ) (lent : Lent t s (recordCount s)) (marks 
       has-limit = code-pos (limitOf l u) at (now .here u member .1)
 
       module _ (here₁ near₁ n₁ : ℕ) (out : BitPut here u 0 here₁) (off : BitPut near u 0 near₁) (put : BitPut n u 1 n₁) where
-        others : (y : ℕ) → u ≢ y → isSettled n₁ y ≡ isSettled n y
-        others y d = ap (λ (x : ℕ). eqb x 1) (put .others y d)
+        -- who is open then is another, and was open
+        not-it : (y : ℕ) → T (not (isSettled n₁ y)) → u ≢ y
+        not-it y o e = omega (arith, put .here, ap (bit n₁) e ∙ open-bit n₁ y o)
+
+        was-open : (y : ℕ) → T (not (isSettled n₁ y)) → T (not (isSettled n y))
+        was-open y o = subst (λ (b : Bool). T (not b)) (others n n₁ u put y (not-it y o)) o
 
         module _ (l′ : List ℤ) (p′ q′ : List ℕ) (g : Gave t s marks u l p (here₁ ∷ near₁ ∷ q) l′ p′ q′) where
           abbrev gives : List Delegation
@@ -253,6 +285,9 @@ module _ (t : List ℤ) (s : List ℕ) (lent : Lent t s (recordCount s)) (marks 
               high k b e (inl f) = ltb→lt k (g .past) f
               high k b e (inr f) = absurd (omega (arith, g .after k (nltb→le k (g .past) f) b))
 
+          receivers : (k : ℕ) → k < recordCount s → recordAt s k .receiver < mostSubjects
+          receivers k b = lent .receivers (recordAt s k) (delegation-mem s (recordCount s) k b)
+
           opened : State t s marks (isSettled n₁) at l p (here₁ ∷ near₁ ∷ q) gives
           opened = record {
             limits = now .limits;
@@ -264,7 +299,7 @@ module _ (t : List ℤ) (s : List ℕ) (lent : Lent t s (recordCount s)) (marks 
             far = now .far;
             among = now .among;
             search = search-settle t (lent .rule) (underMarks (delegationsIn s) marks) 0 (limitOf l) (isSettled n) (isSettled n₁) (parentIn (delegationsIn s) p) u gives (now .search)
-                (now .here u member .0) (λ y o. omega (arith, now .most y o, now .here u member .1)) (eq→eqb (put .here)) others inRun allRun;
+                (now .here u member .0) (λ y o. omega (arith, now .most y o, now .here u member .1)) (eq→eqb (put .here)) (others n n₁ u put) inRun allRun;
           }
             where
               same : (x y : ℕ) → u ≢ y → waits (here₁ ∷ near₁ ∷ q) x y ≡ waits (here ∷ near ∷ q) x y
@@ -272,14 +307,8 @@ module _ (t : List ℤ) (s : List ℕ) (lent : Lent t s (recordCount s)) (marks 
               same (suc zero) y d = off .others y d
               same (suc (suc x)) y d = refl
 
-              not-it : (y : ℕ) → T (not (isSettled n₁ y)) → u ≢ y
-              not-it y o e = omega (arith, put .here, ap (bit n₁) e ∙ open-bit n₁ y o)
-
-              was-open : (y : ℕ) → T (not (isSettled n₁ y)) → T (not (isSettled n y))
-              was-open y o = subst (λ (b : Bool). T (not b)) (others y (not-it y o)) o
-
               open-still : (y : ℕ) → u ≢ y → T (not (isSettled n y)) → T (not (isSettled n₁ y))
-              open-still y d o = subst (λ (b : Bool). T (not b)) (sym (others y d)) o
+              open-still y d o = subst (λ (b : Bool). T (not b)) (sym (others n n₁ u put y d)) o
 
               here-still : (y : ℕ) → bit here₁ y ≡ 1 → (u ≡ y) ⊎ (u ≢ y) → (u ≢ y) × (bit here y ≡ 1)
               here-still y w (inl e) = absurd (omega (arith, out .here, ap (bit here₁) e ∙ w))
@@ -296,26 +325,24 @@ module _ (t : List ℤ) (s : List ℕ) (lent : Lent t s (recordCount s)) (marks 
               (subst (λ (z : ℤ). SteppedTo t z marks (part s (g .first) (g .past)) (g .first) l p (here₁ ∷ near₁ ∷ q) (g .past - g .first) l′ p′ q′) has-limit (g .stepped)) (omega arith) in
               let none-left : g .past - g .first - (g .past - g .first) ≡ 0 = omega arith in
               subst (λ (m : ℕ). State t s marks (isSettled n₁) at l′ p′ q′ (tabulate (recordAt s) (g .first + (g .past - g .first)) m)) none-left (d .0)
+
+          -- whoever has the limit at hand still waits here
+          pub all-settle : AllHere (isSettled n) at l (here ∷ near ∷ q) → AllHere (isSettled n₁) at l′ q′
+          all-settle all =
+              all-ran t marks (isSettled n₁) at (part s (g .first) (g .past)) (g .first) l p (here₁ ∷ near₁ ∷ q) small-receivers (g .past - g .first) (omega (arith, part-count s (g .first) (g .past) (g .order) (g .within))) l′ p′ q′
+              (subst (λ (z : ℤ). SteppedTo t z marks (part s (g .first) (g .past)) (g .first) l p (here₁ ∷ near₁ ∷ q) (g .past - g .first) l′ p′ q′) has-limit (g .stepped))
+              (λ y o e. out .others y (not-it y o) ∙ all y (was-open y o) e) .1
             where
-              receivers : (k : ℕ) → k < recordCount s → recordAt s k .receiver < mostSubjects
-              receivers k b = lent .receivers (recordAt s k) (delegation-mem s (recordCount s) k b)
+              small-receivers : (k : ℕ) → k < recordCount (part s (g .first) (g .past)) → recordAt (part s (g .first) (g .past)) k .receiver < length l
+              small-receivers k b = subst (λ (m : ℕ). recordAt (part s (g .first) (g .past)) k .receiver < m) (sym (now .limits)) (part-receivers s (g .first) (g .past) (g .order) (g .within) t lent k b)
 
         pub settle-less : u < mostSubjects → (near₂ far₂ : ℕ) → measure n₁ near₂ far₂ < measure n near far
-        settle-less h near₂ far₂ = omega (
-          arith,
-          left-falls (isSettled n) (isSettled n₁) mostSubjects u h (now .here u member .0) (eq→eqb (put .here)) (λ y k. kept y k (eqOr u y)),
-          members-few near₂,
-          members-few far₂,
-        )
-          where
-            kept : (y : ℕ) → T (isSettled n y) → (u ≡ y) ⊎ (u ≢ y) → T (isSettled n₁ y)
-            kept y k (inl e) = eq→eqb (ap (bit n₁) (sym e) ∙ put .here)
-            kept y k (inr d) = subst T (sym (others y d)) k
+        settle-less h near₂ far₂ = omega (arith, fewer-open n n₁ u put h (now .here u member .0), members-few near₂, members-few far₂)
 
   -- ── the end: none waits, here, near or far ──
   module _ (l : List ℤ) (p q : List ℕ) (here near far n at : ℕ) (now : State t s marks (isSettled n) at l p (here ∷ near ∷ q) []) (covered : Covered q far) (none-here : (y : ℕ) → bit here y ≡ 0) (none-near : (y : ℕ) → bit near y ≡ 0)
       (none-far : (g : ℕ) → bit far g ≡ 0) where
-    none-left : (y : ℕ) → T (not (isSettled n y)) → limitOf l y ≡ none
+    pub none-left : (y : ℕ) → T (not (isSettled n y)) → limitOf l y ≡ none
     none-left y o = go (state-limit t (lent .rule) s marks (isSettled n) at l p (here ∷ near ∷ q) [] now y)
       where
         by : (z : ℕ) → Waits at (here ∷ near ∷ q) y z → ⊥

@@ -2,7 +2,7 @@
 use mathlib.Core.Path.{_≡_}
 use mathlib.Core.Logic.{_≢_, _⊎_}
 use mathlib.Core.List.{List}
-use Prim.Native.Nat.{ℕ, _<_}
+use Prim.Native.Nat.{ℕ, _≤_, _<_}
 use lib.ListN.{length, getD}
 use lib.IntN.{ℤ, pos}
 use Rattle.rules.specs.Limit.{none, code, _≼_}
@@ -16,10 +16,11 @@ pub record IsLimits (l : List ℤ) : Type 0 where
   pub size : length l ≡ mostSubjects
   pub each : (y : ℕ) → (getD l y none ≡ none) ⊎ (pos 0 ≼ getD l y none)
 
--- r has those of the set whose limit is the largest of theirs; `first` is one of them
+-- r has those of the set whose limit is the largest of theirs; `first` is the lowest of them
 pub record Heaviest (l : List ℤ) (set first r : ℕ) : Type 0 where
   pub small : first < mostSubjects
   pub member : bit r first ≡ 1
+  pub least : (y : ℕ) → bit r y ≡ 1 → first ≤ y
   pub each : (y : ℕ) → bit r y ≡ 1 → (bit set y ≡ 1) × (getD l y none ≡ getD l first none)
   pub rest : (y : ℕ) → bit set y ≡ 1 → (bit r y ≡ 1) ⊎ (code (getD l y none) < code (getD l first none))
 
@@ -30,7 +31,7 @@ turnOf sets u = record { subject = u; here = sets .here; near = sets .near; far 
 abbrev pub setsOf : Turn → Sets
 setsOf t = record { here = t .here; near = t .near; far = t .far }
 
--- the heaviest of those who wait near wait here then, and it is the turn of one of them
+-- the heaviest of those who wait near wait here then, and it is the turn of the lowest of them
 pub record LevelTaken (l : List ℤ) (sets : Sets) (turn : Turn) : Type 0 where
   pub heaviest : Heaviest l (sets .near) (turn .subject) (turn .here)
   pub near : Without (sets .near) (turn .here) (turn .near)

@@ -1,19 +1,22 @@
 // The search for reach: for one receiver's marks, the largest limit of every subject.
 ghost use mathlib.Core.Path.{_≡_};
 ghost use mathlib.Core.Logic.{_≢_};
-ghost use lib.ListN.{length};
-ghost use Rattle.queue.specs.Queue.{groups, Empty};
+ghost use Prim.Native.Nat.{_+_, _<_};
+ghost use lib.ListN.{length, set};
+ghost use Rattle.block.specs.Layout.{mostSubjects};
+ghost use Rattle.queue.specs.Queue.{groups};
 ghost use Rattle.runs.specs.Lent.{SubjectLists};
 ghost use Rattle.runs.specs.Steps.{Indexed};
 ghost use Rattle.search.specs.Search.{Started};
-ghost use Rattle.search.specs.Turns.{IsLimits, Heaviest, turnOf, LevelSought, GroupSought, AtHand};
-ghost use Rattle.search.specs.Found.{Searched};
+ghost use Rattle.search.specs.Turns.{IsLimits, Heaviest, turnOf, setsOf, LevelSought, GroupSought, AtHand};
+ghost use Rattle.search.specs.Found.{OrderLent, SearchMade};
 use block::layout;
 
 mod on_block;
 
 pub use on_block::limits_by;
 pub use on_block::limits_for;
+pub use on_block::order_of;
 pub use on_block::reach_of;
 pub use on_block::starts_of;
 
@@ -39,7 +42,7 @@ struct Turn {
     far: u64,
 }
 
-// A level: the subjects that wait at it, and one of them.
+// A level: the subjects that wait at it, and the lowest of them.
 struct Level {
     first: usize,
     set: u64,
@@ -82,7 +85,18 @@ fn turn_of(sets: queue::Sets, subject: usize) -> Turn
     }
 }
 
-// The heaviest of those who wait near wait here then, if any does, and it is the turn of one of them.
+// Those who wait.
+fn sets_of(turn: Turn) -> queue::Sets
+    ensures { λ r. ⌜ r ≡ setsOf turn ⌝ }
+{
+    queue::Sets {
+        here: turn.here,
+        near: turn.near,
+        far: turn.far,
+    }
+}
+
+// The heaviest of those who wait near wait here then, if any does, and it is the turn of the lowest of them.
 fn next_level(limits: &[i16], sets: queue::Sets) -> Turn
     requires { ⌜ IsLimits (now limits) ⌝ }
     ensures { λ r. ⌜ LevelSought (now (limits .entry)) sets r ⌝ }
@@ -127,9 +141,18 @@ fn at_hand(limits: &[i16], waiting: &mut [u64], settled: u64, sets: queue::Sets)
     next_level(limits, group)
 }
 
-// The reach of every subject, and for each subject that has one the place of the record by which it is reached.
-// Subjects are settled from the largest limit down; one that was raised after it began to wait is settled at its new limit.
-// The queue is lent empty and left empty.
+// One subject more in a list of subjects; how many they are then.
+fn append(order: &mut [u8], count: usize, subject: usize) -> usize
+    requires { ⌜ (count < length (now order)) × (subject < mostSubjects) ⌝ }
+    ensures { λ r. ⌜ (r ≡ count + 1) × (now (order .exit) ≡ set (now (order .entry)) count subject) ⌝ }
+{
+    order[count] = subject as u8;
+    count + 1
+}
+
+// The reach of every subject, for each subject that has one the place of the record by which it is reached, and these subjects in the
+// order in which they are settled; how many they are. They are settled from the largest limit down, of equal ones the lowest first; one
+// that was raised after it began to wait is settled at its new limit. The queue is lent empty and left empty.
 fn search(
     records: &[u8],
     starts: &[u16],
@@ -138,23 +161,22 @@ fn search(
     limits: &mut [i16],
     parents: &mut [u16],
     waiting: &mut [u64],
-)
-    requires { ⌜ Indexed (now table) (now records) (now starts) × SubjectLists (now limits) (now parents) × Empty (now waiting) ⌝ }
-    ensures { λ _. ⌜ Searched (now (table .entry)) (now (records .entry)) marks (now (limits .exit)) (now (parents .exit)) × Empty (now (waiting .exit)) ⌝ }
+    order: &mut [u8],
+) -> usize
+    requires { ⌜ Indexed (now table) (now records) (now starts) × OrderLent (now limits) (now parents) (now waiting) (now order) ⌝ }
+    ensures { λ r. ⌜ SearchMade (now (table .entry)) (now (records .entry)) marks (now (limits .exit)) (now (parents .exit)) (now (waiting .exit)) (now (order .exit)) r ⌝ }
 {
     start(limits, parents);
     let mut sets = queue::first();
     let mut settled: u64 = 0;
+    let mut count: usize = 0;
     while (sets.here | sets.near | sets.far) != 0 {
         let turn = at_hand(limits, waiting, settled, sets);
-        sets = queue::Sets {
-            here: turn.here,
-            near: turn.near,
-            far: turn.far,
-        };
+        sets = sets_of(turn);
         if turn.here != 0 {
             let u = turn.subject;
             settled = queue::with(settled, u);
+            count = append(order, count, u);
             sets = runs::relax_giver(
                 records,
                 starts,
@@ -168,4 +190,5 @@ fn search(
             );
         }
     }
+    count
 }

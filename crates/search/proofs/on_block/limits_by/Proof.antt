@@ -1,27 +1,14 @@
--- `search::limits_by` finds the reaches of a receiver. Assumes nothing.
+-- `search::limits_by` finds the reaches of a receiver; the order it keeps to itself. Assumes nothing.
+use mathlib.Core.Path.{refl}
 use borrow.Author.Needs.{needs}
-use Rattle.block.specs.Bytes.{IsBytes}
-use Rattle.block.proofs.Bytes.{fits-bytes}
-use Rattle.block.proofs.Held.{has-marks, has-records, marks-held}
-use Rattle.search.proofs.Searching.{lent-held}
 use Rattle.search.proofs.on_block.limits_by.Statement.{statement}
 use Rattle.search.proofs.on_block.limits_by.Tie as tie
 
-bytes : (c : tie.After-shared-slice-known) → IsBytes (c .before .args .block .now)
-bytes c = fits-bytes (c .before .args .block .now) (c .shared-slice-known .given)
+slice-aggregate-search-by : tie.Need-slice-aggregate-search-by
+slice-aggregate-search-by c = search needs
 
-marks-requires : tie.Need-marks-requires
-marks-requires c κs =
-    let s = c .before .before .before .before in
-    has-marks (s .args .block .now) (bytes (c .before .before .before)) (s .pre .0 .block .formed) (s .args .receiver) (s .pre .1)
-
-records-requires : tie.Need-records-requires
-records-requires c κs = has-records (c .before .before .before .before .before .args .block .now) (bytes (c .before .before .before .before)) (c .before .before .before .before .before .pre .0 .block .formed)
-
-search-requires : tie.Need-search-requires
-search-requires c κs =
-    let s = c .before .before .before .before .before .before .before .before .before in
-    rw (c .before .before .before .records .ensures) (record { lent = lent-held (s .args .block .now) (bytes (c .before .before .before .before .before .before .before .before)) (s .pre .0 .block .formed) (s .args .table .now) (s .pre .0 .block .rule); starts = s .pre .0 .starts }, s .pre .2 .lists, s .pre .2 .queue)
+search-by-requires : tie.Need-search-by-requires
+search-by-requires c κs = let s = c .before .before .before .before .before .before .before .before in (s .pre .0, s .pre .1, record { search = s .pre .2; order = refl })
 
 same-length : tie.Need-same-length
 same-length c = search needs
@@ -33,11 +20,7 @@ same-length-3 : tie.Need-same-length-3
 same-length-3 c = search needs
 
 returns : tie.Need-returns
-returns c =
-    let s = c .before .before .before .before .before .before .before .before .before .before .before .before .before .before .before in
-    rw (c .before .before .before .before .before .before .before .before .before .records .ensures, c .before .before .before .before .before .before .before .before .before .before .marks .ensures, marks-held (s .args .block .now) (bytes (c .before .before .before .before .before .before .before .before .before .before .before .before .before .before)) (s .pre .0 .block .formed) (s .args .receiver) (s .pre .1)) at (c .before .before .before .before .before .search .ensures)
+returns c = let o = c .before .before .before .before .before .before .search-by .ensures in (o .searched, o .empty)
 
 pub limits-by-spec : {M : Type 1} → statement M
-limits-by-spec =
-    tie.close
-    (tie.spec marks-requires records-requires search-requires same-length same-length-2 same-length-3 returns)
+limits-by-spec = tie.close (tie.spec slice-aggregate-search-by search-by-requires same-length same-length-2 same-length-3 returns)
