@@ -6,31 +6,34 @@ use mathlib.Core.List.{List, [], _∷_, _++_}
 use Prim.Native.Nat.{ℕ}
 use native.Mathlib.Omega.{arith}
 use borrow.Author.Tests.{eq-eqb}
-use lib.Dec.{T, eqb, eqb→eq}
+use lib.Dec.{T, leb, eqb, eqb→eq, nleb→lt}
 use lib.ListN.{length}
 use lib.IntN.{ℤ}
 use Rattle.rules.specs.Call.{Call, enrol, grant, revoke, downgrade, askReach, askUse}
-use Rattle.rules.specs.Refusal.{firstOf, passed, held}
-use Rattle.rules.proofs.Refusals.{numbered, passed-numbered, firstOf-append, firstOf-none, firstOf-some}
-use Rattle.rules.proofs.Lists.{eqOr}
+use Rattle.rules.specs.Refusal.{firstOf, passed, held, orderPassed, orderHeld}
+use Rattle.rules.proofs.Refusals.{numbered, passed-numbered, passes-of, firstOf-append, firstOf-none, firstOf-some, firstOf-left}
+use Rattle.rules.proofs.Lists.{not-or-left, eqOr}
 use Rattle.block.specs.Layout.{blockSize}
 use Rattle.block.specs.Block.{decode}
 use Rattle.block.specs.WellFormed.{wellFormed}
 use Rattle.steptable.specs.TableText.{lent}
 use Rattle.steptable.specs.declared.Given.{Given}
-use Rattle.refusals.specs.Early.{wrongLength, textRefused, notWellFormed, early, refusalOn}
-use Rattle.refusals.specs.Checked.{InLimits, Checked}
+use Rattle.refusals.specs.Early.{wrongLength, textRefused, notWellFormed, earlyBy, early, refusalOn, orderRefusal}
+use Rattle.refusals.specs.Checked.{InLimits, Checked, Receives}
 use Rattle.refusals.proofs.InLimits.{in-limits}
 
--- none of them applies
-pub record Early (n : ℕ) (b : List ℕ) (c : Call) : Type 0 where
+-- none of them applies, ps being those by what was passed
+pub record EarlyBy (n : ℕ) (b : List ℕ) (ps : List (ℕ × Bool)) : Type 0 where
   pub size : length b ≡ blockSize
-  pub passed : firstOf (passed c) ≡ 0
+  pub passed : firstOf ps ≡ 0
   pub text : firstOf (textRefused n) ≡ 0
   pub formed : wellFormed b ≡ true
 
-checked : {n : ℕ} {b : List ℕ} {c : Call} → Early n b c → Checked b c
-checked {n} {b} {c} h = record { formed = h .formed; numbers = in-limits c (h .passed) }
+abbrev pub Early : ℕ → List ℕ → Call → Type 0
+Early n b c = EarlyBy n b (passed c)
+
+checked : (n : ℕ) (b : List ℕ) (c : Call) → Early n b c → Checked b c
+checked n b c h = record { formed = h .formed; numbers = in-limits c (h .passed) }
 
 -- what follows those by what was passed
 abbrev later : ℕ → List ℕ → List (ℕ × Bool)
@@ -40,34 +43,45 @@ later n b = textRefused n ++ (notWellFormed b ∷ [])
 abbrev earlyOf : ℕ → List ℕ → ℕ → List (ℕ × Bool)
 earlyOf n b p = wrongLength b ∷ (p, not (eqb p 0)) ∷ later n b
 
-module _ (n : ℕ) (b : List ℕ) (c : Call) where
+module _ (n : ℕ) (b : List ℕ) (ps : List (ℕ × Bool)) (all : T (numbered ps)) where
   -- the refusals by what was passed, as one number
-  pub early-one : firstOf (early n b c) ≡ firstOf (earlyOf n b (firstOf (passed c)))
-  early-one =
-      ap (λ (m : ℕ). cond (not (eqb (length b) blockSize)) 1 m) (firstOf-append (passed c) (later n b) (passed-numbered c) ∙ turn (eqb (firstOf (passed c)) 0) (firstOf (later n b)) (firstOf (passed c)))
+  by-one : firstOf (earlyBy n b ps) ≡ firstOf (earlyOf n b (firstOf ps))
+  by-one =
+      ap (λ (m : ℕ). cond (not (eqb (length b) blockSize)) 1 m) (firstOf-append ps (later n b) all ∙ turn (eqb (firstOf ps) 0) (firstOf (later n b)) (firstOf ps))
     where
       turn : (x : Bool) (m k : ℕ) → cond x m k ≡ cond (not x) k m
       turn true m k = refl
       turn false m k = refl
 
-  pub early-none : firstOf (early n b c) ≡ 0 → Early n b c
-  early-none e = go (eqb (length b) blockSize) (eqb (firstOf (passed c)) 0) (eqb n 7) (eqb n 17) (wellFormed b) refl refl refl refl refl (sym early-one ∙ e)
+  by-none : firstOf (earlyBy n b ps) ≡ 0 → EarlyBy n b ps
+  by-none e = go (eqb (length b) blockSize) (eqb (firstOf ps) 0) (eqb n 7) (eqb n 17) (wellFormed b) refl refl refl refl refl (sym by-one ∙ e)
     where
-      go : (x y u v z : Bool) → eqb (length b) blockSize ≡ x → eqb (firstOf (passed c)) 0 ≡ y → eqb n 7 ≡ u → eqb n 17 ≡ v → wellFormed b ≡ z
-          → cond (not x) 1 (cond (not y) (firstOf (passed c)) (cond u 7 (cond v 17 (cond (not z) 8 0)))) ≡ 0 → Early n b c
+      go : (x y u v z : Bool) → eqb (length b) blockSize ≡ x → eqb (firstOf ps) 0 ≡ y → eqb n 7 ≡ u → eqb n 17 ≡ v → wellFormed b ≡ z
+          → cond (not x) 1 (cond (not y) (firstOf ps) (cond u 7 (cond v 17 (cond (not z) 8 0)))) ≡ 0 → EarlyBy n b ps
       go true true false false true p q s t f h =
-          record { size = eqb→eq (length b) blockSize (subst T (sym p) tt); passed = eqb→eq (firstOf (passed c)) 0 (subst T (sym q) tt); text = rw (s, t); formed = f }
+          record { size = eqb→eq (length b) blockSize (subst T (sym p) tt); passed = eqb→eq (firstOf ps) 0 (subst T (sym q) tt); text = rw (s, t); formed = f }
       go true true true v z p q s t f h = absurd (omega arith)
       go true true false true z p q s t f h = absurd (omega arith)
       go true true false false false p q s t f h = absurd (omega arith)
-      go true false u v z p q s t f h = absurd (subst T (sym (eq-eqb (firstOf (passed c)) 0 h) ∙ q) tt)
+      go true false u v z p q s t f h = absurd (subst T (sym (eq-eqb (firstOf ps) 0 h) ∙ q) tt)
       go false y u v z p q s t f h = absurd (omega arith)
 
-  pub none-early : Early n b c → firstOf (early n b c) ≡ 0
-  none-early h =
+  none-by : EarlyBy n b ps → firstOf (earlyBy n b ps) ≡ 0
+  none-by h =
       let s = eq-eqb (length b) blockSize (h .size) in
-      let p = eq-eqb (firstOf (passed c)) 0 (h .passed) in
-      early-one ∙ (λ j. cond (not (s j)) 1 (cond (not (p j)) (firstOf (passed c)) (firstOf (later n b)))) ∙ firstOf-none (textRefused n) (notWellFormed b ∷ []) tt (h .text) ∙ (λ j. cond (not (h .formed j)) 8 0)
+      let p = eq-eqb (firstOf ps) 0 (h .passed) in
+      by-one ∙ (λ j. cond (not (s j)) 1 (cond (not (p j)) (firstOf ps) (firstOf (later n b)))) ∙ firstOf-none (textRefused n) (notWellFormed b ∷ []) tt (h .text) ∙ (λ j. cond (not (h .formed j)) 8 0)
+
+  -- as the code finds the first of them
+  by-found : {p m : ℕ} → p ≡ firstOf ps → m ≡ firstOf (earlyOf n b p) → firstOf (earlyBy n b ps) ≡ m
+  by-found e q = by-one ∙ ap (λ (k : ℕ). firstOf (earlyOf n b k)) (sym e) ∙ sym q
+
+module _ (n : ℕ) (b : List ℕ) (c : Call) where
+  pub early-none : firstOf (early n b c) ≡ 0 → Early n b c
+  early-none = by-none n b (passed c) (passed-numbered c)
+
+  pub none-early : Early n b c → firstOf (early n b c) ≡ 0
+  none-early = none-by n b (passed c) (passed-numbered c)
 
 -- ── the whole refusal ──
 early-numbered : (n : ℕ) (b : List ℕ) (c : Call) → T (numbered (early n b c))
@@ -101,7 +115,7 @@ module _ (g : Given) (b : List ℕ) (c : Call) where
   through z = go (eqOr first 0)
     where
       go : (first ≡ 0) ⊎ (first ≢ 0) → Through g b c
-      go (inl e) = let h = early-none (g .refusal) b c e in record { early = h; numbers = checked h .numbers; held = sym (refused-held h) ∙ z }
+      go (inl e) = let h = early-none (g .refusal) b c e in record { early = h; numbers = checked (g .refusal) b c h .numbers; held = sym (refused-held h) ∙ z }
       go (inr k) = absurd (k (refused-early first refl k ∙ z))
 
 -- ── the whole refusal, as the code finds it ──
@@ -117,10 +131,34 @@ pub record EarlyFound (x : ℕ) (b : List ℕ) (c : Call) (n : ℕ) : Type 0 whe
 pub early-found : {x : ℕ} {b : List ℕ} {c : Call} {p n : ℕ} → p ≡ firstOf (passed c) → n ≡ firstOf (earlyOf x b p) → EarlyFound x b c n
 early-found {x} {b} {c} {p} {n} e q = record {
   first = first;
-  checked = λ z. checked (early-none x b c (first ∙ z));
+  checked = λ z. checked x b c (early-none x b c (first ∙ z));
   refused = λ k t. refused-early (lent x t) b c n first k;
   late = λ z t h r. r ∙ sym (refused-held (lent x t) b c (early-none x b c (first ∙ z)));
 }
   where
     first : firstOf (early x b c) ≡ n
-    first = early-one x b c ∙ ap (λ (m : ℕ). firstOf (earlyOf x b m)) (sym e) ∙ sym q
+    first = by-found x b (passed c) (passed-numbered c) e q
+
+-- ── the order call ──
+module _ (n : ℕ) (b : List ℕ) (v : ℕ) where
+  abbrev tests : List (ℕ × Bool)
+  tests = earlyBy n b (orderPassed v)
+
+  pub order-early : {p m : ℕ} → p ≡ firstOf (orderPassed v) → m ≡ firstOf (earlyOf n b p) → m ≢ 0 → m ≡ orderRefusal n b v
+  unfolding orderRefusal
+  order-early {m = m} e q k = sym (firstOf-some tests (orderHeld (decode b) v) m tt (by-found n b (orderPassed v) tt e q) k)
+
+  module _ {p m : ℕ} (e : p ≡ firstOf (orderPassed v)) (q : m ≡ firstOf (earlyOf n b p)) (z : m ≡ 0) where
+    pub order-formed : wellFormed b ≡ true
+    order-formed = by-none n b (orderPassed v) tt (by-found n b (orderPassed v) tt e q ∙ z) .formed
+
+    pub order-held : (h : ℕ) → h ≡ firstOf (orderHeld (decode b) v) → h ≡ orderRefusal n b v
+    unfolding orderRefusal
+    order-held h r = r ∙ sym (firstOf-none tests (orderHeld (decode b) v) tt (by-found n b (orderPassed v) tt e q ∙ z))
+
+  pub order-through : orderRefusal n b v ≡ 0 → Receives b v
+  unfolding orderRefusal decode
+  order-through z =
+      let e = firstOf-left tests (orderHeld (decode b) v) tt z in
+      let p = passes-of (orderHeld (decode b) v) tt (sym (firstOf-none tests (orderHeld (decode b) v) tt e) ∙ z) in
+      record { formed = by-none n b (orderPassed v) tt e .formed; receiver = nleb→lt (decode b .subjects) v (not-or-left (leb (decode b .subjects) v) false (p 9)) }

@@ -31,3 +31,8 @@ pub record BothEnrolled (b : List ℕ) (g r : ℕ) : Type 0 where
   pub formed : wellFormed b ≡ true
   pub giver : g < subjectsIn b
   pub receiver : r < subjectsIn b
+
+-- past all tests of the order call
+pub record Receives (b : List ℕ) (v : ℕ) : Type 0 where
+  pub formed : wellFormed b ≡ true
+  pub receiver : v < subjectsIn b

@@ -1,19 +1,23 @@
--- The refusals of a call on any list of bytes (document 01, 'Turned back by what was passed' and 'by what the register holds'; document 02, C-11 and C-13). Assumes nothing.
+-- The refusals of a call on any list of bytes (document 01, 'Turned back by what was passed' and 'by what the register holds'; document 02, C-11, C-13 and C-14). Assumes nothing.
 use mathlib.Core.Bool.{Bool, not, _||_}
 use mathlib.Core.List.{List, [], _∷_, _++_}
 use Prim.Native.Nat.{ℕ}
 use lib.Dec.{eqb, ltb}
 use lib.ListN.{length}
 use Rattle.rules.specs.Call.{Call}
-use Rattle.rules.specs.Refusal.{firstOf, passed, held}
+use Rattle.rules.specs.Refusal.{firstOf, passed, held, orderPassed, orderHeld}
 use Rattle.block.specs.Layout.{blockSize}
 use Rattle.block.specs.Block.{decode}
 use Rattle.block.specs.WellFormed.{wellFormed}
 use Rattle.steptable.specs.declared.Given.{Given}
 
+-- 1: not n bytes
+abbrev pub notBytes : ℕ → List ℕ → ℕ × Bool
+notBytes n s = (1, not (eqb (length s) n))
+
 -- 1: the block is not 2,180 bytes
 abbrev pub wrongLength : List ℕ → ℕ × Bool
-wrongLength b = (1, not (eqb (length b) blockSize))
+wrongLength b = notBytes blockSize b
 
 -- 1: so, or a lent buffer is under n bytes
 abbrev pub wrongLengths : ℕ → List ℕ → List ℕ → ℕ × Bool
@@ -27,10 +31,17 @@ notWellFormed b = (8, not (wellFormed b))
 abbrev pub textRefused : ℕ → List (ℕ × Bool)
 textRefused n = (7, eqb n 7) ∷ (17, eqb n 17) ∷ []
 
--- what comes before the refusals by what the register holds: 1, those by what was passed, 7 and 17 by the table's text, 8
+-- what comes before the refusals by what the register holds: 1, those by what was passed, ps, 7 and 17 by the table's text, 8
+abbrev pub earlyBy : ℕ → List ℕ → List (ℕ × Bool) → List (ℕ × Bool)
+earlyBy n b ps = wrongLength b ∷ (ps ++ (textRefused n ++ (notWellFormed b ∷ [])))
+
 abbrev pub early : ℕ → List ℕ → Call → List (ℕ × Bool)
-early n b c = wrongLength b ∷ (passed c ++ (textRefused n ++ (notWellFormed b ∷ [])))
+early n b c = earlyBy n b (passed c)
 
 -- the whole refusal of a call on a block: the first that applies of these and of those by what the register holds
 unfoldable pub refusalOn : Given → List ℕ → Call → ℕ
 refusalOn g b c = firstOf (early (g .refusal) b c ++ held (g .steps) (decode b) c)
+
+-- the refusal of the order call for the receiver v on a block, where the table's text is refused with n
+unfoldable pub orderRefusal : ℕ → List ℕ → ℕ → ℕ
+orderRefusal n b v = firstOf (earlyBy n b (orderPassed v) ++ orderHeld (decode b) v)

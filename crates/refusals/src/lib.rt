@@ -15,7 +15,7 @@ ghost use Rattle.rules.specs.Register.{granted};
 ghost use Rattle.rules.specs.Call.{enrol, grant, revoke, downgrade, askReach, askUse};
 ghost use Rattle.rules.specs.Refusal.{firstOf};
 ghost use Rattle.steptable.specs.TableText.{lent, ours};
-ghost use Rattle.refusals.specs.Early.{wrongLength, textRefused, notWellFormed, refusalOn};
+ghost use Rattle.refusals.specs.Early.{wrongLength, textRefused, notWellFormed, refusalOn, orderRefusal};
 ghost use Rattle.refusals.specs.Joined.{orElse};
 use block::layout;
 pub use held::both_enrolled;
@@ -146,6 +146,17 @@ pub fn downgrade_refusal(
         return n;
     }
     held::downgrade_held(block, by, giver, receiver, weight)
+}
+
+// Of the order call, its lent buffer aside.
+pub fn order_refusal(block: &[u8], fault: u32, receiver: u32) -> u32
+    ensures { λ r. ⌜ r ≡ orderRefusal fault (now (block .entry)) receiver ⌝ }
+{
+    let n = early(block, passed::order_passed(receiver), fault);
+    if n != 0 {
+        return n;
+    }
+    held::not_enrolled(0, block, receiver)
 }
 
 // What a call that fills a lent buffer tells and hands back: its refusal, 0 when accepted, and the filled front of the buffer.

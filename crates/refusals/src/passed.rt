@@ -3,7 +3,7 @@ ghost use mathlib.Core.Path.{_≡_};
 ghost use mathlib.Core.List.{[], _∷_};
 ghost use Rattle.rules.specs.Register.{granted};
 ghost use Rattle.rules.specs.Call.{enrol, grant, revoke, downgrade, askReach, askUse};
-ghost use Rattle.rules.specs.Refusal.{firstOf, noSubject, noWeight, noMarks, noCondition, equalPair, toOwner, passed};
+ghost use Rattle.rules.specs.Refusal.{firstOf, noSubject, noWeight, noMarks, noCondition, equalPair, toOwner, passed, orderPassed};
 ghost use Rattle.refusals.specs.Joined.{orElse};
 use crate::tested;
 use rules::most;
@@ -65,6 +65,14 @@ pub fn use_passed(subject: u32) -> u32
     ensures { λ r. ⌜ r ≡ firstOf (passed (askUse subject)) ⌝ }
 {
     no_subject(0, subject)
+}
+
+// Of the order call.
+pub fn order_passed(receiver: u32) -> u32
+    ensures { λ r. ⌜ r ≡ firstOf (orderPassed receiver) ⌝ }
+{
+    let n = no_subject(0, receiver);
+    to_owner(n, receiver)
 }
 
 // Of a call that names a pair: reach, and the chain call.

@@ -1,4 +1,4 @@
--- Refusals (document 01, 'Turned back by what was passed' and 'Turned back by what the register holds'; document 02, C-12 and C-13): each number with the test under which it applies, and for each call
+-- Refusals (document 01, 'Turned back by what was passed' and 'Turned back by what the register holds'; document 02, C-12 to C-14): each number with the test under which it applies, and for each call
 -- two ordered lists of them. The refusal is the first that applies of 1, `passed`, 8 and `held`; 1 and 8 speak of bytes and have no place in a register. Assumes nothing.
 use mathlib.Core.Bool.{Bool, cond, not, _&&_, _||_}
 use mathlib.Core.List.{List, [], _∷_, _++_}
@@ -115,3 +115,10 @@ chainPassed g r = noSubject (g ∷ r ∷ []) ∷ equalPair g r ∷ toOwner r ∷
 
 abbrev pub chainHeld : List ℤ → Register → ℕ → ℕ → List (ℕ × Bool)
 chainHeld t R g r = notEnrolled R (g ∷ r ∷ []) ∷ noPair R g r ∷ overweight t R (filter (isPair g r) (R .delegations)) ∷ []
+
+-- ── the order call (document 02, C-14), which is in no list: it changes no register ──
+abbrev pub orderPassed : ℕ → List (ℕ × Bool)
+orderPassed v = noSubject (v ∷ []) ∷ toOwner v ∷ []
+
+abbrev pub orderHeld : Register → ℕ → List (ℕ × Bool)
+orderHeld R v = notEnrolled R (v ∷ []) ∷ []
