@@ -135,6 +135,11 @@ pub fn chain(giver: u32, receiver: u32, buffer: u32) -> Passed {
     Passed { giver, receiver, weight: buffer, ..blank(Call::Chain) }
 }
 
+/// The buffer's length is passed as the weight.
+pub fn order(receiver: u32, buffer: u32) -> Passed {
+    Passed { receiver, weight: buffer, ..blank(Call::Order) }
+}
+
 /// The grant call of a listed delegation.
 pub fn grant_of(&(giver, receiver, weight, need, bar): &Grant) -> Passed {
     grant(giver as u32, receiver as u32, weight as u32, need as u32, bar as u32)
