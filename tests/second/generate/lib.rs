@@ -1,5 +1,5 @@
 //! The cases that every implementation is compared on: block-level ones in
-//! five kinds, those of register files, lists of calls, and call files.
+//! five kinds, those of register files, orders, lists of calls, and call files.
 
 pub mod broken;
 pub mod callfiles;
@@ -11,6 +11,8 @@ pub mod limits;
 pub mod listfiles;
 pub mod lists;
 pub mod malformed;
+pub mod orderregisters;
+pub mod orders;
 pub mod raises;
 pub mod refusals;
 pub mod registerfiles;
