@@ -197,14 +197,15 @@ fn ordered(engine: &Engine, n: &Passed, text: &[u8], block: &[u8]) -> (Written, 
     (written, buffer)
 }
 
-/// The bytes written, and twice 1 if the rest of the buffer is kept.
+/// The answers of an order that filled so much of the buffer.
 pub fn order_outcome(written: &Written, buffer: &[u8]) -> Outcome {
-    if written.refusal != 0 {
-        return Outcome { refusal: written.refusal, answers: [0, 0, 0] };
-    }
     let rest_kept = buffer[written.filled..].iter().all(|&byte| byte == UNWRITTEN);
-    let first = if rest_kept { written.filled as i32 } else { -1 };
-    Outcome { refusal: 0, answers: [first, rest_kept as i32, rest_kept as i32] }
+    let answers = match (written.refusal, rest_kept) {
+        (0, true) => [written.filled as i32, 1, 1],
+        (0, false) => [-1, 0, 0],
+        (_, kept) => [0, !kept as i32, !kept as i32],
+    };
+    Outcome { refusal: written.refusal, answers }
 }
 
 /// The expected line of an order: in the place of the block the front that was written.

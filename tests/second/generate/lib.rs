@@ -65,6 +65,7 @@ pub fn cases(kind: &Kind) -> Vec<Case> {
     match kind.name {
         "table" => return tables::cases(),
         "raise" => return raises::cases(),
+        "order" => return orders::cases(),
         _ => {}
     }
     let mut cases = Vec::new();

@@ -143,9 +143,9 @@ fn after_changes() -> Vec<Case> {
     [vec![first], calls.into_iter().flat_map(with_orders).collect()].concat()
 }
 
-const DRAWN: [Call; 11] = [
-    Call::Grant, Call::Grant, Call::Grant, Call::Grant, Call::Revoke, Call::Downgrade, Call::Order, Call::Order,
-    Call::Order, Call::Chain, Call::Reach,
+const DRAWN: [Call; 9] = [
+    Call::Grant, Call::Grant, Call::Grant, Call::Grant, Call::Grant, Call::Revoke, Call::Downgrade, Call::Chain,
+    Call::Reach,
 ];
 
 /// Lists of calls from a register without delegations, some under a drawn table.
@@ -153,17 +153,17 @@ fn lists_of_calls() -> Vec<Case> {
     let mut random = Random::new(0x04DE7);
     let tables = [random_table(&mut random).text(), texts::by_two().text()];
     let texts = [b"", b"", b"", &tables[0][..], &tables[1][..]];
-    texts.iter().flat_map(|text| list(&mut random, text, 34)).collect()
+    texts.iter().flat_map(|text| list(&mut random, text, 17)).collect()
 }
 
-/// A list under one table.
-fn list(random: &mut Random, text: &[u8], length: usize) -> Vec<Case> {
+/// A list under one table: an order after each call.
+fn list(random: &mut Random, text: &[u8], calls: usize) -> Vec<Case> {
     let marks: Vec<u16> = (1..random.range(5, 8)).map(|_| random.below(8) as u16).collect();
     let mut block = encode(&register(&[&[0], &marks[..]].concat(), &[]));
     let mut cases = vec![on(&block, reach(0, 1))];
-    for _ in 0..length {
-        let call = random.pick(&DRAWN);
-        cases.push(next(lists::drawn(raises::likely, random, call, text, &mut block)));
+    for _ in 0..calls {
+        let drawn = [random.pick(&DRAWN), Call::Order];
+        cases.extend(drawn.map(|call| next(lists::drawn(raises::likely, random, call, text, &mut block))));
     }
     lent(text, cases)
 }
