@@ -101,7 +101,7 @@ fn plausible(random: &mut Random, call: Call, table: &Table, register: &Register
         Call::Reach => reach(giver, receiver),
         Call::Use => use_right(receiver),
         Call::Chain => chain(giver, receiver, random.pick(&[126, 126, 126, 127, 512, 125])),
-        Call::Order => order(receiver, random.pick(&[128, 128, 128, 128, 127, 129])),
+        Call::Order => order(receiver, random.pick(&[128, 128, 128, 128, 128, 128, 127, 129])),
     }
 }
 

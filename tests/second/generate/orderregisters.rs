@@ -3,8 +3,8 @@
 use super::*;
 use second::random::{random_register, Random, Shape};
 
-/// The example of C-14's order: two of three unlimited ones are against the order of
-/// their numbers, and 3 is reached with 6 before it is with 19.
+/// The example of C-14's order: of the unlimited ones 4 comes before 1, and the shorter
+/// way to 3 is the lighter one.
 pub const EXAMPLE: [Grant; 6] =
     [(0, 4, 255, 0, 0), (4, 1, 255, 0, 0), (1, 3, 20, 0, 0), (0, 2, 9, 0, 0), (2, 3, 7, 0, 0), (3, 5, 6, 0, 0)];
 
