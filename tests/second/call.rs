@@ -4,6 +4,7 @@
 use crate::block::{encode, Delegation, Register, BLOCK_LEN};
 use crate::cut::settle;
 use crate::engine::{Engine, FAST};
+use crate::order;
 use crate::refusal::{admit, Call, Passed, WRONG_LENGTH};
 use crate::search::Search;
 use crate::table::Table;
@@ -15,7 +16,7 @@ pub struct Outcome {
     pub answers: [i32; 3],
 }
 
-/// The refusal number of a chain call and how many bytes of the buffer it filled.
+/// The refusal number of a call that is lent a buffer and how many bytes of it were filled.
 #[derive(Clone, Copy, Debug, PartialEq, Eq)]
 pub struct Written {
     pub refusal: u32,
@@ -74,13 +75,32 @@ pub fn chain_table(block: &[u8], giver: u32, receiver: u32, text: &[u8], buffer:
     Written { refusal: 0, filled: 2 * links.len() }
 }
 
+/// Writes the order for a receiver, a byte for each subject and one for its limit.
+pub fn order(block: &[u8], receiver: u32, buffer: &mut [u8]) -> Written {
+    order_table(&FAST, block, receiver, b"", buffer)
+}
+
+/// The same, lent a table's text, with the reaches of the engine named.
+pub fn order_table(engine: &Engine, block: &[u8], receiver: u32, text: &[u8], buffer: &mut [u8]) -> Written {
+    let n = Passed { receiver, ..blank(Call::Order) };
+    let (table, register) = match admit(engine, &n, text, block, buffer.len()) {
+        Err(refusal) => return Written { refusal, filled: 0 },
+        Ok(admitted) => admitted,
+    };
+    let order = order::order(&table, &register, receiver, engine.reach);
+    for (place, &(subject, limit)) in buffer.chunks_exact_mut(2).zip(&order) {
+        place.copy_from_slice(&[subject, limit]);
+    }
+    Written { refusal: 0, filled: 2 * order.len() }
+}
+
 /// A call whose numbers are all 0.
 pub fn blank(call: Call) -> Passed {
     Passed { call, by: 0, giver: 0, receiver: 0, weight: 0, need: 0, bar: 0 }
 }
 
-/// Any call but chain, with the engine named. Chain needs a buffer and has its
-/// own function; here it has none and is refused.
+/// Any call but chain and order, with the engine named. These need a buffer and
+/// have functions of their own; here they have none and are refused.
 pub fn run(engine: &Engine, n: &Passed, block: &mut [u8]) -> Outcome {
     run_table(engine, n, b"", block)
 }
@@ -89,7 +109,7 @@ pub fn run(engine: &Engine, n: &Passed, block: &mut [u8]) -> Outcome {
 pub fn run_table(engine: &Engine, n: &Passed, text: &[u8], block: &mut [u8]) -> Outcome {
     match n.call {
         Call::Open => open(block),
-        Call::Reach | Call::Use | Call::Chain => answer(engine, n, text, block),
+        Call::Reach | Call::Use | Call::Chain | Call::Order => answer(engine, n, text, block),
         Call::Enrol | Call::Grant | Call::Revoke | Call::Downgrade => change(engine, n, text, block),
     }
 }

@@ -3,7 +3,7 @@
 use crate::block::{encode, Register};
 use crate::call::{blank, run, Outcome};
 use crate::engine::Engine;
-use crate::refusal::{Call, Passed, CALLS, MALFORMED};
+use crate::refusal::{Call, Passed, ALL_CALLS, MALFORMED};
 
 pub const MOST_INPUT: usize = 65_536;
 pub const NAMES_IN: &[u8] = b"call by giver receiver weight need bar\n";
@@ -73,7 +73,7 @@ pub fn read_number(digits: &[u8]) -> Option<u32> {
 
 pub fn from_values(values: [u32; 7]) -> Option<Passed> {
     let [call, by, giver, receiver, weight, need, bar] = values;
-    let call = *CALLS.get(call as usize)?;
+    let call = ALL_CALLS.into_iter().find(|&known| known as u32 == call)?;
     Some(Passed { call, by, giver, receiver, weight, need, bar })
 }
 
@@ -94,6 +94,7 @@ pub fn used_columns(call: Call) -> [bool; 6] {
         Call::Open => [0, 0, 0, 0, 0, 0],
         // The length of the buffer is passed as the weight in case files.
         Call::Chain => [0, 1, 1, 1, 0, 0],
+        Call::Order => [0, 0, 1, 1, 0, 0],
     };
     columns.map(|used| used == 1)
 }

@@ -10,8 +10,16 @@
 //! hands back its part, which gives the second of the whole buffer afterwards
 //! and the third of the part. Accepted, an answer is 1 if the chain is right;
 //! refused, 0 if nothing was written.
+//! In a file of the kind `order`, whose lines are those of the kind `table`, 10 is
+//! order, also with its buffer's length as the weight. An accepted one leaves the
+//! block and shows, in its place, the front that it wrote. It is called three times,
+//! each time on a fresh buffer: by the function that counts its bytes, which gives
+//! the first answer, -1 if a byte past them changed; and twice by the one that hands
+//! back its part, which gives the second of the whole buffer afterwards and the third
+//! of the part. Accepted, these two are 1 if the bytes are those that were counted,
+//! and the rest is kept; refused, 0 if nothing was written.
 
-use crate::call::{chain_table, run_table, Outcome};
+use crate::call::{chain_table, order_table, run_table, Outcome, Written};
 use crate::callfile::{from_values, joined, lines, read_values, used_only, values_of};
 use crate::engine::Engine;
 use crate::judge::judge;
@@ -20,8 +28,8 @@ use crate::table::Table;
 
 pub const MOST_BYTES: usize = 4096;
 
-/// What the chain call's buffer holds before the call.
-const UNWRITTEN: u8 = 0xA5;
+/// What a lent buffer holds before the call.
+pub const UNWRITTEN: u8 = 0xA5;
 
 /// A call, the table's text lent to it if it is lent one, and its block; without
 /// one, the block as the case before left it.
@@ -136,6 +144,10 @@ pub fn expected_line(engine: &Engine, case: &Case, current: &mut Vec<u8>) -> Str
     if let Some(block) = &case.block {
         current.clone_from(block);
     }
+    if case.passed.call == Call::Order {
+        let (written, buffer) = ordered(engine, &case.passed, case.lent(), current);
+        return order_line(&written, &buffer);
+    }
     let before = current.clone();
     let outcome = answer_table(engine, &case.passed, case.lent(), current);
     left_line(&outcome, &before, current)
@@ -158,6 +170,10 @@ pub fn answer_table(engine: &Engine, n: &Passed, text: &[u8], block: &mut [u8]) 
     let n = used_only(n);
     match n.call {
         Call::Chain => chain_outcome(&n, text, block),
+        Call::Order => {
+            let (written, buffer) = ordered(engine, &n, text, block);
+            order_outcome(&written, &buffer)
+        }
         _ => run_table(engine, &n, text, block),
     }
 }
@@ -172,6 +188,32 @@ fn chain_outcome(n: &Passed, text: &[u8], block: &[u8]) -> Outcome {
     let is_chain = |table: Table| judge(&table, block, n.giver, n.receiver, &buffer[..written.filled]).is_ok();
     let right = rest_kept && Table::read(text).is_ok_and(is_chain);
     Outcome { refusal: 0, answers: [right as i32; 3] }
+}
+
+/// What an order wrote, and its buffer afterwards.
+fn ordered(engine: &Engine, n: &Passed, text: &[u8], block: &[u8]) -> (Written, Vec<u8>) {
+    let mut buffer = vec![UNWRITTEN; (n.weight as usize).min(MOST_BYTES)];
+    let written = order_table(engine, block, n.receiver, text, &mut buffer);
+    (written, buffer)
+}
+
+/// The answers of an order that filled so much of the buffer.
+pub fn order_outcome(written: &Written, buffer: &[u8]) -> Outcome {
+    let rest_kept = buffer[written.filled..].iter().all(|&byte| byte == UNWRITTEN);
+    let answers = match (written.refusal, rest_kept) {
+        (0, true) => [written.filled as i32, 1, 1],
+        (0, false) => [-1, 0, 0],
+        (_, kept) => [0, !kept as i32, !kept as i32],
+    };
+    Outcome { refusal: written.refusal, answers }
+}
+
+/// The expected line of an order: in the place of the block the front that was written.
+pub fn order_line(written: &Written, buffer: &[u8]) -> String {
+    let outcome = order_outcome(written, buffer);
+    let [first, second, third] = outcome.answers;
+    let front = if written.refusal != 0 { "=".to_string() } else { block_text(&buffer[..written.filled]) };
+    format!("{} {first} {second} {third} {front}\n", outcome.refusal)
 }
 
 /// The expected text of a whole case file, or the number of a line that is no case.

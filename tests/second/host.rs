@@ -1,14 +1,15 @@
 //! The calls as a host makes them: the refusal number is returned, and only
 //! when it is 0 the three answers are in 12 lent bytes.
 
-use crate::call::{run_table, Outcome, Written};
+use crate::call::{order_table, run_table, Outcome, Written};
 use crate::engine::Engine;
 use crate::refusal::{Passed, WRONG_LENGTH};
 use crate::regfile;
 
 pub const ANSWERS_LEN: usize = 12;
 
-/// Any call but chain, which has no entry point for hosts, without a table.
+/// Any call but chain, which has no entry point for hosts, and order, which has its own,
+/// without a table.
 pub fn host_call(engine: &Engine, n: &Passed, block: &mut [u8], answers: &mut [u8]) -> u32 {
     host_call_table(engine, n, b"", block, answers)
 }
@@ -36,6 +37,23 @@ pub fn host_read(engine: &Engine, block: &mut [u8], text: &[u8], table: &[u8], a
         return WRONG_LENGTH;
     }
     told(regfile::read(engine, block, text, table), answers)
+}
+
+/// Writes the order for a receiver, lent a table's text; the first answer is how many
+/// bytes it has.
+pub fn host_order(
+    engine: &Engine,
+    block: &[u8],
+    receiver: u32,
+    table: &[u8],
+    out: &mut [u8],
+    answers: &mut [u8],
+) -> u32 {
+    if answers.len() != ANSWERS_LEN {
+        return WRONG_LENGTH;
+    }
+    let Written { refusal, filled } = order_table(engine, block, receiver, table, out);
+    told(Outcome { refusal, answers: [filled as i32, 0, 0] }, answers)
 }
 
 /// The number returned; the answers are written only when it is 0.

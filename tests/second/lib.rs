@@ -12,6 +12,7 @@ pub mod filecase;
 pub mod host;
 pub mod judge;
 pub mod listfile;
+pub mod order;
 pub mod random;
 pub mod refusal;
 pub mod regfile;

@@ -16,8 +16,10 @@ pub const BAD_TABLE: u32 = 17;
 /// Some delegation of a register file is unsupported.
 pub const UNSUPPORTED: u32 = 18;
 pub const LEAST_BUFFER: usize = 126;
+/// The buffer of an order has just so many bytes.
+pub const ORDER_BUFFER: usize = 128;
 
-/// The calls, in the order of their numbers in the case files.
+/// The calls, with their numbers in the case files.
 #[derive(Clone, Copy, Debug, PartialEq, Eq, PartialOrd, Ord)]
 pub enum Call {
     Enrol,
@@ -28,10 +30,19 @@ pub enum Call {
     Use,
     Open,
     Chain,
+    /// Document 02, C-14. Numbers 8 and 9 are the write and the read of the kind `file`.
+    Order = 10,
 }
 
+/// Document 01's calls, in the order of their numbers.
 pub const CALLS: [Call; 8] = [
     Call::Enrol, Call::Grant, Call::Revoke, Call::Downgrade, Call::Reach, Call::Use, Call::Open, Call::Chain,
+];
+
+/// Those and document 02's order.
+pub const ALL_CALLS: [Call; 9] = [
+    Call::Enrol, Call::Grant, Call::Revoke, Call::Downgrade, Call::Reach, Call::Use, Call::Open, Call::Chain,
+    Call::Order,
 ];
 
 /// A call and the numbers passed. Numbers that the call does not use are 0,
@@ -72,7 +83,7 @@ use HeldTest::{Numbers as N, Reach, Register as R};
 
 /// The calls that reckon reach take a table.
 pub fn takes_table(call: Call) -> bool {
-    matches!(call, Call::Grant | Call::Reach | Call::Revoke | Call::Downgrade | Call::Chain)
+    matches!(call, Call::Grant | Call::Reach | Call::Revoke | Call::Downgrade | Call::Chain | Call::Order)
 }
 
 pub fn tests(call: Call) -> Tests {
@@ -98,6 +109,7 @@ pub fn tests(call: Call) -> Tests {
             &[(2, subjects), (5, equal), (6, to_owner)],
             &[(9, R(not_enrolled)), (13, R(stands_not)), (16, Reach(unsupported))],
         ),
+        Call::Order => (&[(2, subjects), (6, to_owner)], &[(9, R(not_enrolled))]),
     };
     Tests { passed, table, held }
 }
@@ -158,9 +170,14 @@ fn applies(test: HeldTest, n: &Passed, register: Option<&Register>, reach: impl 
     }
 }
 
-/// 1: the buffer counts for chain only.
+/// 1: the buffer counts for chain and order only.
 pub fn wrong_length(n: &Passed, block: &[u8], buffer: usize) -> bool {
-    block.len() != BLOCK_LEN || (n.call == Call::Chain && buffer < LEAST_BUFFER)
+    let wrong_buffer = match n.call {
+        Call::Chain => buffer < LEAST_BUFFER,
+        Call::Order => buffer != ORDER_BUFFER,
+        _ => false,
+    };
+    block.len() != BLOCK_LEN || wrong_buffer
 }
 
 /// 2: subject number above 63.

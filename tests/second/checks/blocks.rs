@@ -6,7 +6,7 @@ use second::call;
 use second::casefile::{answer, block_text, read_block};
 use second::engine::FAST;
 use second::random::{random_register, Random, Shape};
-use second::refusal::{Call, CALLS};
+use second::refusal::{Call, ALL_CALLS};
 use std::collections::BTreeSet;
 
 fn any_register(random: &mut Random) -> Register {
@@ -70,7 +70,7 @@ fn every_rule_is_broken_alone() {
 /// The calls that the broken blocks are handed are accepted on the valid one.
 #[test]
 fn calls_on_the_valid_block_are_accepted() {
-    for call in CALLS {
+    for call in ALL_CALLS {
         for n in broken::calls(call) {
             let mut block = encode(&broken::valid());
             let outcome = answer(&FAST, &n, &mut block);

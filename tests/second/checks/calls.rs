@@ -1,6 +1,6 @@
 //! What holds for every call: refused calls change no byte, accepted ones
-//! leave a well-formed block, reach, use and chain change nothing, and no input
-//! makes a call panic.
+//! leave a well-formed block, reach, use, chain and order change nothing, and no
+//! input makes a call panic.
 
 use super::same;
 use crate::faults::{ONE_ROUND, TEXT_LEFT_OUT, VISITED_ONCE};
@@ -10,14 +10,14 @@ use second::call::{self, Outcome};
 use second::casefile::{answer, answer_table};
 use second::engine::{Engine, FAST, LITERAL};
 use second::random::{random_table, Random};
-use second::refusal::{applying, tests, Call, Passed, CALLS};
+use second::refusal::{applying, tests, Call, Passed, ALL_CALLS};
 use second::table::{Table, OURS};
 
 /// Runs a call and checks what it did to the block.
 fn checked(engine: &Engine, n: &Passed, text: &[u8], block: &mut Vec<u8>) -> Result<Outcome, String> {
     let before = block.clone();
     let outcome = answer_table(engine, n, text, block);
-    let reads_only = matches!(n.call, Call::Reach | Call::Use | Call::Chain);
+    let reads_only = matches!(n.call, Call::Reach | Call::Use | Call::Chain | Call::Order);
     if (outcome.refusal != 0 || reads_only) && *block != before {
         return Err(format!("{n:?} changed the block"));
     }
@@ -161,7 +161,7 @@ fn any_input_is_answered() {
         }
         let numbers = [(); 6].map(|_| any_number(&mut random));
         let [by, giver, receiver, weight, need, bar] = numbers;
-        let n = Passed { call: random.pick(&CALLS), by, giver, receiver, weight, need, bar };
+        let n = Passed { call: random.pick(&ALL_CALLS), by, giver, receiver, weight, need, bar };
         let text = any_text(&mut random, &refused);
         let outcome = checked(&FAST, &n, &text, &mut block).unwrap();
         assert!(length == BLOCK_LEN || outcome.refusal == 1);
@@ -185,6 +185,9 @@ fn public_calls() {
     let mut buffer = [7; 126];
     let written = call::chain(&block, 2, 1, &mut buffer);
     assert_eq!((written.refusal, written.filled, &buffer[..3]), (0, 2, &[0, 2, 7][..]));
+    let mut buffer = [7; 128];
+    let written = call::order(&block, 2, &mut buffer);
+    assert_eq!((written.refusal, written.filled, &buffer[..7]), (0, 6, &[0, 255, 2, 6, 1, 5, 7][..]));
     assert_eq!(call::downgrade(&mut block, 0, 0, 2, 3), accepted([0, 1, 2]));
     assert_eq!(call::revoke(&mut block, 2, 2, 1), accepted([0, 0, 1]));
 }

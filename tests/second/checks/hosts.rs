@@ -1,9 +1,9 @@
 //! The calls of a host: what is in the 12 bytes, and when.
 
-use generate::{enrol, grant, open, reach, register, revoke};
+use generate::{enrol, grant, open, orderregisters, reach, register, revoke, texts};
 use second::block::{encode, BLOCK_LEN};
 use second::engine::FAST;
-use second::host::{host_call, ANSWERS_LEN};
+use second::host::{host_call, host_order, ANSWERS_LEN};
 use second::refusal::Passed;
 
 /// What the bytes hold before a call.
@@ -64,4 +64,41 @@ fn other_lengths_are_refused() {
         }
     }
     assert_eq!(example().len(), BLOCK_LEN);
+}
+
+/// What an order leaves for a host: the number, the buffer and the answers.
+fn ordered(receiver: u32, table: &[u8], buffer: usize, length: usize) -> (u32, Vec<u8>, Vec<u8>) {
+    let (mut out, mut answers) = (vec![UNWRITTEN; buffer], vec![UNWRITTEN; length]);
+    let block = encode(&orderregisters::example());
+    let number = host_order(&FAST, &block, receiver, table, &mut out, &mut answers);
+    (number, out, answers)
+}
+
+/// The first answer is how many bytes were written; those after them are kept.
+#[test]
+fn orders_are_counted() {
+    let (number, out, answers) = ordered(5, b"", 128, 12);
+    assert_eq!((number, answers), (0, vec![12, 0, 0, 0, 0, 0, 0, 0, 0, 0, 0, 0]));
+    assert_eq!(out[..12], [0, 255, 4, 255, 1, 255, 3, 19, 2, 8, 5, 5]);
+    assert_eq!(out[12..], [UNWRITTEN; 116]);
+    let (number, out, answers) = ordered(5, &texts::level().text(), 128, 12);
+    assert_eq!((number, answers), (0, vec![6, 0, 0, 0, 0, 0, 0, 0, 0, 0, 0, 0]));
+    assert_eq!(out[..6], [0, 255, 2, 0, 4, 0]);
+    assert_eq!(out[6..], [UNWRITTEN; 122]);
+}
+
+/// Answers of another length get 1 before anything else; a refused order writes nothing.
+#[test]
+fn refused_orders_write_nothing() {
+    for length in (0..=20).filter(|&length| length != ANSWERS_LEN) {
+        for (receiver, table, buffer) in [(5, &b""[..], 128), (64, b"\n", 127), (0, b"\n", 128)] {
+            let due = (1, vec![UNWRITTEN; buffer], vec![UNWRITTEN; length]);
+            assert_eq!(ordered(receiver, table, buffer, length), due);
+        }
+    }
+    for (receiver, table, number) in [(64, &b"\n"[..], 2), (0, b"\n", 6), (6, b"\n", 7), (6, b"", 9)] {
+        let due = (number, vec![UNWRITTEN; 128], vec![UNWRITTEN; ANSWERS_LEN]);
+        assert_eq!(ordered(receiver, table, 128, ANSWERS_LEN), due);
+    }
+    assert_eq!(ordered(5, b"", 129, ANSWERS_LEN), (1, vec![UNWRITTEN; 129], vec![UNWRITTEN; ANSWERS_LEN]));
 }

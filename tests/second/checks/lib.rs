@@ -14,6 +14,8 @@ mod files;
 mod generated;
 mod hosts;
 mod listfiles;
+mod ordercases;
+mod orders;
 mod pairs;
 mod raisecases;
 mod raises;

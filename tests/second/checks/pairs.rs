@@ -1,10 +1,10 @@
 //! The generated cases realise every refusal of every call, and every two
 //! that can apply at once.
 
-use generate::{cases, KINDS};
+use generate::{cases, orders, KINDS};
 use second::casefile::answer_table;
 use second::engine::FAST;
-use second::refusal::{applying, tests, Call, CALLS};
+use second::refusal::{applying, tests, Call, ALL_CALLS};
 use std::collections::{BTreeMap, BTreeSet};
 
 type Pair = (u32, u32);
@@ -20,6 +20,7 @@ fn refusals(call: Call) -> &'static [u32] {
         Call::Revoke => &[1, 2, 5, 6, 7, 17, 8, 9, 13, 14],
         Call::Downgrade => &[1, 2, 3, 5, 6, 7, 17, 8, 9, 13, 14, 15],
         Call::Chain => &[1, 2, 5, 6, 7, 17, 8, 9, 13, 16],
+        Call::Order => &[1, 2, 6, 7, 17, 8, 9],
     }
 }
 
@@ -33,13 +34,13 @@ fn impossible(call: Call) -> Vec<Pair> {
         // What a register holds is not judged on a block that is not well
         // formed. 14 looks at the numbers only.
         pairs.push((8, held));
-        // Nor on a block of another length; chain can have 1 from its buffer.
-        if call != Call::Chain {
+        // Nor on a block of another length; chain and order can have 1 from their buffer.
+        if !matches!(call, Call::Chain | Call::Order) {
             pairs.push((1, held));
         }
     }
-    // 8 is judged on 2,180 bytes only; chain can have 1 from its buffer.
-    if !matches!(call, Call::Chain | Call::Open) {
+    // 8 is judged on 2,180 bytes only; chain and order can have 1 from their buffer.
+    if !matches!(call, Call::Chain | Call::Order | Call::Open) {
         pairs.push((1, 8));
     }
     pairs.extend(match call {
@@ -51,6 +52,8 @@ fn impossible(call: Call) -> Vec<Pair> {
         Call::Downgrade => vec![(5, 15), (6, 15), (13, 15)],
         // 16 compares with a standing pair, and there is no by.
         Call::Chain => vec![(2, 16), (5, 16), (6, 16), (9, 16), (13, 16)],
+        // Only the receiver is named, and the owner is enrolled.
+        Call::Order => vec![(2, 6), (6, 9)],
         _ => vec![],
     });
     pairs
@@ -63,7 +66,7 @@ fn never_alone(call: Call) -> &'static [u32] {
         // 2 with 9: a subject above 63 is never enrolled; or with 1 or 8.
         // 3 with 16: no reach is above 255.
         Call::Grant => &[2, 3],
-        Call::Reach | Call::Use => &[2],
+        Call::Reach | Call::Use | Call::Order => &[2],
         // 5, 6 with 13: such a pair never stands. 9 with 13, or with 14 if it
         // is by that isn't enrolled.
         Call::Revoke => &[2, 5, 6, 9],
@@ -96,7 +99,7 @@ impl Realised {
 
 fn realised() -> BTreeMap<Call, Realised> {
     let mut all: BTreeMap<Call, Realised> = BTreeMap::new();
-    for kind in &KINDS {
+    for kind in KINDS.iter().chain([&orders::KIND]) {
         let mut block = Vec::new();
         for case in cases(kind) {
             block = case.block.clone().unwrap_or(block);
@@ -111,7 +114,7 @@ fn realised() -> BTreeMap<Call, Realised> {
 #[test]
 fn every_pair_that_can_apply_is_realised() {
     let realised = realised();
-    for call in CALLS {
+    for call in ALL_CALLS {
         let numbers = refusals(call);
         let all = numbers.iter().enumerate().flat_map(|(at, &a)| numbers[at + 1..].iter().map(move |&b| (a, b)));
         let impossible: BTreeSet<Pair> = impossible(call).into_iter().collect();
@@ -123,7 +126,7 @@ fn every_pair_that_can_apply_is_realised() {
 #[test]
 fn every_refusal_is_realised() {
     let realised = realised();
-    for call in CALLS {
+    for call in ALL_CALLS {
         let alone: BTreeSet<u32> =
             refusals(call).iter().copied().filter(|number| !never_alone(call).contains(number)).collect();
         assert_eq!(realised[&call].alone, alone, "{call:?}");
@@ -136,7 +139,7 @@ fn every_refusal_is_realised() {
 /// The lists in the code are those above.
 #[test]
 fn lists_are_the_refusals() {
-    for call in CALLS {
+    for call in ALL_CALLS {
         let lists = tests(call);
         let mut order = vec![1];
         order.extend(lists.passed.iter().map(|(number, _)| *number));

@@ -2,14 +2,14 @@
 
 use super::same;
 use crate::faults::{ONE_ROUND, TEXT_LEFT_OUT};
-use generate::{broken, enrol, open, reach, register, tables, texts, use_right};
+use generate::{broken, enrol, open, orders, reach, register, tables, texts, use_right};
 use second::block::{decode, encode, Register};
 use second::call::{run, run_table};
 use second::casefile::answer_table;
 use second::engine::{Engine, FAST, LITERAL};
 use second::host::{host_call, host_call_table};
 use second::random::{random_table, Random};
-use second::refusal::{takes_table, Call, CALLS};
+use second::refusal::{takes_table, Call, ALL_CALLS};
 use second::table::{table_text, Table, NAMES, OURS};
 use std::collections::BTreeSet;
 
@@ -198,8 +198,8 @@ fn calls_are_accepted_under_every_table() {
 /// Open, enrol and use take no table: a text beside them changes nothing.
 #[test]
 fn other_calls_take_no_table() {
-    let taking: Vec<Call> = CALLS.into_iter().filter(|&call| takes_table(call)).collect();
-    assert_eq!(taking.iter().collect::<BTreeSet<_>>(), tables::CALLS.iter().collect());
+    let taking: Vec<Call> = ALL_CALLS.into_iter().filter(|&call| takes_table(call)).collect();
+    assert_eq!(taking.iter().collect::<BTreeSet<_>>(), orders::CALLS.iter().collect());
     for (n, text) in [open(), enrol(3), use_right(2)].iter().zip([&b"\n"[..], b"0", &[0; 4096]]) {
         let (mut with, mut without) = (encode(&broken::valid()), encode(&broken::valid()));
         assert_eq!(run_table(&FAST, n, text, &mut with), run(&FAST, n, &mut without));

@@ -38,6 +38,7 @@ pub fn calls(call: Call) -> Vec<Passed> {
         Call::Reach => vec![reach(0, 1), reach(2, 3)],
         Call::Use => vec![use_right(0), use_right(2)],
         Call::Chain => vec![chain(0, 1, 126), chain(2, 4, 126)],
+        Call::Order => vec![order(1, 128), order(4, 128)],
     }
 }
 
@@ -46,7 +47,7 @@ pub fn all() -> Vec<Broken> {
     let mut all = Vec::new();
     all.extend(header());
     all.extend(marks());
-    all.extend(order());
+    all.extend(records_order());
     all.extend(subjects());
     all.extend(inner());
     all.extend(unused());
@@ -100,7 +101,7 @@ fn at(record: usize, byte: usize) -> usize {
     RECORDS_AT + RECORD_LEN * record + byte
 }
 
-fn order() -> Vec<Broken> {
+fn records_order() -> Vec<Broken> {
     vec![
         // Records 2 and 3 equal, then falling by receiver, then by giver.
         changed(&valid(), &[5], &[(at(3, RECEIVER), 2)]),

@@ -101,7 +101,7 @@ fn random_reaches() -> Vec<Case> {
 }
 
 /// 64 subjects and up to 256 delegations, most of them unlimited.
-fn large(random: &mut Random) -> Register {
+pub fn large(random: &mut Random) -> Register {
     let shape = Shape {
         subjects: 64,
         delegations: random.pick(&[256, 200, 120]),

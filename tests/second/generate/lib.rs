@@ -1,5 +1,5 @@
 //! The cases that every implementation is compared on: block-level ones in
-//! five kinds, those of register files, lists of calls, and call files.
+//! five kinds, those of register files, orders, lists of calls, and call files.
 
 pub mod broken;
 pub mod callfiles;
@@ -11,6 +11,8 @@ pub mod limits;
 pub mod listfiles;
 pub mod lists;
 pub mod malformed;
+pub mod orderregisters;
+pub mod orders;
 pub mod raises;
 pub mod refusals;
 pub mod registerfiles;
@@ -63,6 +65,7 @@ pub fn cases(kind: &Kind) -> Vec<Case> {
     match kind.name {
         "table" => return tables::cases(),
         "raise" => return raises::cases(),
+        "order" => return orders::cases(),
         _ => {}
     }
     let mut cases = Vec::new();
@@ -133,6 +136,11 @@ pub fn use_right(receiver: u32) -> Passed {
 /// The buffer's length is passed as the weight.
 pub fn chain(giver: u32, receiver: u32, buffer: u32) -> Passed {
     Passed { giver, receiver, weight: buffer, ..blank(Call::Chain) }
+}
+
+/// The buffer's length is passed as the weight.
+pub fn order(receiver: u32, buffer: u32) -> Passed {
+    Passed { receiver, weight: buffer, ..blank(Call::Order) }
 }
 
 /// The grant call of a listed delegation.

@@ -46,6 +46,7 @@ fn base(call: Call) -> Passed {
         Call::Reach => reach(1, 2),
         Call::Use => use_right(2),
         Call::Chain => chain(1, 2, 126),
+        Call::Order => order(2, 128),
     }
 }
 
@@ -60,6 +61,7 @@ fn on_all(call: Call) -> Passed {
         Call::Reach => reach(63, 62),
         Call::Use => use_right(63),
         Call::Chain => chain(63, 62, 126),
+        Call::Order => order(63, 128),
     }
 }
 
@@ -71,7 +73,8 @@ fn columns(register: &Register, n: Passed) -> Vec<Case> {
         for number in NUMBERS {
             let mut values = values_of(&n);
             values[column + 1] = number;
-            let buffer_too_long = n.call == Call::Chain && values[4] as usize > MOST_BYTES;
+            let has_buffer = matches!(n.call, Call::Chain | Call::Order);
+            let buffer_too_long = has_buffer && values[4] as usize > MOST_BYTES;
             if let (true, false, Some(n)) = (used, buffer_too_long, from_values(values)) {
                 cases.push(on(&block, n));
             }

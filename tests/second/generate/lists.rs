@@ -101,6 +101,7 @@ fn plausible(random: &mut Random, call: Call, table: &Table, register: &Register
         Call::Reach => reach(giver, receiver),
         Call::Use => use_right(receiver),
         Call::Chain => chain(giver, receiver, random.pick(&[126, 126, 126, 127, 512, 125])),
+        Call::Order => order(receiver, random.pick(&[128, 128, 128, 128, 128, 128, 127, 129])),
     }
 }
 
@@ -148,7 +149,7 @@ fn plausible_grant(random: &mut Random, table: &Table, register: &Register, give
 /// The call with some number in one of the columns that it uses.
 fn with_odd_number(random: &mut Random, n: &Passed) -> Passed {
     let column = random.below(6) as usize;
-    let is_buffer = n.call == Call::Chain && column == 3;
+    let is_buffer = matches!(n.call, Call::Chain | Call::Order) && column == 3;
     if !used_columns(n.call)[column] || is_buffer {
         return *n;
     }

@@ -65,6 +65,7 @@ const SUBJECTS: [u32; 7] = [1, 2, 3, 0, 9, 63, 64];
 const WEIGHTS: [u32; 4] = [1, 0, 255, 256];
 const MASKS: [(u32, u32); 4] = [(0, 0), (1, 3), (65_536, 0), (0, 4_294_967_295)];
 const BUFFERS: [u32; 2] = [126, 125];
+const ORDER_BUFFERS: [u32; 3] = [128, 127, 129];
 
 pub fn candidates(call: Call) -> Vec<Passed> {
     match call {
@@ -73,6 +74,7 @@ pub fn candidates(call: Call) -> Vec<Passed> {
         Call::Use => SUBJECTS.map(use_right).to_vec(),
         Call::Reach => pairs().map(|(giver, receiver)| reach(giver, receiver)).collect(),
         Call::Chain => pairs().flat_map(|(g, r)| BUFFERS.map(|buffer| chain(g, r, buffer))).collect(),
+        Call::Order => SUBJECTS.map(|receiver| ORDER_BUFFERS.map(|buffer| order(receiver, buffer))).concat(),
         Call::Grant => pairs().flat_map(|(g, r)| grants(g, r)).collect(),
         Call::Revoke => pairs().flat_map(|(g, r)| SUBJECTS.map(|by| revoke(by, g, r))).collect(),
         Call::Downgrade => pairs().flat_map(|(g, r)| SUBJECTS.map(|by| downgrades(by, g, r)).concat()).collect(),

@@ -23,7 +23,7 @@ pub fn cases() -> Vec<Case> {
 }
 
 /// The same cases, each lent this text.
-fn lent(text: &[u8], cases: impl IntoIterator<Item = Case>) -> Vec<Case> {
+pub fn lent(text: &[u8], cases: impl IntoIterator<Item = Case>) -> Vec<Case> {
     cases.into_iter().map(|case| Case { text: Some(text.to_vec()), ..case }).collect()
 }
 
@@ -84,7 +84,7 @@ fn refusals() -> Vec<Case> {
 }
 
 /// One case for each that `told` tells from the others.
-fn at_once(call: Call, text: &[u8]) -> Vec<Case> {
+pub fn at_once(call: Call, text: &[u8]) -> Vec<Case> {
     let mut seen = BTreeSet::new();
     let mut cases = Vec::new();
     for block in refusals::blocks() {
