@@ -1,4 +1,4 @@
--- Laws of two-byte numbers, of values of a fixed width written and read back, and of tests over places. Assumes nothing.
+-- Laws of two-byte numbers, of bytes stored after a front, of values of a fixed width written and read back, and of tests over places. Assumes nothing.
 use mathlib.Core.Path.{_≡_, refl, sym, ap, subst, _∙_}
 use mathlib.Core.Logic.{_⊎_, inl, inr}
 use mathlib.Core.Bool.{Bool, not}
@@ -9,8 +9,8 @@ use native.Mathlib.Omega.{arith}
 use mir.Syntax.{w8}
 use mir.Val.{Fits}
 use lib.Dec.{T, ltb, ltb→lt, nltb→le}
-use lib.ListN.{length, getD, take, drop, replicate, length-append, length-take, length-drop, List·getD-append}
-use lib.Seq.{getD-drop, getD-append-add, drop-at, take-add, drop-drop, drop-append-add}
+use lib.ListN.{length, getD, set, take, drop, replicate, length-append, length-take, length-drop, List·getD-append}
+use lib.Seq.{getD-drop, getD-append-add, set-at, append-snoc, drop-cons, drop-at, take-add, drop-drop, drop-append-add}
 use Rattle.rules.specs.List.{_∈_, tabulate, concatMap}
 use Rattle.rules.proofs.Lists.{T-left, T-right, T-both, either}
 use Rattle.block.specs.Bytes.{IsBytes, two, twoBytes, readAll, padded, allFrom}
@@ -52,6 +52,17 @@ pub bytes-zeros : (n : ℕ) → IsBytes (replicate n 0)
 bytes-zeros zero i = omega arith
 bytes-zeros (suc n) zero = omega arith
 bytes-zeros (suc n) (suc i) = bytes-zeros n i
+
+-- two bytes stored after a front of length n
+pub two-stored : (front buf : List ℕ) (n a b : ℕ) → length front ≡ n → suc (suc n) ≤ length buf → set (set (front ++ drop n buf) n a) (n + 1) b ≡ (front ++ (a ∷ b ∷ [])) ++ drop (suc (suc n)) buf
+two-stored front buf n a b e room =
+    ap (λ (l : List ℕ). set (set (front ++ l) n a) (n + 1) b) two
+    ∙ ap (λ (z : List ℕ). set z (n + 1) b) (set-at front (getD buf n 0) (getD buf (suc n) 0 ∷ drop (suc (suc n)) buf) a n e ∙ sym (append-snoc front a (getD buf (suc n) 0 ∷ drop (suc (suc n)) buf)))
+    ∙ set-at (front ++ (a ∷ [])) (getD buf (suc n) 0) (drop (suc (suc n)) buf) b (n + 1) (length-append front (a ∷ []) ∙ omega (arith, e))
+    ∙ simp append-assoc
+  where
+    two : drop n buf ≡ getD buf n 0 ∷ getD buf (suc n) 0 ∷ drop (suc (suc n)) buf
+    two = drop-cons buf n 0 (omega (arith, room)) ∙ ap (λ (z : List ℕ). getD buf n 0 ∷ z) (drop-cons buf (suc n) 0 (omega (arith, room)))
 
 -- ── the values of a function, one place on ──
 pub tabulate-suc : {A : Type 0} (f : ℕ → A) (i n : ℕ) → tabulate f (suc i) n ≡ tabulate (λ k. f (suc k)) i n

@@ -1,15 +1,15 @@
 -- The bytes of the links up to a subject, written after those up to the giver of its parent. Assumes nothing.
 use mathlib.Core.Path.{_≡_, refl, sym, ap, subst, _∙_}
 use mathlib.Core.Logic.{_≢_, _⊎_, inl, inr}
-use mathlib.Core.List.{List, [], _∷_, _++_, append-assoc}
+use mathlib.Core.List.{List, [], _∷_, _++_}
 use Prim.Native.Nat.{ℕ, zero, suc, _+_, _*_, _-_, _≤_, zero-le}
 use native.Mathlib.Omega.{arith}
-use lib.ListN.{length, getD, set, drop, length-append}
-use lib.Seq.{set-at, append-snoc, drop-cons}
+use lib.ListN.{length, set, drop, length-append}
 use Rattle.rules.specs.Register.{Delegation}
 use Rattle.rules.specs.Links.{linksTo}
 use Rattle.rules.proofs.Links.{linksTo-owner, linksTo-step}
 use Rattle.rules.proofs.Lists.{eqOr}
+use Rattle.block.proofs.Bytes.{two-stored}
 use Rattle.chain.specs.Links.{linkBytes}
 
 -- two bytes a link
@@ -49,21 +49,13 @@ module _ (parent : ℕ → Delegation) where
       let e : linksTo parent (suc k) u ≡ xs ++ (parent u ∷ []) = linksTo-step parent k u z ∙ ap (λ (i : ℕ). linksTo parent k i ++ (parent u ∷ [])) eg in
       let b : linkBytes (linksTo parent (suc k) u) ≡ linkBytes xs ++ (g ∷ r ∷ []) = ap linkBytes e ∙ bytes-snoc xs (parent u) ∙ (λ i. linkBytes xs ++ (eg i ∷ er i ∷ [])) in
       let s : n ≤ k = omega (arith, links-short k g) in
-      let two : drop (2 * n) buf ≡ getD buf (2 * n) 0 ∷ getD buf (suc (2 * n)) 0 ∷ drop (suc (suc (2 * n))) buf =
-      drop-cons buf (2 * n) 0 (omega arith) ∙ ap (λ (z : List ℕ). getD buf (2 * n) 0 ∷ z) (drop-cons buf (suc (2 * n)) 0 (omega arith)) in
       let m : suc (suc (2 * n)) ≡ 2 * (n + 1) = omega arith in (
         omega (arith, ap length e, length-append xs (parent u ∷ [])),
-        ap (λ (l : List ℕ). set (set l (2 * n) g) (2 * n + 1) r) (ew ∙ ap (λ (l : List ℕ). linkBytes xs ++ l) two)
-            ∙ pair (linkBytes xs) (drop (suc (suc (2 * n))) buf) (2 * n) g r (getD buf (2 * n) 0) (getD buf (suc (2 * n)) 0) (omega (arith, bytes-length xs))
+        ap (λ (l : List ℕ). set (set l (2 * n) g) (2 * n + 1) r) ew
+            ∙ two-stored (linkBytes xs) buf (2 * n) g r (omega (arith, bytes-length xs)) (omega (arith, s, room))
             ∙ (λ i. sym b i ++ drop (m i) buf),
       )
     where
       bytes-snoc : (xs : List Delegation) (d : Delegation) → linkBytes (xs ++ (d ∷ [])) ≡ linkBytes xs ++ (d .giver ∷ d .receiver ∷ [])
       bytes-snoc [] d = refl
       bytes-snoc (x ∷ xs) d = ap (λ (l : List ℕ). x .giver ∷ x .receiver ∷ l) (bytes-snoc xs d)
-
-      -- two bytes stored after a front of length n
-      pair : (l r : List ℕ) (n a b x y : ℕ) → length l ≡ n → set (set (l ++ (x ∷ y ∷ r)) n a) (n + 1) b ≡ (l ++ (a ∷ b ∷ [])) ++ r
-      pair l r n a b x y e =
-          let e1 : length (l ++ (a ∷ [])) ≡ n + 1 = length-append l (a ∷ []) ∙ omega arith in
-          ap (λ (z : List ℕ). set z (n + 1) b) (set-at l x (y ∷ r) a n e ∙ sym (append-snoc l a (y ∷ r))) ∙ set-at (l ++ (a ∷ [])) y r b (n + 1) e1 ∙ simp append-assoc

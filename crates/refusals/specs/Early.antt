@@ -11,13 +11,9 @@ use Rattle.block.specs.Block.{decode}
 use Rattle.block.specs.WellFormed.{wellFormed}
 use Rattle.steptable.specs.declared.Given.{Given}
 
--- 1: not n bytes
-abbrev pub notBytes : ℕ → List ℕ → ℕ × Bool
-notBytes n s = (1, not (eqb (length s) n))
-
 -- 1: the block is not 2,180 bytes
 abbrev pub wrongLength : List ℕ → ℕ × Bool
-wrongLength b = notBytes blockSize b
+wrongLength b = (1, not (eqb (length b) blockSize))
 
 -- 1: so, or a lent buffer is under n bytes
 abbrev pub wrongLengths : ℕ → List ℕ → List ℕ → ℕ × Bool

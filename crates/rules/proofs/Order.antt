@@ -20,8 +20,8 @@ use Rattle.rules.specs.WellFormed.{WellFormed}
 use Rattle.rules.specs.Order.{Comes, Due, Precedes, WrittenSo, owner-first, heaviest-next, IsOrder}
 use Rattle.rules.proofs.Lists.{either, eqOr}
 use Rattle.rules.proofs.Limits.{code-inj, next-mono, next-below}
-use Rattle.rules.proofs.Chains.{limit-snoc, mem-snoc, distinct-snoc, distinct-length}
-use Rattle.rules.proofs.Reach.{reach-only}
+use Rattle.rules.proofs.Chains.{limit-snoc, limitFrom-top, mem-snoc, distinct-snoc, distinct-length}
+use Rattle.rules.proofs.Reach.{reach-attained, reach-only}
 use Rattle.rules.proofs.Certificate.{closed-bound, reach-owner}
 use Rattle.rules.proofs.Search.{Found, Search, search-closed, search-top, search-reach}
 use Rattle.rules.proofs.Links.{last-or, unsnoc-linked}
@@ -92,7 +92,10 @@ module _ (t : List ℤ) (R : Register) (v : ℕ) where
   pub order-few : {ws : List ℕ} → IsOrder t R v ws → Distinct ws × (WellFormed R → length ws ≤ 64)
   order-few {ws} o = (written-distinct (o .written), λ f. distinct-length 64 ws (written-distinct (o .written)) (written-small f (o .written)))
 
-  -- ── each has a limit ──
+  pub order-small : WellFormed R → {ws : List ℕ} → IsOrder t R v ws → (y : ℕ) → y ∈ ws → y < 64
+  order-small f o = written-small f (o .written)
+
+  -- ── each has a limit, from 0 to 255 ──
   pub written-reached : TableRule t → {ws : List ℕ} → WrittenSo t R v ws → (y : ℕ) → y ∈ ws → reach t R y v ≢ none
   written-reached rule owner-first y (List·Memᴰ·head e) = λ q. omega (arith, ap code (sym (reach-owner t rule R v) ∙ ap (λ (x : ℕ). reach t R x v) (sym e) ∙ q))
   written-reached rule owner-first y (List·Memᴰ·tail m) = absurd (List·Memᴰ·not-nil m)
@@ -101,6 +104,13 @@ module _ (t : List ℤ) (R : Register) (v : ℕ) where
       go : ((x : ℕ) → x ∈ ws → reach t R x v ≢ none) → (y ∈ ws) ⊎ (y ≡ s) → reach t R y v ≢ none
       go ih (inl k) = ih y k
       go ih (inr e) = subst (λ (x : ℕ). reach t R x v ≢ none) (sym e) (d .reached)
+
+  pub order-limits : TableRule t → {ws : List ℕ} → IsOrder t R v ws → (y : ℕ) → y ∈ ws → (pos 0 ≼ reach t R y v) × (reach t R y v ≼ pos 255)
+  order-limits rule o y m = go (reach-attained t R y v)
+    where
+      go : (reach t R y v ≡ none) ⊎ ((ds : List Delegation) × IsChain t R y v ds × (reach t R y v ≡ limit t ds)) → (pos 0 ≼ reach t R y v) × (reach t R y v ≼ pos 255)
+      go (inl e) = absurd (o .reached y m e)
+      go (inr (ds, c, e)) = subst (λ (l : ℤ). (pos 0 ≼ l) × (l ≼ pos 255)) (sym e) (c .live, limitFrom-top t rule (pos 255) ds (le-refl 256))
 
 -- ── a search settles in this order ──
 module _ (t : List ℤ) (rule : TableRule t) (R : Register) (v : ℕ) (L : ℕ → ℤ) (settled : ℕ → Bool) (parent : ℕ → Delegation) (search : Search t R v L settled parent []) where
