@@ -85,8 +85,8 @@ impl List {
             0..=12 => List::fresh(random, conditions, (2, 8), (20, 90)),
             13..=17 => List::fresh(random, conditions, (9, 30), (80, 250)),
             18..=19 => List { fills: true, ..List::fresh(random, conditions, (40, 66), (380, 480)) },
-            20..=40 => List { left: random.range(2, 10), ..List::on_register(random, conditions, Kind::Formed) },
-            41..=44 => List::on_orders(random),
+            20..=36 => List { left: random.range(2, 10), ..List::on_register(random, conditions, Kind::Formed) },
+            37..=44 => List::on_orders(random),
             45..=53 => List::on_files(random),
             54..=59 => List { left: random.range(10, 20), raises: true, ..List::on_full(random, conditions) },
             60..=79 => List { left: random.range(2, 10), cuts: true, ..List::on_dense(random) },
@@ -97,7 +97,7 @@ impl List {
 
     /// Most calls are orders, on blocks of any content, in many of which most delegations are unlimited.
     pub fn on_orders(random: &mut Random) -> List {
-        let (left, conditions) = (random.range(20, 50), random.pick(&[0, 0, 20, 50, 80]));
+        let (left, conditions) = (random.range(8, 24), random.pick(&[0, 0, 20, 50, 80]));
         let kind = random.pick(&[Kind::Formed, Kind::Formed, Kind::Formed, Kind::Spoiled, Kind::Noise]);
         let list = match random.below(20) {
             0 | 1 => List::on_full(random, conditions),
@@ -145,12 +145,13 @@ impl List {
         List::on_shape(random, Kind::Formed, &shape)
     }
 
-    /// On a register in which most delegations are unlimited; in half of them the owner's right comes to all.
+    /// On a register in which most delegations are unlimited; in most of them the owner's right comes to all.
     fn on_unlimited(random: &mut Random, conditions: u32, kind: Kind) -> List {
-        let subjects = random.pick(&[5, 6, 8, 8, 13, 13, 24, 64]);
-        let shape = Shape { subjects, delegations: subjects * 2, weights: &UNLIMITED, marks: MARKS, conditions };
+        let subjects = random.pick(&[5, 6, 8, 13, 24, 64, 64]);
+        let delegations = random.range(subjects / 2, subjects * 2);
+        let shape = Shape { subjects, delegations, weights: &UNLIMITED, marks: MARKS, conditions };
         let mut register = random_register(random, &shape);
-        if random.chance(50) {
+        if random.chance(65) {
             give_to_all(random, &mut register);
         }
         List::on_drawn(random, kind, register, conditions)
@@ -220,7 +221,7 @@ impl List {
             Call::Grant if self.names_standing(random) => standing_grant(random, &self.register, &text.table),
             _ => plausible(random, call, &self.register, self.conditions, &text.table),
         };
-        let passed = if random.chance(5) { with_odd_number(random, &n) } else { n };
+        let passed = if random.chance(8) { with_odd_number(random, &n) } else { n };
         Drawn { asked: Asked::Call(passed), text, file: Vec::new() }
     }
 
@@ -228,7 +229,7 @@ impl List {
     fn order(&self, random: &mut Random) -> Drawn {
         let text = self.tables.next(random).lent();
         let n = plausible(random, Call::Order, &self.register, self.conditions, &text.table);
-        let passed = if random.chance(10) { with_odd_number(random, &n) } else { n };
+        let passed = if random.chance(8) { with_odd_number(random, &n) } else { n };
         Drawn { asked: Asked::Order(passed.receiver), text, file: order_buffer(random) }
     }
 
@@ -374,7 +375,7 @@ fn plausible(random: &mut Random, call: Call, register: &Register, conditions: u
         Call::Downgrade => Passed { by, giver, receiver, weight: lower_weight(random, register, giver, receiver), ..n },
         Call::Reach => Passed { giver, receiver, ..n },
         Call::Use => Passed { receiver: random.pick(&[receiver, other]), ..n },
-        Call::Order => Passed { receiver, ..n },
+        Call::Order => Passed { receiver: if random.chance(3) { count } else { receiver }, ..n },
         Call::Open | Call::Chain => n,
     }
 }

@@ -140,12 +140,11 @@ impl Orders {
         self.unsorted += order.windows(2).any(|two| two[0].1 == two[1].1 && two[0].0 > two[1].0) as u64;
     }
 
-    /// What did not occur.
+    /// What did not occur; orders of all subjects need not occur under each table.
     fn missing(&self) -> Vec<&'static str> {
-        let Orders { full, all, with_receiver, without, unsorted } = *self;
+        let Orders { full, with_receiver, without, unsorted, .. } = *self;
         let counts = [
             (full, "an order of a full register"),
-            (all, "an order of 64 subjects"),
             (with_receiver, "an order with its receiver"),
             (without, "an order without its receiver"),
             (unsorted, "an order that is not by number where limits tie"),
@@ -351,6 +350,9 @@ impl Report {
         for (table, grants) in TABLES.iter().zip(self.standing) {
             let absent = grants.missing().into_iter();
             missing.extend(absent.map(|(number, place)| format!("{number} for a standing pair, {table}, {place}")));
+        }
+        if self.orders.iter().all(|orders| orders.all == 0) {
+            missing.push("an order of 64 subjects".to_string());
         }
         for (table, orders) in TABLES.iter().zip(self.orders) {
             missing.extend(orders.missing().into_iter().map(|what| format!("{what}, {table}")));
