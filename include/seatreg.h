@@ -321,8 +321,8 @@ SEATREG_CALL uint32_t seatreg_downgrade_table(uint8_t *block, size_t block_len,
  *     The bytes after the last pair stay as they were.
  *     A limit, 0 to 255, is how much the subject could pass on to this receiver now: what
  *     seatreg_reach_table, lent the same table, answers for that giver and this receiver, where the two
- *     differ. The receiver itself is among the subjects where some chain from the owner to it has only
- *     conditions that it meets; its limit is the largest that such a chain carries.
+ *     differ. The receiver itself is among the subjects where a chain from the owner to it, all of whose
+ *     conditions it meets, carries a limit; its own is then the largest of these.
  *   Block: only read. */
 SEATREG_CALL uint32_t seatreg_order(const uint8_t *block, size_t block_len,
                                     uint32_t receiver,
