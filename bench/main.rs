@@ -1,7 +1,8 @@
 //! The archive and the second implementation, measured side by side in one
 //! run: nanoseconds a call, and their ratio. A call that is lent a table's text
-//! is also measured beside the same call without it; a read of a register file,
-//! which judges support as a round does, beside a cut of one round.
+//! is also measured beside the same call without it; an order beside the second
+//! implementation's by a search; a read of a register file, which judges support
+//! as a round does, beside a cut of one round.
 
 #[path = "../tests/compare/contents.rs"]
 mod contents;
@@ -11,19 +12,22 @@ mod entry;
 mod lent;
 
 use contents::Asked;
-use entry::{entry_call, entry_call_table, entry_read, entry_write, FileCall};
+use entry::{entry_call, entry_call_table, entry_order, entry_read, entry_write, FileCall};
 use generate::{examples, register, rounds, slow, Grant};
 use lent::Lent;
 use second::block::{encode, Delegation, Register, BLOCK_LEN, MOST_DELEGATIONS};
+use second::call::blank;
 use second::engine::FAST;
 use second::host::{host_call, host_call_table, host_read, host_write};
-use second::refusal::{Call, Passed, NOT_WELL_FORMED};
+use second::order::popped;
+use second::refusal::{admit, Call, Passed, NOT_WELL_FORMED, ORDER_BUFFER};
 use second::regfile::{file_text, LEAST_TEXT};
 use second::table::OURS;
 use std::time::Instant;
 
 /// A row: what is measured, the block, the call, what it returns, how many
-/// rounds it takes, the table's text and the register file that it is lent.
+/// rounds it takes, the table's text that it is lent, and the register file or
+/// the buffer of an order.
 struct Row {
     what: &'static str,
     block: Vec<u8>,
@@ -36,7 +40,7 @@ struct Row {
 
 fn main() {
     println!("{:<44} {:>12} {:>12} {:>7}", "", "archive", "second", "ratio");
-    for row in rows() {
+    for row in rows().into_iter().chain(order_rows()) {
         measure(&row);
     }
     for (what, register) in [("full register", full_register()), ("the longest numbers", longest())] {
@@ -78,6 +82,25 @@ fn rows() -> Vec<Row> {
             ..with_text(row("reach, refused with 8, our text", &[0; BLOCK_LEN], passed(Call::Reach, 0, 0, 1, 0), 0))
         },
     ]
+}
+
+fn order_rows() -> Vec<Row> {
+    let [full, star, small] = [full_register(), star(), eight()].map(|register| encode(&register));
+    vec![
+        order_row("order, full register", &full, 62),
+        order_row("  all limits distinct", &encode(&descending()), 62),
+        order_row("  a star of 63 delegations", &star, 63),
+        order_row("  8 subjects, weights 9 and 5", &small, 6),
+        with_text(order_row("order, full register, our text", &full, 62)),
+        with_text(order_row("order, a star, our text", &star, 63)),
+        with_text(order_row("order, 8 subjects, our text", &small, 6)),
+    ]
+}
+
+/// Lent an empty text, which stands for our table.
+fn order_row(what: &'static str, block: &[u8], receiver: u32) -> Row {
+    let file = vec![0; ORDER_BUFFER];
+    Row { what, block: block.to_vec(), asked: Asked::Order(receiver), refusal: 0, rounds: 0, text: None, file }
 }
 
 fn row(what: &'static str, block: &[u8], call: Passed, rounds: u32) -> Row {
@@ -209,7 +232,7 @@ const BATCH: usize = 32;
 /// What a batch of calls took, in nanoseconds a call, and what the first left.
 struct Batch {
     time: u64,
-    /// The block, the register file and the answers.
+    /// The block, the register file or the buffer of an order, and the answers.
     left: [Vec<u8>; 3],
 }
 
@@ -223,6 +246,7 @@ fn archive_batch(row: &Row, size: usize, text: Option<&[u8]>) -> Batch {
         let refusal = match row.asked {
             Asked::Call(n) if text.is_some() => entry_call_table(&n, block, &mut table, &mut answers),
             Asked::Call(n) => entry_call(&n, block, &mut answers),
+            Asked::Order(receiver) => entry_order(receiver, block, &mut table, &mut file, &mut answers),
             Asked::File(FileCall::Write) => entry_write(block, &mut file, &mut answers),
             Asked::File(FileCall::Read) => entry_read(block, &mut file, &mut table, &mut answers),
         };
@@ -240,6 +264,7 @@ fn second_batch(row: &Row, size: usize) -> Batch {
     for block in &mut blocks {
         let refusal = match row.asked {
             Asked::Call(n) => host_call_table(&FAST, &n, text, block, &mut answers),
+            Asked::Order(receiver) => popped_order(receiver, block, text, &mut file, &mut answers),
             Asked::File(FileCall::Write) => host_write(block, &mut file, &mut answers),
             Asked::File(FileCall::Read) => host_read(&FAST, block, &file, text, &mut answers),
         };
@@ -247,6 +272,21 @@ fn second_batch(row: &Row, size: usize) -> Batch {
     }
     let time = start.elapsed().as_nanos() as u64 / size as u64;
     Batch { time, left: [blocks.swap_remove(0), file, answers] }
+}
+
+/// The order by a search: the one that a host is given searches once for each subject.
+fn popped_order(receiver: u32, block: &[u8], text: &[u8], out: &mut [u8], answers: &mut [u8]) -> u32 {
+    let passed = Passed { receiver, ..blank(Call::Order) };
+    let (table, register) = match admit(&FAST, &passed, text, block, out.len()) {
+        Err(refusal) => return refusal,
+        Ok(admitted) => admitted,
+    };
+    let order = popped(&table, &register, receiver);
+    for (place, &(subject, limit)) in out.chunks_exact_mut(2).zip(&order) {
+        place.copy_from_slice(&[subject, limit]);
+    }
+    answers.copy_from_slice(&[2 * order.len() as i32, 0, 0].map(i32::to_le_bytes).concat());
+    0
 }
 
 /// The medians of many batches, each batch first with the one, then with the

@@ -10,10 +10,11 @@
  * THE BLOCK. A register is 2,180 bytes that the host owns. There is nothing else: no state between
  * calls, no allocation, no file opened, no clock. The bytes mean the same on every machine, so a block may
  * be copied, saved and loaded as it is. Change it by calls only. The readers at the end list what
- * it holds, and seatreg_write writes it as text.
+ * it holds, seatreg_order says from whom the right can come to a receiver, and seatreg_write writes it
+ * as text.
  *
  * WHAT A CALL RETURNS. Every call returns a refusal number, 0 when it is accepted.
- *   - Refused: no byte changes, neither of the block nor of the answers nor of a buffer for text.
+ *   - Refused: no byte changes, neither of the block nor of the answers nor of any other buffer.
  *   - Accepted: the three answers are written, 12 bytes, each answer signed, four bytes, low byte
  *     first, those that the call doesn't use 0. seatreg_answer reads one.
  * Where several refusals apply, the first in the order given at the call is returned. Every number
@@ -23,7 +24,7 @@
  *
  * THE STEP TABLE has a next for each weight: what a limit falls to at one step, -1 where nothing may
  * follow. In ours 0 gives -1, each other weight one less, and 255 keeps 255. The calls whose names end
- * in _table, and read, are lent one as text; all others that need a table use ours.
+ * in _table, order and read are lent one as text; all others that need a table use ours.
  *   - Its form: the line "weight next", then a line of a weight and its next for each of the weights 0
  *     to 255, in order. Numbers are decimal and at most 4,294,967,295, one space between, no leading
  *     zero, no sign but that of -1, which only a next may be. Every line ends with byte 10, the last
@@ -65,18 +66,19 @@
  *
  * WHAT THE HOST MUST SEE TO. Nothing can check these, and what a call does without them is undefined.
  *   - Each pointer is valid for the length passed with it until the call returns: `answers` for
- *     reading and writing, `block` too, but for reach, use and write, which only read it, `table` for
- *     reading, `text` for reading and writing in write and for reading in read. No alignment is needed.
+ *     reading and writing, `block` too, but for reach, use, order and write, which only read it, `table`
+ *     for reading, `out` for reading and writing, `text` for reading and writing in write and for
+ *     reading in read. No alignment is needed.
  *   - The buffers of one call, two to four, lie apart: they share no byte. So a text isn't read into
  *     bytes in which it lies itself.
  *   - No pointer is null, not even with a length of 0. With a length of 0 it need not point to
- *     anything: nothing is read or written through it. For a block or answers of length 0 the call
- *     returns 1; a table's text may have length 0, and for a register file of length 0 it returns 7.
+ *     anything: nothing is read or written through it. For a block, answers or out of length 0 the
+ *     call returns 1; a table's text may have length 0, and for a register file of length 0 it returns 7.
  *   - While a call runs, no other thread writes the bytes lent to it, nor reads bytes that it may
  *     write: no two calls at the same time on one block, with one answers buffer, or writing into one
- *     buffer for text. Reach, use and write only read the block, so several of these may run on one
- *     block, each with buffers of its own. One table's text may be lent to any number of calls, and so
- *     may one register file to reads.
+ *     buffer of an order or for text. Reach, use, order and write only read the block, so several of
+ *     these may run on one block, each with buffers of its own. One table's text may be lent to any
+ *     number of calls, and so may one register file to reads.
  *   - The thread that calls has enough stack: a call needs at most 32 KiB of stack on x86-64. This
  *     is measured; the proofs know of no stack.
  *
@@ -95,8 +97,8 @@
 /* The version of this header and of the archive that comes with it, as text and as a number: 10,000
  * times the first part, plus 100 times the second, plus the third. README.md, 'Versions', says which
  * changes raise which part. */
-#define SEATREG_VERSION "1.3.0"
-#define SEATREG_VERSION_NUMBER 10300
+#define SEATREG_VERSION "1.4.0"
+#define SEATREG_VERSION_NUMBER 10400
 
 /* Where the compiler has such attributes, it warns of a host that doesn't look at what a call
  * returns, and of a pointer that it can see to be null. */
@@ -110,9 +112,10 @@
 extern "C" {
 #endif
 
-/* Lengths of the block and the answers: pass these and nothing else. */
+/* Lengths of the block, the answers and the buffer of an order: pass these and nothing else. */
 #define SEATREG_BLOCK_SIZE 2180
 #define SEATREG_ANSWERS_SIZE 12
+#define SEATREG_ORDER_SIZE 128
 
 /* The least length of the buffer for text that seatreg_write is lent: every register file fits. */
 #define SEATREG_TEXT_SIZE 8192
@@ -164,7 +167,7 @@ static inline const char *seatreg_refusal_text(uint32_t refusal)
 {
     static const char *const texts[] = {
         "accepted",
-        "the block is not 2,180 bytes, the answers not 12, or the buffer for text under 8,192",
+        "the block is not 2,180 bytes, the answers not 12, the buffer of an order not 128, or the buffer for text under 8,192",
         "a subject number is above 63",
         "the weight is above 255",
         "marks, need or bar above 65,535, or need and bar share a mark",
@@ -301,6 +304,31 @@ SEATREG_CALL uint32_t seatreg_downgrade_table(uint8_t *block, size_t block_len,
                                               uint32_t by, uint32_t giver, uint32_t receiver, uint32_t weight,
                                               const uint8_t *table, size_t table_len,
                                               uint8_t *answers, size_t answers_len);
+
+/* Order: from whom the right can come to one receiver, and how far, the heaviest giver first. It writes
+ * precisely the subjects whose reach for this receiver isn't -1, each with that reach, its limit.
+ *   receiver: any enrolled subject but the owner.
+ *   table: as for the calls above: the text of the table that is lent with every other call on the
+ *     register, or table_len 0 for ours.
+ *   out: the buffer, 128 bytes (SEATREG_ORDER_SIZE), neither fewer nor more.
+ *   Refusals in order: 1, 2, 6, 7, 17, 8, 9.
+ *   Answers: how many bytes were written, two for each subject, 2 to 128; 0, 0.
+ *   Out: for each subject a byte for its number and a byte for its limit. This prints them:
+ *         for (int32_t i = 0; i < seatreg_answer(answers, 0); i += 2)
+ *             printf("%d %d\n", out[i], out[i + 1]);
+ *     The owner is first, with 255. Then comes always the heaviest unwritten one whose limit comes by
+ *     one delegation from a subject already written, of equally heavy ones that of the lowest number.
+ *     The bytes after the last pair stay as they were.
+ *     A limit, 0 to 255, is how much the subject could pass on to this receiver now: what
+ *     seatreg_reach_table, lent the same table, answers for that giver and this receiver, where the two
+ *     differ. The receiver itself is among the subjects where a chain from the owner to it, all of whose
+ *     conditions it meets, carries a limit; its own is then the largest of these.
+ *   Block: only read. */
+SEATREG_CALL uint32_t seatreg_order(const uint8_t *block, size_t block_len,
+                                    uint32_t receiver,
+                                    const uint8_t *table, size_t table_len,
+                                    uint8_t *out, size_t out_len,
+                                    uint8_t *answers, size_t answers_len);
 
 /* Write: the register as text, a register file, as THE REGISTER FILE says. Every well-formed register
  * is written, supported or not; there is no table.

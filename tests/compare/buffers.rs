@@ -3,7 +3,7 @@
 
 use crate::contents::{Asked, Contents};
 use crate::draw::{answers_length, block_length, Drawn};
-use crate::entry::{entry_call, entry_call_table, entry_read, entry_write, FileCall};
+use crate::entry::{entry_call, entry_call_table, entry_order, entry_read, entry_write, FileCall};
 use crate::fault::Fault;
 use crate::lent::Lent;
 use crate::readers::{due, read, Listed};
@@ -17,7 +17,7 @@ use second::random::Random;
 /// The buffers lent to the entry points; a buffer that an entry point doesn't take is empty and not lent.
 pub struct Buffers {
     pub block: Lent,
-    /// The register file of a read, or the buffer of a write.
+    /// The register file of a read, or the buffer that a write or an order writes into.
     pub file: Lent,
     /// The table's text.
     pub table: Lent,
@@ -94,6 +94,9 @@ impl Buffers {
                 entry_call_table(&(fault.before)(n), &mut self.block, &mut self.table, &mut self.answers)
             }
             Asked::Call(n) => entry_call(&(fault.before)(n), &mut self.block, &mut self.answers),
+            Asked::Order(receiver) => {
+                entry_order(*receiver, &mut self.block, &mut self.table, &mut self.file, &mut self.answers)
+            }
             Asked::File(FileCall::Write) => entry_write(&mut self.block, &mut self.file, &mut self.answers),
             Asked::File(FileCall::Read) => {
                 entry_read(&mut self.block, &mut self.file, &mut self.table, &mut self.answers)
@@ -107,12 +110,12 @@ impl Buffers {
         if let Some(standing) = standing.filter(|standing| (fault.when)(standing)) {
             return Some(self.leave(&(fault.does)(standing)));
         }
-        let made = match asked {
-            Asked::Call(_) => None,
-            Asked::File(FileCall::Write) => fault.write,
-            Asked::File(FileCall::Read) => fault.read,
+        let (number, left) = match asked {
+            Asked::Call(_) => return None,
+            Asked::Order(receiver) => fault.order?(lent, *receiver),
+            Asked::File(FileCall::Write) => fault.write?(lent),
+            Asked::File(FileCall::Read) => fault.read?(lent),
         };
-        let (number, left) = made?(lent);
         self.block.write(&left.block);
         self.file.write(&left.file);
         self.answers.write(&left.answers);

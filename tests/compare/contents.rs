@@ -3,13 +3,14 @@
 
 use crate::entry::FileCall;
 use second::engine::FAST;
-use second::host::{host_call_table, host_read, host_write};
+use second::host::{host_call_table, host_order, host_read, host_write};
 use second::refusal::Passed;
 
-/// One of document 01's calls with its numbers, or one on a register file.
+/// One of document 01's calls with its numbers, the order for a receiver, or a call on a register file.
 #[derive(Clone, Copy, Debug)]
 pub enum Asked {
     Call(Passed),
+    Order(u32),
     File(FileCall),
 }
 
@@ -17,7 +18,7 @@ pub enum Asked {
 #[derive(Clone)]
 pub struct Contents {
     pub block: Vec<u8>,
-    /// The register file of a read, or the buffer of a write.
+    /// The register file of a read, or the buffer that a write or an order writes into.
     pub file: Vec<u8>,
     /// The table's text.
     pub table: Vec<u8>,
@@ -29,9 +30,17 @@ impl Contents {
     pub fn call(&mut self, asked: &Asked) -> u32 {
         match asked {
             Asked::Call(n) => host_call_table(&FAST, n, &self.table, &mut self.block, &mut self.answers),
+            Asked::Order(receiver) => {
+                host_order(&FAST, &self.block, *receiver, &self.table, &mut self.file, &mut self.answers)
+            }
             Asked::File(FileCall::Write) => host_write(&self.block, &mut self.file, &mut self.answers),
             Asked::File(FileCall::Read) => host_read(&FAST, &mut self.block, &self.file, &self.table, &mut self.answers),
         }
+    }
+
+    /// After an accepted order, its subjects, each with its limit.
+    pub fn pairs(&self) -> impl Iterator<Item = (u8, u8)> + '_ {
+        self.file[..self.answer()].chunks_exact(2).map(|pair| (pair[0], pair[1]))
     }
 
     /// The first answer.

@@ -8,7 +8,7 @@ use second::block::*;
 use second::call::blank;
 use second::callfile::{from_values, used_columns, values_of};
 use second::random::{random_masks, random_register, Random, Shape};
-use second::refusal::{takes_table, Call, Passed};
+use second::refusal::{takes_table, Call, Passed, ORDER_BUFFER};
 use second::search::reach_table;
 use second::table::{Table, OURS};
 
@@ -30,9 +30,12 @@ pub const KINDS: [Kind; 4] = [Kind::Fresh, Kind::Formed, Kind::Spoiled, Kind::No
 const WEIGHTS: [u8; 16] = [0, 1, 1, 2, 2, 3, 3, 4, 5, 9, 100, 200, 254, 255, 255, 255];
 /// With many of these and of conditions, a cut takes many rounds.
 const HEAVY: [u8; 8] = [100, 200, 254, 255, 255, 255, 255, 255];
+/// With these the limits of many subjects tie, also of some that come by one another.
+const UNLIMITED: [u8; 8] = [3, 9, 254, 255, 255, 255, 255, 255];
 /// Marks and masks are made of these bits.
 const MARKS: u16 = 0x8007;
 const NEAR_LENGTHS: [usize; 12] = [0, 1, 3, 4, 131, 132, 2172, 2178, 2179, 2181, 2188, 4360];
+const ORDER_LENGTHS: [usize; 12] = [0, 1, 2, 64, 126, 127, 127, 129, 129, 130, 256, 8192];
 const EDGES: [u32; 12] = [0, 1, 62, 63, 64, 254, 255, 256, 65_535, 65_536, 0x8000_0000, 0xFFFF_FFFF];
 
 /// A call, and what it is lent beside the block and the answers.
@@ -40,13 +43,14 @@ pub struct Drawn {
     pub asked: Asked,
     /// The table's text; for a write, that of the read which follows it.
     pub text: Text,
-    /// The register file of a read, the buffer of a write.
+    /// The register file of a read, the buffer of a write or of an order.
     pub file: Vec<u8>,
 }
 
 /// What is called next.
 enum What {
     Call(Call),
+    Order,
     File(FileCall),
 }
 
@@ -64,6 +68,8 @@ pub struct List {
     cuts: bool,
     /// Most calls are grants for a standing pair.
     raises: bool,
+    /// Most calls are orders.
+    orders: bool,
     /// Most calls are on a register file.
     files: bool,
     conditions: u32,
@@ -79,13 +85,26 @@ impl List {
             0..=12 => List::fresh(random, conditions, (2, 8), (20, 90)),
             13..=17 => List::fresh(random, conditions, (9, 30), (80, 250)),
             18..=19 => List { fills: true, ..List::fresh(random, conditions, (40, 66), (380, 480)) },
-            20..=44 => List { left: random.range(2, 10), ..List::on_register(random, conditions, Kind::Formed) },
+            20..=36 => List { left: random.range(2, 10), ..List::on_register(random, conditions, Kind::Formed) },
+            37..=44 => List::on_orders(random),
             45..=53 => List::on_files(random),
             54..=59 => List { left: random.range(10, 20), raises: true, ..List::on_full(random, conditions) },
             60..=79 => List { left: random.range(2, 10), cuts: true, ..List::on_dense(random) },
             80..=96 => List { left: random.range(10, 40), ..List::on_register(random, conditions, Kind::Spoiled) },
             _ => List { kind: Kind::Noise, opens: false, ..List::fresh(random, conditions, (0, 0), (5, 20)) },
         }
+    }
+
+    /// Most calls are orders, on blocks of any content, in many of which most delegations are unlimited.
+    pub fn on_orders(random: &mut Random) -> List {
+        let (left, conditions) = (random.range(8, 24), random.pick(&[0, 0, 20, 50, 80]));
+        let kind = random.pick(&[Kind::Formed, Kind::Formed, Kind::Formed, Kind::Spoiled, Kind::Noise]);
+        let list = match random.below(20) {
+            0 | 1 => List::on_full(random, conditions),
+            2..=10 => List::on_unlimited(random, conditions, kind),
+            _ => List::on_register(random, conditions, kind),
+        };
+        List { left, orders: true, ..list }
     }
 
     /// Most calls are writes and reads, on blocks of any content.
@@ -105,6 +124,7 @@ impl List {
             fills: false,
             cuts: false,
             raises: false,
+            orders: false,
             files: false,
             conditions,
             tables: Tables::draw(random),
@@ -123,6 +143,18 @@ impl List {
         let (subjects, conditions) = (random.pick(&[6, 8, 13]), random.pick(&[80, 100]));
         let shape = Shape { subjects, delegations: subjects * 6, weights: &HEAVY, marks: MARKS, conditions };
         List::on_shape(random, Kind::Formed, &shape)
+    }
+
+    /// On a register in which most delegations are unlimited; in most of them the owner's right comes to all.
+    fn on_unlimited(random: &mut Random, conditions: u32, kind: Kind) -> List {
+        let subjects = random.pick(&[5, 6, 8, 13, 24, 64, 64]);
+        let delegations = random.range(subjects / 2, subjects * 2);
+        let shape = Shape { subjects, delegations, weights: &UNLIMITED, marks: MARKS, conditions };
+        let mut register = random_register(random, &shape);
+        if random.chance(65) {
+            give_to_all(random, &mut register);
+        }
+        List::on_drawn(random, kind, register, conditions)
     }
 
     /// On a well-formed register in which 256 delegations stand.
@@ -169,6 +201,7 @@ impl List {
         }
         Some(match self.what(random) {
             What::Call(call) => self.call(random, call),
+            What::Order => self.order(random),
             What::File(FileCall::Write) => {
                 let (text, file) = (self.tables.usual(random).lent(), buffer(random));
                 Drawn { asked: Asked::File(FileCall::Write), text, file }
@@ -188,8 +221,16 @@ impl List {
             Call::Grant if self.names_standing(random) => standing_grant(random, &self.register, &text.table),
             _ => plausible(random, call, &self.register, self.conditions, &text.table),
         };
-        let passed = if random.chance(5) { with_odd_number(random, &n) } else { n };
+        let passed = if random.chance(8) { with_odd_number(random, &n) } else { n };
         Drawn { asked: Asked::Call(passed), text, file: Vec::new() }
+    }
+
+    /// For a receiver that is likely to be enrolled.
+    fn order(&self, random: &mut Random) -> Drawn {
+        let text = self.tables.next(random).lent();
+        let n = plausible(random, Call::Order, &self.register, self.conditions, &text.table);
+        let passed = if random.chance(8) { with_odd_number(random, &n) } else { n };
+        Drawn { asked: Asked::Order(passed.receiver), text, file: order_buffer(random) }
     }
 
     fn what(&mut self, random: &mut Random) -> What {
@@ -206,6 +247,9 @@ impl List {
         }
         if self.raises && random.chance(70) {
             return What::Call(Call::Grant);
+        }
+        if random.chance(if self.orders { 80 } else { 2 }) {
+            return What::Order;
         }
         if random.chance(if self.files { 80 } else { 10 }) {
             return What::File(random.pick(&[FileCall::Write, FileCall::Read, FileCall::Read]));
@@ -233,6 +277,21 @@ impl List {
             _ => 25,
         };
         !self.register.delegations.is_empty() && random.chance(of_100)
+    }
+}
+
+/// Each subject gets an unlimited delegation from one that has got one before, or from the owner.
+fn give_to_all(random: &mut Random, register: &mut Register) {
+    let mut without: Vec<u8> = (1..register.marks.len() as u8).collect();
+    let mut with = vec![0];
+    while !without.is_empty() {
+        let receiver = without.swap_remove(random.below(without.len() as u32) as usize);
+        let new = Delegation { giver: random.pick(&with), receiver, weight: 255, need: 0, bar: 0 };
+        match register.place(new.giver as u32, receiver as u32) {
+            Ok(at) => register.delegations[at] = new,
+            Err(at) => register.delegations.insert(at, new),
+        }
+        with.push(receiver);
     }
 }
 
@@ -287,12 +346,18 @@ pub fn answers_length(random: &mut Random) -> usize {
     second::host::ANSWERS_LEN
 }
 
+/// What an order is lent to write into, nearly always of the right length.
+fn order_buffer(random: &mut Random) -> Vec<u8> {
+    let length = if random.chance(10) { random.pick(&ORDER_LENGTHS) } else { ORDER_BUFFER };
+    (0..length).map(|_| random.next() as u8).collect()
+}
+
 /// A call that is likely to be accepted under this table.
 fn plausible(random: &mut Random, call: Call, register: &Register, conditions: u32, table: &Table) -> Passed {
     let count = register.marks.len() as u32;
     let (giver, receiver) = match call {
         Call::Grant => open_pair(random, register),
-        Call::Reach => any_pair(random, count),
+        Call::Reach | Call::Order => any_pair(random, count),
         _ => standing_pair(random, register),
     };
     let n = blank(call);
@@ -310,14 +375,15 @@ fn plausible(random: &mut Random, call: Call, register: &Register, conditions: u
         Call::Downgrade => Passed { by, giver, receiver, weight: lower_weight(random, register, giver, receiver), ..n },
         Call::Reach => Passed { giver, receiver, ..n },
         Call::Use => Passed { receiver: random.pick(&[receiver, other]), ..n },
+        Call::Order => Passed { receiver: if random.chance(3) { count } else { receiver }, ..n },
         Call::Open | Call::Chain => n,
     }
 }
 
 /// Any two subjects, the receiver rarely the owner.
 fn any_pair(random: &mut Random, count: u32) -> (u32, u32) {
-    let least = if random.chance(15) { 0 } else { 1 };
-    (random.below(count), random.range(least, count.max(2) - 1))
+    let receiver = if random.chance(10) { 0 } else { random.range(1, count.max(2) - 1) };
+    (random.below(count), receiver)
 }
 
 /// For most calls a pair that stands, if there is one.

@@ -42,6 +42,10 @@ extern "C" {
         block: *mut u8, block_len: usize, by: u32, giver: u32, receiver: u32, weight: u32,
         table: *const u8, table_len: usize, answers: *mut u8, answers_len: usize,
     ) -> u32;
+    fn seatreg_order(
+        block: *const u8, block_len: usize, receiver: u32, table: *const u8, table_len: usize,
+        out: *mut u8, out_len: usize, answers: *mut u8, answers_len: usize,
+    ) -> u32;
     fn seatreg_write(
         block: *const u8, block_len: usize, text: *mut u8, text_len: usize,
         answers: *mut u8, answers_len: usize,
@@ -52,11 +56,13 @@ extern "C" {
     ) -> u32;
 }
 
-/// An entry point: a call, lent a table's text or not, or a call on a register file.
+/// An entry point: a call, lent a table's text or not, the order, or a call on a register file.
 #[derive(Clone, Copy, PartialEq, Eq)]
 pub enum Entry {
     Without(Call),
     WithTable(Call),
+    /// Lent a table's text, and a buffer that it writes into.
+    Order,
     File(FileCall),
 }
 
@@ -68,7 +74,7 @@ pub enum FileCall {
 }
 
 /// All of them, in the header's order.
-pub const ENTRIES: [Entry; 13] = [
+pub const ENTRIES: [Entry; 14] = [
     Entry::Without(Call::Open),
     Entry::Without(Call::Enrol),
     Entry::Without(Call::Grant),
@@ -80,6 +86,7 @@ pub const ENTRIES: [Entry; 13] = [
     Entry::WithTable(Call::Reach),
     Entry::WithTable(Call::Revoke),
     Entry::WithTable(Call::Downgrade),
+    Entry::Order,
     Entry::File(FileCall::Write),
     Entry::File(FileCall::Read),
 ];
@@ -98,6 +105,7 @@ pub fn entry_call(n: &Passed, block: &mut Lent, answers: &mut Lent) -> u32 {
             Call::Reach => seatreg_reach(b, b_len, n.giver, n.receiver, a, a_len),
             Call::Use => seatreg_use(b, b_len, n.receiver, a, a_len),
             Call::Chain => unreachable!("the chain call has no entry point"),
+            Call::Order => unreachable!("the order has a function of its own"),
         }
     }
 }
@@ -120,6 +128,14 @@ pub fn entry_call_table(n: &Passed, block: &mut Lent, table: &mut Lent, answers:
             _ => unreachable!("the call takes no table"),
         }
     }
+}
+
+/// Writes the order for a receiver; answers the number returned.
+pub fn entry_order(receiver: u32, block: &mut Lent, table: &mut Lent, out: &mut Lent, answers: &mut Lent) -> u32 {
+    let (b, b_len, a, a_len) = (block.pointer(), block.len(), answers.pointer(), answers.len());
+    let (t, t_len) = (table.pointer(), table.len());
+    // Each pointer is valid for its length, and the four buffers lie apart.
+    unsafe { seatreg_order(b, b_len, receiver, t, t_len, out.pointer(), out.len(), a, a_len) }
 }
 
 /// Writes the register of a block as text; answers the number returned.

@@ -22,8 +22,9 @@ pub struct Fault {
     /// For which grants for a standing pair the entry point is not called, and what these do.
     pub when: fn(&Standing) -> bool,
     pub does: fn(&Standing) -> Left,
-    /// What is made in place of the entry point of a write or a read, from what it is lent: the number
-    /// that it returns, and the buffers as it leaves them.
+    /// What is made in place of the entry point of an order, a write or a read, from what it is lent: the
+    /// number that it returns, and the buffers as it leaves them. An order is made for a receiver.
+    pub order: Option<fn(&Contents, u32) -> (u32, Contents)>,
     pub write: Option<fn(&Contents) -> (u32, Contents)>,
     pub read: Option<fn(&Contents) -> (u32, Contents)>,
     /// What happens to a file between a write and the read that follows it.
@@ -44,6 +45,7 @@ pub const NONE: Fault = Fault {
     text: |text| Some(text),
     when: |_| false,
     does: Standing::raised,
+    order: None,
     write: None,
     read: None,
     carried: |_| (),
@@ -92,13 +94,13 @@ pub const FAULTS: [Fault; 20] = [
     Fault {
         name: "the table's text left out",
         text: |_| None,
-        parts: &[Part::Number, Part::Block, Part::Answers],
+        parts: &[Part::Number, Part::Block, Part::Answers, Part::File],
         ..NONE
     },
     Fault {
         name: "the table's text lent without its last byte",
         text: |text| Some(&text[..text.len().max(1) - 1]),
-        parts: &[Part::Number, Part::Block, Part::Answers],
+        parts: &[Part::Number, Part::Block, Part::Answers, Part::File],
         ..NONE
     },
     Fault {
@@ -114,7 +116,7 @@ pub const FAULTS: [Fault; 20] = [
         ..NONE
     },
     Fault {
-        name: "a byte written past the register file",
+        name: "a byte written past the register file or the buffer",
         after: |_, lent| lent.file.break_guard(),
         parts: &[Part::Guards],
         ..NONE

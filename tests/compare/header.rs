@@ -6,6 +6,7 @@ use second::block::{BLOCK_LEN, MOST_DELEGATIONS, MOST_SUBJECTS};
 use second::callfile::joined;
 use second::chain::{NONE, START};
 use second::host::ANSWERS_LEN;
+use second::refusal::ORDER_BUFFER;
 use second::regfile::LEAST_TEXT;
 
 /// The refusals of each entry point in their order, then the constants.
@@ -15,6 +16,7 @@ pub fn print() -> bool {
     }
     println!("BLOCK_SIZE {BLOCK_LEN}");
     println!("ANSWERS_SIZE {ANSWERS_LEN}");
+    println!("ORDER_SIZE {ORDER_BUFFER}");
     println!("TEXT_SIZE {LEAST_TEXT}");
     println!("OWNER 0");
     println!("MOST_SUBJECTS {MOST_SUBJECTS}");

@@ -1,8 +1,9 @@
 //! Random calls through the C entry points of libseatreg.a and through the
 //! second implementation, side by side. After every call the number returned,
 //! the answers, every byte of the block, of the table's text and of the register
-//! file, and the bytes around each lent buffer are compared; after an accepted one
-//! also what the header's readers list; and what was written is read back.
+//! file or the buffer that is written to, and the bytes around each lent buffer are
+//! compared; after an accepted one also what the header's readers list; and what
+//! was written is read back.
 //!
 //! `compare SEED CASES` runs; where there are many cases, every refusal must be
 //! among what is returned. `compare self-test SEED CASES` runs once for each
@@ -17,6 +18,7 @@ mod fault;
 mod filetexts;
 mod header;
 mod lent;
+mod orders;
 mod raises;
 mod readers;
 mod reads;
@@ -28,6 +30,7 @@ mod writes;
 
 use buffers::Buffers;
 use fault::{Fault, FAULTS, NONE};
+use orders::ORDERS;
 use raises::RAISES;
 use reads::READS;
 use report::Report;
@@ -70,7 +73,7 @@ fn finds_nothing(seed: u64, cases: u64) -> bool {
 /// Each fault is found, and only in the parts where it was put in.
 fn finds_faults(seed: u64, cases: u64) -> bool {
     let mut all_found = true;
-    for fault in FAULTS.iter().chain(&RAISES).chain(&WRITES).chain(&READS) {
+    for fault in FAULTS.iter().chain(&RAISES).chain(&ORDERS).chain(&WRITES).chain(&READS) {
         let report = compare(seed, cases, fault, false);
         let found = fault.is_found(&report);
         let verdict = if found { "found" } else { "NOT FOUND" };

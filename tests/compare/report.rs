@@ -6,7 +6,7 @@ use crate::entry::{Entry, FileCall, ENTRIES};
 use crate::returned::Back;
 use crate::standing::{Standing, NUMBERS};
 use crate::tables::{Text, TextKind, TEXT_KINDS};
-use second::block::{word, BLOCK_LEN, DELEGATIONS_AT, MOST_DELEGATIONS};
+use second::block::{word, BLOCK_LEN, DELEGATIONS_AT, MOST_DELEGATIONS, MOST_SUBJECTS};
 use second::host::ANSWERS_LEN;
 use second::refusal::{takes_table, tests, Call, NOT_WELL_FORMED, UNSUPPORTED, WRONG_LENGTH};
 use second::regfile::{READ_REFUSALS, WRITE_REFUSALS};
@@ -21,7 +21,7 @@ pub enum Part {
     Number,
     Block,
     Answers,
-    /// The register file that was read, or every byte of the buffer that was written to.
+    /// The register file that was read, or every byte of the buffer that a write or an order is lent.
     File,
     Table,
     Guards,
@@ -55,6 +55,7 @@ impl Case {
         match self.asked {
             Asked::Call(n) if self.text.kind == TextKind::Without => Entry::Without(n.call),
             Asked::Call(n) => Entry::WithTable(n.call),
+            Asked::Order(_) => Entry::Order,
             Asked::File(call) => Entry::File(call),
         }
     }
@@ -62,6 +63,7 @@ impl Case {
     fn takes_table(&self) -> bool {
         match self.asked {
             Asked::Call(n) => takes_table(n.call),
+            Asked::Order(_) => true,
             Asked::File(call) => call == FileCall::Read,
         }
     }
@@ -83,6 +85,7 @@ pub struct Report {
     /// Under our table, and under others.
     cuts: [Cuts; 2],
     standing: [StandingGrants; 2],
+    orders: [Orders; 2],
     files: [Files; 2],
     /// How often an entry point, by its place in `ENTRIES`, returned a number.
     returned: BTreeMap<(usize, u32), u64>,
@@ -107,6 +110,46 @@ impl Cuts {
         self.lowered += (answer(4) > 0) as u64;
         self.rounds += (answer(8) >= 3) as u64;
         self.most = self.most.max(answer(8));
+    }
+}
+
+/// What the accepted orders were.
+#[derive(Clone, Copy, Default)]
+struct Orders {
+    /// How many were of full registers, had all 64 subjects, had the receiver and hadn't.
+    full: u64,
+    all: u64,
+    with_receiver: u64,
+    without: u64,
+    /// How many were not by limit, then number: a subject came after one of the same limit and a larger number.
+    unsorted: u64,
+}
+
+impl Orders {
+    fn add(&mut self, case: &Case) {
+        let Asked::Order(receiver) = case.asked else { return };
+        if case.due != 0 {
+            return;
+        }
+        let order: Vec<(u8, u8)> = case.left.pairs().collect();
+        let has_receiver = order.iter().any(|&(subject, _)| subject as u32 == receiver);
+        self.full += (word(&case.left.block, DELEGATIONS_AT) as usize == MOST_DELEGATIONS) as u64;
+        self.all += (order.len() == MOST_SUBJECTS) as u64;
+        self.with_receiver += has_receiver as u64;
+        self.without += !has_receiver as u64;
+        self.unsorted += order.windows(2).any(|two| two[0].1 == two[1].1 && two[0].0 > two[1].0) as u64;
+    }
+
+    /// What did not occur; orders of all subjects need not occur under each table.
+    fn missing(&self) -> Vec<&'static str> {
+        let Orders { full, with_receiver, without, unsorted, .. } = *self;
+        let counts = [
+            (full, "an order of a full register"),
+            (with_receiver, "an order with its receiver"),
+            (without, "an order without its receiver"),
+            (unsorted, "an order that is not by number where limits tie"),
+        ];
+        counts.into_iter().filter(|(count, _)| *count == 0).map(|(_, what)| what).collect()
     }
 }
 
@@ -181,7 +224,7 @@ impl StandingGrants {
     }
 }
 
-/// The tables by which cuts, grants for a standing pair and register files are counted.
+/// The tables by which cuts, grants for a standing pair, orders and register files are counted.
 const TABLES: [&str; 2] = ["our table", "others"];
 
 impl Report {
@@ -197,6 +240,7 @@ impl Report {
             of_text: [0; TEXT_KINDS.len()],
             cuts: [Cuts::default(); 2],
             standing: [StandingGrants::default(); 2],
+            orders: [Orders::default(); 2],
             files: [Files::default(); 2],
             returned: BTreeMap::new(),
             shows,
@@ -213,6 +257,7 @@ impl Report {
             *self.returned.entry((place, case.due)).or_insert(0) += 1;
         }
         let table = (case.text.kind == TextKind::Other) as usize;
+        self.orders[table].add(case);
         self.files[table].add(case);
         if case.is_accepted_cut() {
             self.cuts[table].add(&case.left.answers);
@@ -233,7 +278,7 @@ impl Report {
     fn show(&self, case: &Case) {
         println!("case {}: {:?} differ: {:?}", self.cases, case.differs, case.asked);
         let Contents { block, file, answers, .. } = &case.left;
-        println!("  block of {} bytes, register file of {}, answers of {}", block.len(), file.len(), answers.len());
+        println!("  block of {} bytes, register file or buffer of {}, answers of {}", block.len(), file.len(), answers.len());
         println!("  the table's text: {:?}", case.text.kind);
         println!("  the entry point returned {}, due {}", case.number, case.due);
     }
@@ -260,6 +305,16 @@ impl Report {
         let [without, empty, ours, other, broken, malformed] = self.of_text;
         println!("tables: {without} without a text, {empty} empty, {ours} ours, {other} others that pass");
         println!("        {broken} that break a rule, {malformed} of another form");
+        self.print_by_table();
+        println!("wrong lengths: {} of the block, {} of the answers", self.block_lengths, self.answers_lengths);
+        match self.missing()[..] {
+            [] => println!("every refusal that a call can return was returned"),
+            ref missing => println!("not returned in this run: {}", missing.join(", ")),
+        }
+        println!("compare: {} cases, {} differences, seed {seed}", self.cases, self.different);
+    }
+
+    fn print_by_table(&self) {
         for (table, grants) in TABLES.iter().zip(self.standing) {
             let texts = |[a, b, c]: [u64; 3]| format!("{a} accepted, {b} with 11, {c} with 16");
             println!("grants for a standing pair under {table}: {}", texts(grants.returned));
@@ -270,21 +325,20 @@ impl Report {
             let counts = format!("{dropped} dropped, {lowered} lowered, {rounds} had 3 rounds or more, {most} the most");
             println!("cuts under {table}: {counts}");
         }
+        for (table, orders) in TABLES.iter().zip(self.orders) {
+            let Orders { full, all, with_receiver, without, unsorted } = orders;
+            println!("orders under {table}: {with_receiver} with the receiver, {without} without it");
+            println!("        {full} of full registers, {all} of 64 subjects, {unsorted} not by number where limits tie");
+        }
         for (table, files) in TABLES.iter().zip(self.files) {
             let Files { read, full, unsupported, same, not_back } = files;
             println!("register files under {table}: {read} read, {full} of them of full registers, {unsupported} with 18");
             println!("        written and read back: {same} the same, {not_back} with 18");
         }
-        println!("wrong lengths: {} of the block, {} of the answers", self.block_lengths, self.answers_lengths);
-        match self.missing()[..] {
-            [] => println!("every refusal that a call can return was returned"),
-            ref missing => println!("not returned in this run: {}", missing.join(", ")),
-        }
-        println!("compare: {} cases, {} differences, seed {seed}", self.cases, self.different);
     }
 
-    /// The numbers that a call can return and did not; of grants for a standing pair and of register files also by
-    /// table and register.
+    /// The numbers that a call can return and did not; of grants for a standing pair, orders and register files also
+    /// by table and register.
     pub fn missing(&self) -> Vec<String> {
         let mut missing = Vec::new();
         for (place, &entry) in ENTRIES.iter().enumerate() {
@@ -297,6 +351,12 @@ impl Report {
             let absent = grants.missing().into_iter();
             missing.extend(absent.map(|(number, place)| format!("{number} for a standing pair, {table}, {place}")));
         }
+        if self.orders.iter().all(|orders| orders.all == 0) {
+            missing.push("an order of 64 subjects".to_string());
+        }
+        for (table, orders) in TABLES.iter().zip(self.orders) {
+            missing.extend(orders.missing().into_iter().map(|what| format!("{what}, {table}")));
+        }
         for (table, files) in TABLES.iter().zip(self.files) {
             missing.extend(files.missing().into_iter().map(|what| format!("{what}, {table}")));
         }
@@ -308,6 +368,7 @@ pub fn name(entry: Entry) -> String {
     match entry {
         Entry::Without(call) => format!("{call:?}").to_lowercase(),
         Entry::WithTable(call) => format!("{call:?}").to_lowercase() + "_table",
+        Entry::Order => "order".to_string(),
         Entry::File(call) => format!("{call:?}").to_lowercase(),
     }
 }
@@ -319,6 +380,7 @@ pub fn refusals(entry: Entry) -> Vec<u32> {
         Entry::File(FileCall::Read) => return READ_REFUSALS.to_vec(),
         Entry::Without(call) => (call, false),
         Entry::WithTable(call) => (call, true),
+        Entry::Order => (Call::Order, true),
     };
     let tests = tests(call);
     let mut numbers = vec![WRONG_LENGTH];

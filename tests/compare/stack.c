@@ -23,10 +23,13 @@ static uint8_t block[SEATREG_BLOCK_SIZE];
 static uint8_t answers[SEATREG_ANSWERS_SIZE];
 static char table[12 + 256 * 8 + 1]; /* our table's text, lent to the calls that take one */
 static size_t table_len;
+static uint8_t out[SEATREG_ORDER_SIZE];
 static uint8_t text[SEATREG_TEXT_SIZE]; /* a register file */
 static size_t text_len;
 #define BLOCK block, sizeof block
+#define NO_TEXT (const uint8_t *)"", 0
 #define TABLE (const uint8_t *)table, table_len
+#define OUT out, sizeof out
 #define ANSWERS answers, sizeof answers
 
 /* Ends the program unless this is so. */
@@ -194,6 +197,9 @@ static void revoke_deep_table(void) { returned = seatreg_revoke_table(BLOCK, 0, 
 static void downgrade_first_table(void) { returned = seatreg_downgrade_table(BLOCK, 0, 0, 1, 0, TABLE, ANSWERS); }
 static void downgrade_deep_table(void) { returned = seatreg_downgrade_table(BLOCK, 0, 1, 12, 0, TABLE, ANSWERS); }
 
+static void order_last(void) { returned = seatreg_order(BLOCK, 63, NO_TEXT, OUT, ANSWERS); }
+static void order_last_table(void) { returned = seatreg_order(BLOCK, 63, TABLE, OUT, ANSWERS); }
+
 static void write_file(void) { returned = seatreg_write(BLOCK, text, sizeof text, ANSWERS); }
 static void read_file(void) { returned = seatreg_read(BLOCK, text, text_len, TABLE, ANSWERS); }
 
@@ -229,6 +235,9 @@ static const struct row rows[] = {
     {"downgrade with a table", build_full, downgrade_first_table, 1, 0},
     {"  485 rounds", build_deep, downgrade_deep_table, 485, 0},
     {"  refused with 7", build_full, downgrade_first_table, 0, SEATREG_MALFORMED},
+    {"order, full register", build_full, order_last, 0, 0},
+    {"order with a table", build_full, order_last_table, 0, 0},
+    {"  refused with 7", build_full, order_last_table, 0, SEATREG_MALFORMED},
     {"write, full register", build_full, write_file, 0, 0},
     {"  unsupported", build_unsupported, write_file, 0, 0},
     {"read, full register", build_full_file, read_file, 0, 0},

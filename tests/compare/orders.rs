@@ -1,0 +1,219 @@
+//! Wrong orders for a receiver, to see that the comparison finds them.
+
+use crate::contents::{Asked, Contents};
+use crate::draw::List;
+use crate::fault::{Fault, NONE};
+use crate::report::Part;
+use second::block::{decode, Delegation, Register, BLOCK_LEN};
+use second::chain::meets;
+use second::host::ANSWERS_LEN;
+use second::refusal::{MALFORMED, NOT_WELL_FORMED, ORDER_BUFFER, WRONG_LENGTH};
+use second::table::Table;
+use std::cmp::Reverse;
+
+type Left = (u32, Contents);
+/// A subject and its limit.
+type Pair = (u8, u8);
+
+/// What differs where one side accepts and the other refuses.
+const ACCEPTED: &[Part] = &[Part::Number, Part::Answers, Part::File];
+/// What differs where one side writes more than the other.
+const WRITTEN: &[Part] = &[Part::Answers, Part::File];
+const FILE: &[Part] = &[Part::File];
+const ANSWERS: &[Part] = &[Part::Answers];
+const NUMBER: &[Part] = &[Part::Number];
+
+const TO_OWNER: u32 = 6;
+const NOT_ENROLLED: u32 = 9;
+
+pub const ORDERS: [Fault; 26] = [
+    wrong("two pairs exchanged", FILE, |lent, to| rewritten(lent, to, |_, pairs| {
+        let last = pairs.len() - 1;
+        pairs.swap(last, last.max(1) - 1);
+    })),
+    wrong("sorted by limit, then number", FILE, |lent, to| rewritten(lent, to, |_, pairs| {
+        pairs.sort_by_key(|&(subject, limit)| (Reverse(limit), subject));
+    })),
+    wrong("sorted by number", FILE, |lent, to| rewritten(lent, to, |_, pairs| pairs.sort())),
+    wrong("ties by higher number", FILE, |lent, to| rewritten(lent, to, |order, pairs| {
+        *pairs = order.chosen(pairs, |(subject, limit)| (limit, subject));
+    })),
+    wrong("lightest first", FILE, |lent, to| rewritten(lent, to, |order, pairs| {
+        *pairs = order.chosen(pairs, |(subject, limit)| (!limit, !subject));
+    })),
+    wrong("breadth first", FILE, |lent, to| rewritten(lent, to, |order, pairs| *pairs = order.breadth_first(pairs))),
+    wrong("the receiver left out", WRITTEN, |lent, to| rewritten(lent, to, |_, pairs| {
+        pairs.retain(|&(subject, _)| subject as u32 != to);
+    })),
+    wrong("the owner left out", WRITTEN, |lent, to| rewritten(lent, to, |_, pairs| { pairs.remove(0); })),
+    wrong("a subject of no reach written", WRITTEN, |lent, to| rewritten(lent, to, |order, pairs| {
+        let mut others = 0..order.register.marks.len() as u8;
+        pairs.extend(others.find(|other| !pairs.iter().any(|pair| pair.0 == *other)).map(|other| (other, 0)));
+    })),
+    wrong("the weight of a link in place of the limit", FILE, |lent, to| rewritten(lent, to, |order, pairs| {
+        *pairs = pairs.iter().map(|&pair| order.with_weight(pairs, pair)).collect();
+    })),
+    wrong("a limit one less", FILE, |lent, to| rewritten(lent, to, |_, pairs| {
+        pairs.last_mut().into_iter().for_each(|pair| pair.1 = pair.1.wrapping_sub(1));
+    })),
+    wrong("subject and limit exchanged", FILE, |lent, to| rewritten(lent, to, |_, pairs| {
+        pairs.iter_mut().for_each(|pair| *pair = (pair.1, pair.0));
+    })),
+    wrong("the rest of the order's buffer zeroed", FILE, |lent, to| accepted(lent, to, |left| {
+        let length = left.answer();
+        left.file[length..].fill(0);
+    })),
+    wrong("a 0 byte put after the order", FILE, |lent, to| accepted(lent, to, |left| {
+        let length = left.answer();
+        left.file[length..].iter_mut().take(1).for_each(|byte| *byte = 0);
+    })),
+    wrong("subjects answered in place of bytes", ANSWERS, |lent, to| accepted(lent, to, |left| {
+        set_answer(left, left.answer() / 2);
+    })),
+    wrong("a buffer of 127 bytes accepted", ACCEPTED, |lent, to| {
+        if lent.file.len() == ORDER_BUFFER - 1 { as_right_length(lent, to) } else { right(lent, to) }
+    }),
+    wrong("a buffer of 128 bytes refused", ACCEPTED, |lent, to| {
+        if lent.file.len() == ORDER_BUFFER { (WRONG_LENGTH, lent.clone()) } else { right(lent, to) }
+    }),
+    wrong("a buffer of 129 bytes accepted", ACCEPTED, |lent, to| {
+        if lent.file.len() == ORDER_BUFFER + 1 { as_right_length(lent, to) } else { right(lent, to) }
+    }),
+    wrong("our table in place of the lent one", ACCEPTED, |lent, to| {
+        let (number, left) = right(&Contents { table: Vec::new(), ..lent.clone() }, to);
+        (number, Contents { table: lent.table.clone(), ..left })
+    }),
+    wrong("another receiver's marks", WRITTEN, |lent, to| match right(lent, to) {
+        (0, left) => right(lent, to % (register(&left).marks.len() as u32 - 1) + 1),
+        refused => refused,
+    }),
+    wrong("the receiver cut down to 8 bits", ACCEPTED, |lent, to| right(lent, to & 0xFF)),
+    wrong("the receiver cut down to 16 bits", ACCEPTED, |lent, to| right(lent, to & 0xFFFF)),
+    wrong("the table's 7 before 6", NUMBER, |lent, to| match right(lent, to) {
+        (TO_OWNER, left) if Table::read(&lent.table) == Err(MALFORMED) => (MALFORMED, left),
+        right => right,
+    }),
+    wrong("the block's last byte changed by an order", &[Part::Block, Part::Listed], |lent, to| accepted(lent, to, |left| {
+        left.block[BLOCK_LEN - 1] ^= 1;
+    })),
+    wrong("the answers written where an order is refused", ANSWERS, |lent, to| {
+        let (number, mut left) = right(lent, to);
+        if number != 0 {
+            left.answers.fill(0);
+        }
+        (number, left)
+    }),
+    wrong("the owner written before 8 and 9 are judged", FILE, |lent, to| {
+        let (number, mut left) = right(lent, to);
+        if [NOT_WELL_FORMED, NOT_ENROLLED].contains(&number) {
+            left.file[..2].copy_from_slice(&[0, 255]);
+        }
+        (number, left)
+    }),
+];
+
+const fn wrong(name: &'static str, parts: &'static [Part], order: fn(&Contents, u32) -> Left) -> Fault {
+    Fault { name, lists: List::on_orders, parts, order: Some(order), ..NONE }
+}
+
+/// What the second implementation returns and leaves.
+fn right(lent: &Contents, receiver: u32) -> Left {
+    let mut left = lent.clone();
+    let number = left.call(&Asked::Order(receiver));
+    (number, left)
+}
+
+/// The same, changed where it is accepted.
+fn accepted(lent: &Contents, receiver: u32, change: impl Fn(&mut Contents)) -> Left {
+    let (number, mut left) = right(lent, receiver);
+    if number == 0 {
+        change(&mut left);
+    }
+    (number, left)
+}
+
+/// The same, with other pairs written.
+fn rewritten(lent: &Contents, receiver: u32, change: impl Fn(&Order, &mut Vec<Pair>)) -> Left {
+    accepted(lent, receiver, |left| {
+        let mut pairs: Vec<Pair> = left.pairs().collect();
+        change(&Order::of(left, receiver), &mut pairs);
+        let bytes: Vec<u8> = pairs.iter().flat_map(|&(subject, limit)| [subject, limit]).collect();
+        left.file.clone_from(&lent.file);
+        left.file[..bytes.len()].copy_from_slice(&bytes);
+        set_answer(left, bytes.len());
+    })
+}
+
+/// As if the buffer had the right length; what it has besides stays, and what it lacks is lost.
+fn as_right_length(lent: &Contents, receiver: u32) -> Left {
+    let mut file = lent.file.clone();
+    file.resize(ORDER_BUFFER, 0);
+    let (number, mut left) = right(&Contents { file, ..lent.clone() }, receiver);
+    let kept = lent.file.len().min(ORDER_BUFFER);
+    left.file.truncate(kept);
+    left.file.extend(&lent.file[kept..]);
+    (number, left)
+}
+
+fn set_answer(left: &mut Contents, answer: usize) {
+    left.answers = vec![0; ANSWERS_LEN];
+    left.answers[..4].copy_from_slice(&(answer as u32).to_le_bytes());
+}
+
+/// The register of an accepted order.
+fn register(left: &Contents) -> Register {
+    decode(&left.block).expect("the block of an accepted order is well formed")
+}
+
+/// An accepted order.
+struct Order {
+    table: Table,
+    register: Register,
+    marks: u16,
+}
+
+impl Order {
+    fn of(left: &Contents, receiver: u32) -> Order {
+        let (table, register) = (Table::read(&left.table).expect("the table of an accepted order passes"), register(left));
+        Order { table, marks: register.marks_of(receiver), register }
+    }
+
+    /// The delegation by which the one's limit gives the other's, if there is one.
+    fn link(&self, from: Pair, to: Pair) -> Option<&Delegation> {
+        let d = self.register.standing(from.0 as u32, to.0 as u32)?;
+        (meets(self.marks, d) && self.table.step(from.1 as i16, d.weight) == to.1 as i16).then_some(d)
+    }
+
+    /// The pairs by another choice: of those that come from one already written, the one of the largest key.
+    fn chosen(&self, pairs: &[Pair], key: fn(Pair) -> Pair) -> Vec<Pair> {
+        let mut written = vec![pairs[0]];
+        let comes = |written: &[Pair], pair: Pair| written.iter().any(|&from| self.link(from, pair).is_some());
+        let next = |written: &[Pair]| {
+            let rest = pairs.iter().copied().filter(|pair| !written.contains(pair));
+            rest.filter(|&pair| comes(written, pair)).max_by_key(|&pair| key(pair))
+        };
+        while let Some(pair) = next(&written) {
+            written.push(pair);
+        }
+        written
+    }
+
+    /// The pairs by how many delegations they are from the owner.
+    fn breadth_first(&self, pairs: &[Pair]) -> Vec<Pair> {
+        let mut written = vec![pairs[0]];
+        let mut at = 0;
+        while at < written.len() {
+            let comes = |pair: &Pair| !written.contains(pair) && self.link(written[at], *pair).is_some();
+            let coming: Vec<Pair> = pairs.iter().copied().filter(comes).collect();
+            written.extend(coming);
+            at += 1;
+        }
+        written
+    }
+
+    /// The pair with the weight of a delegation by which its limit comes.
+    fn with_weight(&self, pairs: &[Pair], pair: Pair) -> Pair {
+        let link = pairs.iter().find_map(|&from| self.link(from, pair));
+        (pair.0, link.map_or(pair.1, |d| d.weight))
+    }
+}
