@@ -17,8 +17,10 @@ pub struct Columns {
     pub is_read: bool,
 }
 
-// The number of the write call, which is made elsewhere, since it leaves a file.
+// The numbers of the calls that fill a lent buffer, which are made elsewhere, since they leave what they fill in the place of a file.
 pub const WRITE: u32 = 8;
+
+pub const ORDER: u32 = 10;
 
 // What stands for the refusal where there is no such call.
 const NO_CALL: u32 = 99;

@@ -46,7 +46,7 @@ fn run_file(name: &[u8]) -> bool {
     run_text(reading::byte_at(name, 0), &space[..got])
 }
 
-// Runs a text by the first byte of its file's name, a digit for a call file, `l` for lists, else cases, `t` for those with tables and `f` for those with files; false where it cannot be read to its end.
+// Runs a text by the first byte of its file's name, a digit for a call file, `l` for lists, else cases, `t` and `o` for those with tables and `f` for those with files; false where it cannot be read to its end.
 fn run_text(kind: u8, text: &[u8]) -> bool {
     if kind <= b'9' {
         print_calls(text);

@@ -10,6 +10,7 @@ use casefile::blocks::Block;
 use casefile::out;
 use casefile::reading;
 use judge::files;
+use judge::files::Fill;
 
 // Where the next line begins, 0 where a line cannot be read, and the lengths of the file, of the table's text and of the block that
 // are left.
@@ -29,8 +30,8 @@ fn nowhere() -> Place {
     }
 }
 
-// Runs every line, by the first byte of the text's name: `t` where lines have a table's text, `f` where they have a file and a
-// table's text; false where one cannot be read.
+// Runs every line, by the first byte of the text's name: `t` and `o` where lines have a table's text, `f` where they have a file and
+// a table's text; false where one cannot be read.
 pub fn run_lines(
     text: &[u8],
     kind: u8,
@@ -64,7 +65,7 @@ fn run_line(
     block: &mut [u8],
 ) -> Place {
     let has_file = kind == b'f';
-    let has_table = has_file || kind == b't';
+    let has_table = has_file || kind == b't' || kind == b'o';
     let columns = calls::read_columns(text, from.at, has_table);
     if !columns.is_read {
         return nowhere();
@@ -115,11 +116,11 @@ fn run_fronts(
     size: usize,
 ) -> usize {
     let n = reading::within(size, block);
-    if columns.call == calls::WRITE {
-        return run_write(columns.weight as usize, file, file_size, &block[..n]);
+    let m = reading::within(table_size, table);
+    if columns.call == calls::WRITE || columns.call == calls::ORDER {
+        return run_fill(columns, file, file_size, &table[..m], &block[..n]);
     }
     let k = reading::within(file_size, file);
-    let m = reading::within(table_size, table);
     run_call(columns, &file[..k], &table[..m], &mut block[..n]);
     file_size
 }
@@ -138,10 +139,21 @@ fn run_call(columns: Columns, file: &[u8], table: &[u8], block: &mut [u8]) {
     );
 }
 
-// Writes the block's file and prints what comes out.
-fn run_write(size: usize, file: &mut [u8], file_size: usize, block: &[u8]) -> usize {
+// Writes the block's file, or an order, into a buffer of as many bytes as the weight says, and prints what comes out.
+fn run_fill(
+    columns: Columns,
+    file: &mut [u8],
+    file_size: usize,
+    table: &[u8],
+    block: &[u8],
+) -> usize {
     let before = kept_file(file);
-    let written = files::judge_write(block, size, file, file_size);
+    let fill = Fill {
+        is_order: columns.call == calls::ORDER,
+        receiver: columns.receiver,
+    };
+    let size = columns.weight as usize;
+    let written = files::judge_fill(fill, block, table, size, file, file_size);
     let m = reading::within(file_size, &before);
     let n = reading::within(written.length, file);
     out::print_outcome(

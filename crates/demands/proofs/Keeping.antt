@@ -2,8 +2,8 @@
 use mathlib.Core.Path.{_≡_, refl, sym, ap, subst, _∙_}
 use mathlib.Core.Logic.{_≢_, _⊎_, inl, inr}
 use mathlib.Core.Bool.{Bool, true, false, cond, not}
-use mathlib.Core.List.{List}
-use Prim.Native.Nat.{ℕ, _≤_}
+use mathlib.Core.List.{List, _++_}
+use Prim.Native.Nat.{ℕ, _*_, _≤_}
 use native.Mathlib.Omega.{arith}
 use borrow.Author.Tests.{eq-eqb, ne-eqb}
 use lib.Dec.{T, eqb, eqb→eq, T-not}
@@ -16,10 +16,12 @@ use Rattle.rules.specs.Call.{Call, fresh}
 use Rattle.rules.specs.Refusal.{firstOf}
 use Rattle.rules.specs.CallStep.{Outcome, callStep}
 use Rattle.rules.specs.Ranges.{Unused, InRange}
+use Rattle.rules.specs.Order.{orderBytes}
 use Rattle.rules.proofs.Table.{steps-rule}
 use Rattle.rules.proofs.Calls.{fresh-formed, callStep-formed}
 use Rattle.rules.proofs.Ranges.{callStep-range}
 use Rattle.rules.proofs.Lists.{T-true, eqOr}
+use Rattle.rules.proofs.Order.{order-some, order-few, order-length}
 use Rattle.block.specs.Layout.{blockSize}
 use Rattle.block.specs.Bytes.{IsBytes}
 use Rattle.block.specs.Block.{decode, encode}
@@ -39,7 +41,11 @@ use Rattle.transfer.specs.declared.Filled.{Filled}
 use Rattle.transfer.proofs.Writing.{write-through}
 use Rattle.transfer.proofs.Reading.{read-turned}
 use Rattle.transfer.proofs.RoundTrip.{read-passed, read-formed, read-is-bytes}
-use Rattle.demands.specs.Kept.{Kept, KeptOpen, KeptRead, mostWritten, KeptWrite}
+use Rattle.order.specs.Pairs.{pairSize, orderSize}
+use Rattle.order.specs.OrderOn.{OrderMade}
+use Rattle.order.specs.declared.Listed.{Listed}
+use Rattle.order.proofs.OrderWays.{order-through}
+use Rattle.demands.specs.Kept.{Kept, KeptOpen, KeptRead, KeptFilled, mostWritten, KeptWrite, KeptOrder}
 use Rattle.register.proofs.Through.{accepted-through, accepted-step, accepted-left}
 
 module _ (g : Given) (b : List ℕ) (c : Call) where
@@ -121,30 +127,45 @@ kept-read text table b = record {
   range = λ e. let q = read-passed text table b e .result in (ap (λ (r : Result). r .first) q, ap (λ (r : Result). r .second) q, ap (λ (r : Result). r .third) q);
 }
 
--- ── write ──
-module _ (b before : List ℕ) (o : Filled) (after : List ℕ) (bytes : IsBytes b) (made : WriteMade b before o after) where
-  write-range : o .refusal ≡ 0 → (1 ≤ o .length) × (o .length ≤ mostWritten) × (o .length ≤ length before)
-  write-range e =
-      let w = write-through b before (sym (made .refusal) ∙ e) in
-      let n = made .text e .0 in
-      let some = file-some (decode b) in
-      let most = file-short (decode b) (held-formed b bytes (w .formed)) in
-      (omega arith, omega arith, omega (arith, w .room))
+-- ── write and order ──
 
-  pub kept-write : KeptWrite before o after
-  kept-write = record {
-    refused = made .refused;
-    range = write-range;
-    size = size (eqOr (o .refusal) 0);
-    rest = rest (eqOr (o .refusal) 0);
-  }
-    where
-      size : (o .refusal ≡ 0) ⊎ (o .refusal ≢ 0) → length after ≡ length before
-      size (inl e) =
-          ap length (made .text e .1) ∙ length-append (fileText (decode b)) (drop (o .length) before)
-          ∙ omega (arith, made .text e .0, length-drop (o .length) before, write-range e .2)
-      size (inr n) = ap length (made .refused n .1)
+-- s is in front of the k bytes that were filled
+kept-filled : (most : ℕ) (before : List ℕ) (n k : ℕ) (after : List ℕ) → (n ≢ 0 → (k ≡ 0) × (after ≡ before)) → (n ≡ 0 → (1 ≤ k) × (k ≤ most) × (k ≤ length before))
+    → (n ≡ 0 → (s : List ℕ) × (length s ≡ k) × (after ≡ s ++ drop k before)) → KeptFilled most before n k after
+kept-filled most before n k after refused range front = record { refused = refused; range = range; size = size (eqOr n 0); rest = rest (eqOr n 0) }
+  where
+    size : (n ≡ 0) ⊎ (n ≢ 0) → length after ≡ length before
+    size (inl e) = let (s, l, q) = front e in ap length q ∙ length-append s (drop k before) ∙ omega (arith, l, length-drop k before, range e .2)
+    size (inr z) = ap length (refused z .1)
 
-      rest : (o .refusal ≡ 0) ⊎ (o .refusal ≢ 0) → drop (o .length) after ≡ drop (o .length) before
-      rest (inl e) = ap (drop (o .length)) (made .text e .1) ∙ drop-at (fileText (decode b)) (drop (o .length) before) (o .length) (sym (made .text e .0))
-      rest (inr n) = ap (drop (o .length)) (made .refused n .1)
+    rest : (n ≡ 0) ⊎ (n ≢ 0) → drop k after ≡ drop k before
+    rest (inl e) = let (s, l, q) = front e in ap (drop k) q ∙ drop-at s (drop k before) k l
+    rest (inr z) = ap (drop k) (refused z .1)
+
+pub kept-write : (b before : List ℕ) (o : Filled) (after : List ℕ) → IsBytes b → WriteMade b before o after → KeptWrite before o after
+kept-write b before o after bytes made = kept-filled mostWritten before (o .refusal) (o .length) after (made .refused) range (λ e. (fileText (decode b), sym (made .text e .0), made .text e .1))
+  where
+    range : o .refusal ≡ 0 → (1 ≤ o .length) × (o .length ≤ mostWritten) × (o .length ≤ length before)
+    range e =
+        let w = write-through b before (sym (made .refusal) ∙ e) in
+        let n = made .text e .0 in
+        let some = file-some (decode b) in
+        let most = file-short (decode b) (held-formed b bytes (w .formed)) in
+        (omega arith, omega arith, omega (arith, w .room))
+
+pub kept-order : (g : Given) (b : List ℕ) (v : ℕ) (before : List ℕ) (o : Listed) (after : List ℕ) → IsBytes b → OrderMade g b v before o after → KeptOrder before o after
+kept-order g b v before o after bytes made = kept-filled orderSize before (o .refusal) (pairSize * o .subjects) after (λ n. (ap (λ (k : ℕ). pairSize * k) (made .refused n .0), made .refused n .1)) range front
+  where
+    range : o .refusal ≡ 0 → (1 ≤ pairSize * o .subjects) × (pairSize * o .subjects ≤ orderSize) × (pairSize * o .subjects ≤ length before)
+    range e =
+        let w = made .written e in
+        let p = order-through g b v before (sym (made .refusal) ∙ e) in
+        let some = order-some (g .steps) (decode b) v (w .order) in
+        let few = order-few (g .steps) (decode b) v (w .order) .1 (held-formed b bytes (p .formed)) in
+        (omega (arith, w .count), omega (arith, w .count), omega (arith, w .count, p .size))
+
+    front : o .refusal ≡ 0 → (s : List ℕ) × (length s ≡ pairSize * o .subjects) × (after ≡ s ++ drop (pairSize * o .subjects) before)
+    front e =
+        let w = made .written e in
+        let n = ap (λ (k : ℕ). pairSize * k) (w .count) in
+        (orderBytes (g .steps) (decode b) v (w .subjects), order-length (g .steps) (decode b) v (w .subjects) ∙ sym n, w .bytes ∙ ap (λ (k : ℕ). orderBytes (g .steps) (decode b) v (w .subjects) ++ drop k before) (sym n))

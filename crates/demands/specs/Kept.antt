@@ -1,10 +1,10 @@
--- Demand 1, as what holds of every call on every list of bytes (document 01, 'Turned back by what was passed'; document 02, C-11 and C-13): a refused call changes no byte, an accepted one leaves a
+-- Demand 1, as what holds of every call on every list of bytes (document 01, 'Turned back by what was passed'; document 02, C-11, C-13 and C-14): a refused call changes no byte, an accepted one leaves a
 -- well-formed block and answers in range. Assumes nothing.
 use mathlib.Core.Path.{_≡_}
 use mathlib.Core.Logic.{_≢_}
 use mathlib.Core.Bool.{true}
 use mathlib.Core.List.{List}
-use Prim.Native.Nat.{ℕ, _≤_}
+use Prim.Native.Nat.{ℕ, _*_, _≤_}
 use lib.ListN.{length, drop}
 use Rattle.rules.specs.Call.{Call}
 use Rattle.rules.specs.Ranges.{Unused, InRange}
@@ -14,6 +14,8 @@ use Rattle.steptable.specs.declared.Given.{Given}
 use Rattle.register.specs.CallOn.{callOn, openOn}
 use Rattle.transfer.specs.RoundTrip.{reading}
 use Rattle.transfer.specs.declared.Filled.{Filled}
+use Rattle.order.specs.Pairs.{pairSize, orderSize}
+use Rattle.order.specs.declared.Listed.{Listed}
 
 pub record Kept (g : Given) (b : List ℕ) (c : Call) : Type 0 where
   pub refused : callOn g b c .refusal ≢ 0 → callOn g b c .bytes ≡ b
@@ -34,14 +36,22 @@ pub record KeptRead (text table b : List ℕ) : Type 0 where
   pub bytes : reading text table b .refusal ≡ 0 → IsBytes (reading text table b .bytes)
   pub range : reading text table b .refusal ≡ 0 → Unused (reading text table b .first) × Unused (reading text table b .second) × Unused (reading text table b .third)
 
+-- a call that fills the front of a lent buffer, at most `most` bytes, and changes no block: what holds of the buffer where n was returned and k bytes were filled
+pub record KeptFilled (most : ℕ) (before : List ℕ) (n k : ℕ) (after : List ℕ) : Type 0 where
+  pub refused : n ≢ 0 → (k ≡ 0) × (after ≡ before)
+  pub range : n ≡ 0 → (1 ≤ k) × (k ≤ most) × (k ≤ length before)
+  pub size : length after ≡ length before
+  -- the bytes past those that are filled
+  pub rest : drop k after ≡ drop k before
+
 -- the bytes of the longest text of a register
 abbrev pub mostWritten : ℕ
 mostWritten = 6240
 
--- a write of a register's text into a lent buffer, which changes no block: what holds of the buffer
-pub record KeptWrite (before : List ℕ) (o : Filled) (after : List ℕ) : Type 0 where
-  pub refused : o .refusal ≢ 0 → (o .length ≡ 0) × (after ≡ before)
-  pub range : o .refusal ≡ 0 → (1 ≤ o .length) × (o .length ≤ mostWritten) × (o .length ≤ length before)
-  pub size : length after ≡ length before
-  -- the bytes past those that are written
-  pub rest : drop (o .length) after ≡ drop (o .length) before
+-- a write of a register's text
+abbrev pub KeptWrite : List ℕ → Filled → List ℕ → Type 0
+KeptWrite before o after = KeptFilled mostWritten before (o .refusal) (o .length) after
+
+-- an order, two bytes a subject
+abbrev pub KeptOrder : List ℕ → Listed → List ℕ → Type 0
+KeptOrder before o after = KeptFilled orderSize before (o .refusal) (pairSize * o .subjects) after

@@ -1,4 +1,4 @@
-// The write call, by each of its two functions, and a judge of the bytes that they leave.
+// The calls that fill the front of a lent buffer, a write and an order, each by its two functions, and a judge of the bytes that they leave.
 use crate::agreed;
 use crate::is_kept;
 use crate::number;
@@ -8,6 +8,17 @@ use casefile::out;
 use casefile::reading;
 use register::Answer;
 use transfer::Filled;
+
+// Which call: the order for a receiver, or a write.
+pub struct Fill {
+    pub is_order: bool,
+    pub receiver: u32,
+}
+
+// The most subjects, and the bytes of each in an order.
+const MOST_SUBJECTS: usize = 64;
+
+const PAIR_SIZE: usize = 2;
 
 // What was judged of the call, and how many bytes of the file are left.
 pub struct Written {
@@ -25,16 +36,63 @@ const NOT_KEPT: i32 = -1;
 // bytes are the file before. The first answer is of the function that counts its bytes. The others are of the one that hands back
 // its part, on a buffer of each fill: the second of the whole buffer, the third of the part. Accepted, these are 1 where the bytes
 // are those that were counted; refused, where something was written.
-pub fn judge_write(block: &[u8], size: usize, file: &mut [u8], length: usize) -> Written {
-    let counted = judge_counted(block, size, file, length);
+pub fn judge_fill(
+    fill: Fill,
+    block: &[u8],
+    table: &[u8],
+    size: usize,
+    file: &mut [u8],
+    length: usize,
+) -> Written {
+    let counted = judge_counted(fill, block, table, size, file, length);
     let n = reading::within(counted.length, file);
-    judge_both(block, size, &file[..n], counted)
+    judge_both(fill, block, table, size, &file[..n], counted)
+}
+
+// The function that counts what it fills.
+fn filled_by(fill: Fill, block: &[u8], table: &[u8], buf: &mut [u8]) -> Filled {
+    if !fill.is_order {
+        return transfer::write_file(block, buf);
+    }
+    let listed = order::write_order(block, fill.receiver, table, buf);
+    let subjects = listed.subjects;
+    if subjects > MOST_SUBJECTS {
+        return Filled {
+            refusal: crate::DIFFERENT,
+            length: 0,
+        };
+    }
+    Filled {
+        refusal: listed.refusal,
+        length: PAIR_SIZE * subjects,
+    }
+}
+
+// The one that hands back its part.
+fn handed_by<'a>(
+    fill: Fill,
+    block: &[u8],
+    table: &[u8],
+    refusal: &mut u32,
+    buf: &'a mut [u8],
+) -> &'a mut [u8] {
+    if fill.is_order {
+        return order::order(block, fill.receiver, table, refusal, buf);
+    }
+    transfer::file(block, refusal, buf)
 }
 
 // What was judged of the bytes that were counted, which are the text, with what is judged of those that are handed back.
-fn judge_both(block: &[u8], size: usize, text: &[u8], counted: Written) -> Written {
-    let handed = judge_handed(block, size, text, crate::FILL);
-    let again = judge_handed(block, size, text, crate::OTHER_FILL);
+fn judge_both(
+    fill: Fill,
+    block: &[u8],
+    table: &[u8],
+    size: usize,
+    text: &[u8],
+    counted: Written,
+) -> Written {
+    let handed = judge_handed(fill, block, table, size, text, crate::FILL);
+    let again = judge_handed(fill, block, table, size, text, crate::OTHER_FILL);
     Written {
         refusal: agreed(counted.refusal, agreed(handed.refusal, again.refusal)),
         first: counted.first,
@@ -44,11 +102,18 @@ fn judge_both(block: &[u8], size: usize, text: &[u8], counted: Written) -> Writt
     }
 }
 
-fn judge_counted(block: &[u8], size: usize, file: &mut [u8], length: usize) -> Written {
+fn judge_counted(
+    fill: Fill,
+    block: &[u8],
+    table: &[u8],
+    size: usize,
+    file: &mut [u8],
+    length: usize,
+) -> Written {
     let mut space = [crate::FILL; MOST_FILE];
     let n = reading::within(size, &space);
     let buf = &mut space[..n];
-    let filled = transfer::write_file(block, buf);
+    let filled = filled_by(fill, block, table, buf);
     Written {
         refusal: filled.refusal,
         first: count(filled, buf),
@@ -83,14 +148,21 @@ fn put_filled(filled: Filled, buf: &[u8], file: &mut [u8], length: usize) -> usi
 }
 
 // The whole buffer is judged once its part is given back.
-fn judge_handed(block: &[u8], size: usize, text: &[u8], fill: u8) -> Answer {
-    let mut space = [fill; MOST_FILE];
+fn judge_handed(
+    fill: Fill,
+    block: &[u8],
+    table: &[u8],
+    size: usize,
+    text: &[u8],
+    byte: u8,
+) -> Answer {
+    let mut space = [byte; MOST_FILE];
     let n = reading::within(size, &space);
     let buf = &mut space[..n];
     let mut refusal = 0;
-    let part = transfer::file(block, &mut refusal, buf);
+    let part = handed_by(fill, block, table, &mut refusal, buf);
     let third = judge_part(part, text, refusal);
-    let second = judge_whole(buf, text, fill, refusal);
+    let second = judge_whole(buf, text, byte, refusal);
     Answer {
         refusal: refusal,
         first: 0,

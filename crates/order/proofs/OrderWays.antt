@@ -1,7 +1,7 @@
 -- The ways of the order call: refused in its order; or the order for the receiver, two bytes a subject. Assumes nothing.
 use mathlib.Core.Path.{_≡_, refl, sym, ap, subst, _∙_}
 use mathlib.Core.Logic.{_≢_, _⊎_, inl, inr}
-use mathlib.Core.Bool.{cond}
+use mathlib.Core.Bool.{true, cond}
 use mathlib.Core.List.{List, [], _∷_, _++_, List·Memᴰ·head, List·Memᴰ·tail}
 use Prim.Native.Nat.{ℕ, suc, _+_, _*_, _≤_, _<_}
 use native.Mathlib.Omega.{arith}
@@ -18,12 +18,14 @@ use Rattle.rules.specs.Reach.{reach}
 use Rattle.rules.specs.Order.{IsOrder, orderBytes}
 use Rattle.rules.specs.WellFormed.{WellFormed}
 use Rattle.rules.proofs.Lists.{eqOr}
-use Rattle.rules.proofs.Order.{order-few, order-small, order-limits}
+use Rattle.rules.proofs.Order.{order-few, order-length, order-small, order-limits}
 use Rattle.block.specs.Layout.{mostSubjects}
-use Rattle.block.specs.Block.{decode}
+use Rattle.block.specs.Block.{subjectsIn, decode}
+use Rattle.block.specs.WellFormed.{wellFormed}
 use Rattle.block.proofs.Bytes.{two-stored, getD-mem}
 use Rattle.steptable.specs.declared.Given.{Given}
 use Rattle.refusals.specs.Early.{orderRefusal}
+use Rattle.refusals.proofs.EarlyTests.{receives}
 use Rattle.search.specs.Found.{OrderFound}
 use Rattle.order.specs.Pairs.{pairSize, orderSize, pairBytes, PairsHeld}
 use Rattle.order.specs.OrderOn.{orderRefusalOn, unlistedBy, OrderWritten, OrderMade, OrderFront}
@@ -115,17 +117,27 @@ module _ (k : Given) (b : List ℕ) (v : ℕ) (buf : List ℕ) where
     pub order-made : n ≡ 0 → (m : ℕ) (after : List ℕ) → OrderWritten (k .steps) (decode b) v buf m after → OrderMade k b v buf record { refusal = 0; subjects = m } after
     order-made z m after w = record { refusal = sym z ∙ past-buffer; refused = λ q. absurd (q refl); written = λ _. w }
 
+-- past all tests
+pub record OrderThrough (b : List ℕ) (v : ℕ) (buf : List ℕ) : Type 0 where
+  pub size : length buf ≡ orderSize
+  pub formed : wellFormed b ≡ true
+  pub receiver : v < subjectsIn b
+
+pub order-through : (k : Given) (b : List ℕ) (v : ℕ) (buf : List ℕ) → orderRefusalOn k b v buf ≡ 0 → OrderThrough b v buf
+unfolding orderRefusalOn
+order-through k b v buf z = go (eqOr (length buf) orderSize)
+  where
+    go : (length buf ≡ orderSize) ⊎ (length buf ≢ orderSize) → OrderThrough b v buf
+    go (inl e) = let h = receives (k .refusal) b v (rw (eq-eqb (length buf) orderSize e) at z) in record { size = e; formed = h .formed; receiver = h .receiver }
+    go (inr n) = absurd (omega (arith, rw (ne-eqb (length buf) orderSize n) at z))
+
 -- ── the front handed back ──
 module _ (k : Given) (b : List ℕ) (v : ℕ) (buf : List ℕ) (o : Listed) (after : List ℕ) (made : OrderMade k b v buf o after) where
-  order-length : (ws : List ℕ) → length (orderBytes (k .steps) (decode b) v ws) ≡ pairSize * length ws
-  order-length [] = refl
-  order-length (w ∷ ws) = omega (arith, order-length ws)
-
   pub front-fits : pairSize * o .subjects ≤ length after
   front-fits = go (eqOr (o .refusal) 0)
     where
       go : (o .refusal ≡ 0) ⊎ (o .refusal ≢ 0) → pairSize * o .subjects ≤ length after
-      go (inl e) = let w = made .written e in omega (arith, w .count, ap length (w .bytes), length-append (orderBytes (k .steps) (decode b) v (w .subjects)) (drop (pairSize * length (w .subjects)) buf), order-length (w .subjects))
+      go (inl e) = let w = made .written e in omega (arith, w .count, ap length (w .bytes), length-append (orderBytes (k .steps) (decode b) v (w .subjects)) (drop (pairSize * length (w .subjects)) buf), order-length (k .steps) (decode b) v (w .subjects))
       go (inr n) = omega (arith, made .refused n .0)
 
   pub front-made : OrderFront k b v buf (o .refusal) (take (pairSize * o .subjects) after)
@@ -134,5 +146,5 @@ module _ (k : Given) (b : List ℕ) (v : ℕ) (buf : List ℕ) (o : Listed) (aft
     refused = λ n. ap (λ (i : ℕ). take (pairSize * i) after) (made .refused n .0);
     order = λ z.
         let w = made .written z in
-        (w .subjects, w .order, (λ j. take (pairSize * w .count j) (w .bytes j)) ∙ take-at (orderBytes (k .steps) (decode b) v (w .subjects)) (drop (pairSize * length (w .subjects)) buf) (pairSize * length (w .subjects)) (order-length (w .subjects)));
+        (w .subjects, w .order, (λ j. take (pairSize * w .count j) (w .bytes j)) ∙ take-at (orderBytes (k .steps) (decode b) v (w .subjects)) (drop (pairSize * length (w .subjects)) buf) (pairSize * length (w .subjects)) (order-length (k .steps) (decode b) v (w .subjects)));
   }

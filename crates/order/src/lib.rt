@@ -14,7 +14,7 @@ use block::layout;
 use rules::refusal;
 
 // The bytes of a subject and its limit.
-const PAIR_SIZE: usize = 2;
+pub const PAIR_SIZE: usize = 2;
 
 // The length of the lent buffer: room for all subjects.
 pub const ORDER_SIZE: usize = PAIR_SIZE * layout::SUBJECTS;

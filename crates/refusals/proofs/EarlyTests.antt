@@ -77,6 +77,9 @@ module _ (n : ℕ) (b : List ℕ) (ps : List (ℕ × Bool)) (all : T (numbered p
   by-found e q = by-one ∙ ap (λ (k : ℕ). firstOf (earlyOf n b k)) (sym e) ∙ sym q
 
 module _ (n : ℕ) (b : List ℕ) (c : Call) where
+  pub early-one : firstOf (early n b c) ≡ firstOf (earlyOf n b (firstOf (passed c)))
+  early-one = by-one n b (passed c) (passed-numbered c)
+
   pub early-none : firstOf (early n b c) ≡ 0 → Early n b c
   early-none = by-none n b (passed c) (passed-numbered c)
 
@@ -156,9 +159,9 @@ module _ (n : ℕ) (b : List ℕ) (v : ℕ) where
     unfolding orderRefusal
     order-held h r = r ∙ sym (firstOf-none tests (orderHeld (decode b) v) tt (by-found n b (orderPassed v) tt e q ∙ z))
 
-  pub order-through : orderRefusal n b v ≡ 0 → Receives b v
+  pub receives : orderRefusal n b v ≡ 0 → Receives b v
   unfolding orderRefusal decode
-  order-through z =
+  receives z =
       let e = firstOf-left tests (orderHeld (decode b) v) tt z in
       let p = passes-of (orderHeld (decode b) v) tt (sym (firstOf-none tests (orderHeld (decode b) v) tt e) ∙ z) in
       record { formed = by-none n b (orderPassed v) tt e .formed; receiver = nleb→lt (decode b .subjects) v (not-or-left (leb (decode b .subjects) v) false (p 9)) }

@@ -26,3 +26,4 @@ pub mod Order
 pub mod Answers
 pub mod BadOutcomes
 pub mod BadGrants
+pub mod BadOrders

@@ -3,7 +3,7 @@ use mathlib.Core.Path.{_≡_, refl, sym, ap, subst, _∙_}
 use mathlib.Core.Logic.{_≢_, _⊎_, inl, inr}
 use mathlib.Core.Bool.{Bool, true, false, cond, not}
 use mathlib.Core.List.{List, [], _∷_, _++_, List·Memᴰ·head, List·Memᴰ·tail, List·Memᴰ·not-nil, Memᴰ·append-left, Memᴰ·append-right}
-use Prim.Native.Nat.{ℕ, zero, suc, _+_, _≤_, _<_, zero-le}
+use Prim.Native.Nat.{ℕ, zero, suc, _+_, _*_, _≤_, _<_, zero-le}
 use native.Mathlib.Nat.{le-trans, le-refl}
 use native.Mathlib.Omega.{arith}
 use lib.Dec.{T, T-not, ltb, ltb→lt, nltb→le}
@@ -17,7 +17,7 @@ use Rattle.rules.specs.Condition.{Meets}
 use Rattle.rules.specs.Chain.{Linked, limit, IsChain}
 use Rattle.rules.specs.Reach.{reach}
 use Rattle.rules.specs.WellFormed.{WellFormed}
-use Rattle.rules.specs.Order.{Comes, Due, Precedes, WrittenSo, owner-first, heaviest-next, IsOrder}
+use Rattle.rules.specs.Order.{Comes, Due, Precedes, WrittenSo, owner-first, heaviest-next, IsOrder, orderBytes}
 use Rattle.rules.proofs.Lists.{either, eqOr}
 use Rattle.rules.proofs.Limits.{code-inj, next-mono, next-below}
 use Rattle.rules.proofs.Chains.{limit-snoc, limitFrom-top, mem-snoc, distinct-snoc, distinct-length}
@@ -92,6 +92,14 @@ module _ (t : List ℤ) (R : Register) (v : ℕ) where
   pub order-few : {ws : List ℕ} → IsOrder t R v ws → Distinct ws × (WellFormed R → length ws ≤ 64)
   order-few {ws} o = (written-distinct (o .written), λ f. distinct-length 64 ws (written-distinct (o .written)) (written-small f (o .written)))
 
+  pub order-some : {ws : List ℕ} → IsOrder t R v ws → 1 ≤ length ws
+  order-some o = written-some (o .written)
+
+  -- two bytes a subject
+  pub order-length : (ws : List ℕ) → length (orderBytes t R v ws) ≡ 2 * length ws
+  order-length [] = refl
+  order-length (w ∷ ws) = omega (arith, order-length ws)
+
   pub order-small : WellFormed R → {ws : List ℕ} → IsOrder t R v ws → (y : ℕ) → y ∈ ws → y < 64
   order-small f o = written-small f (o .written)
 
@@ -105,12 +113,16 @@ module _ (t : List ℤ) (R : Register) (v : ℕ) where
       go ih (inl k) = ih y k
       go ih (inr e) = subst (λ (x : ℕ). reach t R x v ≢ none) (sym e) (d .reached)
 
-  pub order-limits : TableRule t → {ws : List ℕ} → IsOrder t R v ws → (y : ℕ) → y ∈ ws → (pos 0 ≼ reach t R y v) × (reach t R y v ≼ pos 255)
-  order-limits rule o y m = go (reach-attained t R y v)
+  -- a reach that is not -1 is that of a chain
+  pub reach-chain : (y : ℕ) → reach t R y v ≢ none → (ds : List Delegation) × IsChain t R y v ds × (reach t R y v ≡ limit t ds)
+  reach-chain y n = go (reach-attained t R y v)
     where
-      go : (reach t R y v ≡ none) ⊎ ((ds : List Delegation) × IsChain t R y v ds × (reach t R y v ≡ limit t ds)) → (pos 0 ≼ reach t R y v) × (reach t R y v ≼ pos 255)
-      go (inl e) = absurd (o .reached y m e)
-      go (inr (ds, c, e)) = subst (λ (l : ℤ). (pos 0 ≼ l) × (l ≼ pos 255)) (sym e) (c .live, limitFrom-top t rule (pos 255) ds (le-refl 256))
+      go : (reach t R y v ≡ none) ⊎ ((ds : List Delegation) × IsChain t R y v ds × (reach t R y v ≡ limit t ds)) → (ds : List Delegation) × IsChain t R y v ds × (reach t R y v ≡ limit t ds)
+      go (inl e) = absurd (n e)
+      go (inr r) = r
+
+  pub order-limits : TableRule t → {ws : List ℕ} → IsOrder t R v ws → (y : ℕ) → y ∈ ws → (pos 0 ≼ reach t R y v) × (reach t R y v ≼ pos 255)
+  order-limits rule o y m = let (ds, c, e) = reach-chain y (o .reached y m) in subst (λ (l : ℤ). (pos 0 ≼ l) × (l ≼ pos 255)) (sym e) (c .live, limitFrom-top t rule (pos 255) ds (le-refl 256))
 
 -- ── a search settles in this order ──
 module _ (t : List ℤ) (rule : TableRule t) (R : Register) (v : ℕ) (L : ℕ → ℤ) (settled : ℕ → Bool) (parent : ℕ → Delegation) (search : Search t R v L settled parent []) where

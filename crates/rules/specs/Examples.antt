@@ -1,4 +1,4 @@
--- P1 to P8 of document 01 ('Register examples'), as lists of calls with what document 01 says comes out; one of document 02's C-12; and a list in which the step table changes from call to call. Assumes nothing.
+-- P1 to P8 of document 01 ('Register examples'), as lists of calls with what document 01 says comes out; one of document 02's C-12; a list in which the step table changes from call to call; and an order of C-14. Assumes nothing.
 use mathlib.Core.Bool.{cond}
 use mathlib.Core.List.{List, [], _∷_, _++_, map}
 use Prim.Native.Nat.{ℕ, zero, suc}
@@ -8,7 +8,7 @@ use lib.IntN.{ℤ, pos}
 use Rattle.rules.specs.List.{tabulate}
 use Rattle.rules.specs.Limit.{none}
 use Rattle.rules.specs.Table.{steps}
-use Rattle.rules.specs.Register.{Delegation, granted}
+use Rattle.rules.specs.Register.{Delegation, Register, granted}
 use Rattle.rules.specs.Call.{Call, enrol, grant, revoke, downgrade, askReach, askUse, fresh}
 use Rattle.rules.specs.CallStep.{Outcome, callStep}
 use Rattle.rules.specs.Trace.{traceFrom}
@@ -206,3 +206,18 @@ twos-shown l n a b ds = record { refusals = replicate 8 0; printed = line 0 (pos
 -- what comes out, t being ours and twos: the cut by twos lowers what twos does not support
 abbrev pub twos-said : List Shown
 twos-said = twos-shown 0 1 5 7 (entry 0 1 9 ∷ entry 1 2 8 ∷ entry 2 3 6 ∷ []) ∷ twos-shown 2 2 5 6 (entry 0 1 9 ∷ entry 1 2 7 ∷ entry 2 3 5 ∷ []) ∷ []
+
+-- ── document 02, C-14: a register, and the order for subject 5 ──
+abbrev pub fanned : Register
+fanned = record {
+  subjects = 6;
+  marks = 0 ∷ 0 ∷ 0 ∷ 0 ∷ 0 ∷ 0 ∷ [];
+  delegations = entry 0 2 9 ∷ entry 0 4 255 ∷ entry 1 3 20 ∷ entry 2 3 7 ∷ entry 3 5 6 ∷ entry 4 1 255 ∷ [];
+}
+
+-- 1 comes by 4, so it follows 4; 3 comes by 1 at 19, though it was reached by 2 at 6
+abbrev pub fannedOrder : List ℕ
+fannedOrder = 0 ∷ 4 ∷ 1 ∷ 3 ∷ 2 ∷ 5 ∷ []
+
+abbrev pub fannedBytes : List ℕ
+fannedBytes = 0 ∷ 255 ∷ 4 ∷ 255 ∷ 1 ∷ 255 ∷ 3 ∷ 19 ∷ 2 ∷ 8 ∷ 5 ∷ 5 ∷ []

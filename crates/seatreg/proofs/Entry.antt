@@ -3,13 +3,15 @@ use mathlib.Core.Path.{_≡_, refl, sym, ap, subst, _∙_}
 use mathlib.Core.Logic.{_≢_}
 use mathlib.Core.Bool.{Bool, cond}
 use mathlib.Core.List.{List, _++_}
-use Prim.Native.Nat.{ℕ}
+use Prim.Native.Nat.{ℕ, _*_}
 use native.Mathlib.Omega.{arith}
 use borrow.Author.Tests.{eq-eqb, ne-eqb}
 use lib.Dec.{eqb}
 use lib.ListN.{length, drop}
 use lib.IntN.{ℤ, pos}
 use Rattle.rules.specs.Register.{Register}
+use Rattle.rules.specs.Order.{IsOrder, orderBytes}
+use Rattle.rules.proofs.Order.{order-length}
 use Rattle.rules.specs.Cut.{changed}
 use Rattle.rules.specs.Call.{Call}
 use Rattle.rules.specs.History.{CutRight}
@@ -17,14 +19,17 @@ use Rattle.block.specs.Block.{decode}
 use Rattle.steptable.specs.declared.Given.{Given}
 use Rattle.regfile.specs.FileText.{fileText}
 use Rattle.register.specs.CallOn.{Result, callOn, openOn}
-use Rattle.register.specs.Made.{answeredBy, result, Made, MadeOpen}
+use Rattle.register.specs.Made.{result, Made, MadeOpen}
 use Rattle.register.specs.Cuts.{onRegister, CutMade}
 use Rattle.register.specs.declared.Answer.{Answer}
 use Rattle.transfer.specs.FileOn.{writeRefusal, WriteMade, ReadMade}
 use Rattle.transfer.specs.RoundTrip.{reading}
 use Rattle.transfer.specs.declared.Filled.{Filled}
+use Rattle.order.specs.Pairs.{pairSize}
+use Rattle.order.specs.OrderOn.{orderRefusalOn, OrderMade}
+use Rattle.order.specs.declared.Listed.{Listed}
 use Rattle.seatreg.specs.Answers.{answerBytes}
-use Rattle.seatreg.specs.Entry.{handedOut, wrongAnswers, entryOf, entryOn, entryOpen, EntryMade, EntryOpened, EntryReadMade, EntryWriteMade, EntryCutRight, EntryCutMade, AnswersPut}
+use Rattle.seatreg.specs.Entry.{handedOut, wrongAnswers, entryOf, entryOn, entryOpen, EntryMade, EntryOpened, EntryReadMade, EntryFilled, EntryWriteMade, EntryOrderMade, EntryCutRight, EntryCutMade, toldBy, AnswersPut}
 
 -- ── what is handed out ──
 module _ (o : Answer) (a : List ℕ) where
@@ -91,7 +96,7 @@ module _ (b a : List ℕ) where
   unfolding entryOpen
   open-made l o b' e n a' h = made-of (openOn b) b a l o b' e n a' h
 
--- ── of a read and a write ──
+-- ── of a read ──
 module _ (text table b a : List ℕ) where
   pub read-short : length a ≢ 12 → EntryReadMade text table b a 1 b a
   read-short n = short-of (reading text table b) b a n
@@ -99,22 +104,31 @@ module _ (text table b a : List ℕ) where
   pub read-made : length a ≡ 12 → (o : Answer) (b' : List ℕ) → ReadMade text table b o b' → (n : ℕ) (a' : List ℕ) → AnswersPut o a n a' → EntryReadMade text table b a n b' a'
   read-made l o b' e n a' h = made-of (reading text table b) b a l o b' e n a' h
 
-module _ (b t a : List ℕ) where
-  pub write-short : length a ≢ 12 → EntryWriteMade b t a 1 t a
-  write-short n = record { refusal = rw (ne-eqb (length a) 12 n); refused = λ _. (refl, refl); text = λ z. absurd (omega arith) }
+-- ── of a call that fills the front of a lent buffer ──
+module _ (m : ℕ) (Right : List ℕ → Type 0) (t a : List ℕ) where
+  pub filled-short : length a ≢ 12 → EntryFilled m Right t a 1 t a
+  filled-short n = record { refusal = rw (ne-eqb (length a) 12 n); refused = λ _. (refl, refl); filled = λ z. absurd (omega arith) }
 
-  module _ (l : length a ≡ 12) (o : Filled) (t' : List ℕ) (made : WriteMade b t o t') where
-    number : o .refusal ≡ cond (eqb (length a) 12) (writeRefusal b t) 1
-    number = made .refusal ∙ rw (eq-eqb (length a) 12 l)
+  -- k bytes were filled, and the library call returned r
+  pub filled-made : length a ≡ 12 → (r k : ℕ) (t' : List ℕ) → r ≡ m → (r ≢ 0 → t' ≡ t) → (r ≡ 0 → (s : List ℕ) × Right s × (length s ≡ k) × (t' ≡ s ++ drop k t))
+      → (n : ℕ) (a' : List ℕ) → AnswersPut (toldBy r (pos k)) a n a' → EntryFilled m Right t a n t' a'
+  filled-made l r k t' e refused front n a' h = record {
+    refusal = h .0 ∙ e ∙ rw (eq-eqb (length a) 12 l);
+    refused = λ z. let q : r ≢ 0 = λ y. z (h .0 ∙ y) in (refused q, h .1 ∙ ap (λ (x : Bool). cond x (answerBytes (pos k) (pos 0) (pos 0)) a) (ne-eqb r 0 q));
+    filled = λ z.
+        let (s, right, size, q) = front (sym (h .0) ∙ z) in
+        (s, right, q ∙ ap (λ (j : ℕ). s ++ drop j t) (sym size), accepted-bytes (toldBy r (pos k)) a n a' h z ∙ ap (λ (j : ℕ). answerBytes (pos j) (pos 0) (pos 0)) (sym size));
+  }
 
-    pub write-refused : o .refusal ≢ 0 → EntryWriteMade b t a (o .refusal) t' a
-    write-refused k = record { refusal = number; refused = λ _. (made .refused k .1, refl); text = λ z. absurd (k z) }
+pub write-made : (b t a : List ℕ) → length a ≡ 12 → (o : Filled) (t' : List ℕ) → WriteMade b t o t' → (n : ℕ) (a' : List ℕ) → AnswersPut (toldBy (o .refusal) (pos (o .length))) a n a' → EntryWriteMade b t a n t' a'
+write-made b t a l o t' made =
+    filled-made (writeRefusal b t) (λ s. s ≡ fileText (decode b)) t a l (o .refusal) (o .length) t' (made .refusal) (λ z. made .refused z .1) (λ z. (fileText (decode b), refl, sym (made .text z .0), made .text z .1))
 
-    pub write-made : o .refusal ≡ 0 → (n : ℕ) (a' : List ℕ) → AnswersPut (answeredBy (pos (o .length)) (pos 0) (pos 0)) a n a' → EntryWriteMade b t a n t' a'
-    write-made z n a' h =
-        let (m, e) = made .text z in
-        record {
-          refusal = h .0 ∙ sym z ∙ number;
-          refused = λ k. absurd (k (h .0));
-          text = λ _. (e ∙ ap (λ (k : ℕ). fileText (decode b) ++ drop k t) m, h .1 ∙ ap (λ (k : ℕ). answerBytes (pos k) (pos 0) (pos 0)) m);
-        }
+pub order-made : (g : Given) (b : List ℕ) (v : ℕ) (t a : List ℕ) → length a ≡ 12 → (o : Listed) (t' : List ℕ) → OrderMade g b v t o t' → (n : ℕ) (a' : List ℕ) → AnswersPut (toldBy (o .refusal) (pos (pairSize * o .subjects))) a n a'
+    → EntryOrderMade g b v t a n t' a'
+order-made g b v t a l o t' made =
+    filled-made (orderRefusalOn g b v t) (λ s. (ws : List ℕ) × IsOrder (g .steps) (decode b) v ws × (s ≡ orderBytes (g .steps) (decode b) v ws)) t a l (o .refusal) (pairSize * o .subjects) t' (made .refusal) (λ z. made .refused z .1)
+    (λ z.
+    let w = made .written z in
+    let n = ap (λ (k : ℕ). pairSize * k) (w .count) in
+    (orderBytes (g .steps) (decode b) v (w .subjects), (w .subjects, w .order, refl), order-length (g .steps) (decode b) v (w .subjects) ∙ sym n, w .bytes ∙ ap (λ (k : ℕ). orderBytes (g .steps) (decode b) v (w .subjects) ++ drop k t) (sym n)))

@@ -2,7 +2,7 @@
 use mathlib.Core.Path.{_≡_, refl, sym, ap, subst, _∙_}
 use mathlib.Core.Logic.{_≢_, _⊎_, inl, inr}
 use mathlib.Core.Bool.{Bool, true, false, cond}
-use mathlib.Core.List.{List}
+use mathlib.Core.List.{List, _++_}
 use Prim.Native.Nat.{ℕ, zero, suc, _≤_, _<_}
 use native.Mathlib.Omega.{arith}
 use borrow.Author.Tests.{eq-eqb}
@@ -13,10 +13,12 @@ use lib.IntN.{ℤ, pos, negsuc}
 use Rattle.rules.specs.Limit.{code, _≼_, fromNone}
 use Rattle.rules.specs.Table.{TableRule}
 use Rattle.rules.specs.Call.{Call, enrol, grant, revoke, downgrade, askReach, askUse, fresh}
+use Rattle.rules.specs.Order.{IsOrder, orderBytes}
 use Rattle.rules.specs.Ranges.{FromTo, Unused, CutInRange, InRange}
 use Rattle.rules.proofs.Table.{steps-rule}
 use Rattle.rules.proofs.Calls.{fresh-formed}
 use Rattle.rules.proofs.Lists.{eqOr}
+use Rattle.rules.proofs.Order.{order-some, order-few, order-length}
 use Rattle.block.specs.Layout.{blockSize}
 use Rattle.block.specs.Bytes.{IsBytes}
 use Rattle.block.specs.Block.{decode, encode}
@@ -32,13 +34,16 @@ use Rattle.register.specs.CallOn.{Result, turned, callOn, openOn}
 use Rattle.transfer.specs.FileOn.{writeRefusal}
 use Rattle.transfer.specs.RoundTrip.{reading}
 use Rattle.transfer.proofs.Writing.{write-through}
+use Rattle.order.specs.Pairs.{orderSize}
+use Rattle.order.specs.OrderOn.{orderRefusalOn}
+use Rattle.order.proofs.OrderWays.{order-through}
 use Rattle.demands.specs.History.{reads}
 use Rattle.demands.specs.Kept.{mostWritten}
 use Rattle.demands.proofs.Keeping.{kept, kept-open, kept-read}
 use Rattle.demands.proofs.History.{bytes-left}
 use Rattle.seatreg.specs.Answers.{answersSize, answerBytes, answerIn}
-use Rattle.seatreg.specs.Entry.{wrongAnswers, entryOf, entryOn, entryOpen, EntryWriteMade}
-use Rattle.seatreg.specs.Kept.{BuffersKept, AllUnused, EntryKept, EntryKeptOpen, EntryKeptRead, EntryKeptWrite}
+use Rattle.seatreg.specs.Entry.{wrongAnswers, entryOf, entryOn, entryOpen, EntryFilled, EntryWriteMade, EntryOrderMade}
+use Rattle.seatreg.specs.Kept.{BuffersKept, AllUnused, EntryKept, EntryKeptOpen, EntryKeptRead, EntryKeptFilled, EntryKeptWrite, EntryKeptOrder}
 use Rattle.seatreg.proofs.AnswerBytes.{Fits32, length-answers, bytes-answers, first-back, second-back, third-back}
 
 -- ── answers in range have 32 bits ──
@@ -185,48 +190,64 @@ entry-kept-read text table b a found lent =
       bytes = bytes-left b (reads text table) found;
     }
 
--- ── write ──
-module _ (b t a : List ℕ) (n : ℕ) (t' a' : List ℕ) (found : IsBytes b) (made : EntryWriteMade b t a n t' a') where
-  abbrev size : ℕ
-  size = length (fileText (decode b))
+-- ── write and order ──
 
-  -- how many bytes an accepted write writes
-  written : n ≡ 0 → (1 ≤ size) × (size ≤ mostWritten) × (size ≤ length t)
-  written z =
-      let w = write-through b t (go (eqb (length a) answersSize) (sym (made .refusal) ∙ z)) in
-      let some = file-some (decode b) in
-      let most = file-short (decode b) (held-formed b found (w .formed)) in
-      (some, most, omega (arith, w .room))
-    where
-      go : (x : Bool) → cond x (writeRefusal b t) 1 ≡ 0 → writeRefusal b t ≡ 0
-      go true e = e
-      go false e = absurd (omega arith)
-
-  bytes-back : n ≡ 0 → (answerIn a' 0 ≡ pos size) × (answerIn a' 1 ≡ pos 0) × (answerIn a' 2 ≡ pos 0)
+-- s was filled in, from 1 to `most` bytes, and the buffer has room for it
+module _ (m : ℕ) (Right : List ℕ → Type 0) (t a : List ℕ) (n : ℕ) (t' a' : List ℕ) (made : EntryFilled m Right t a n t' a') (most : ℕ) (small : most < 65536)
+    (sized : n ≡ 0 → (s : List ℕ) → Right s → (1 ≤ length s) × (length s ≤ most) × (length s ≤ length t)) where
+  bytes-back : (z : n ≡ 0) → let k = length (made .filled z .0) in (answerIn a' 0 ≡ pos k) × (answerIn a' 1 ≡ pos 0) × (answerIn a' 2 ≡ pos 0)
   bytes-back z =
-      let e = made .text z .1 in
-      let h : size ≤ mostWritten = written z .1 in (
-        ap (λ (s : List ℕ). answerIn s 0) e ∙ first-back (pos size) (pos 0) (pos 0) (omega arith),
-        ap (λ (s : List ℕ). answerIn s 1) e ∙ second-back (pos size) (pos 0) (pos 0) (omega arith),
-        ap (λ (s : List ℕ). answerIn s 2) e ∙ third-back (pos size) (pos 0) (pos 0) (omega arith),
+      let (s, right, _, e) = made .filled z in
+      let h = sized z s right .1 in (
+        ap (λ (x : List ℕ). answerIn x 0) e ∙ first-back (pos (length s)) (pos 0) (pos 0) (omega (arith, h, small)),
+        ap (λ (x : List ℕ). answerIn x 1) e ∙ second-back (pos (length s)) (pos 0) (pos 0) (omega arith),
+        ap (λ (x : List ℕ). answerIn x 2) e ∙ third-back (pos (length s)) (pos 0) (pos 0) (omega arith),
       )
 
-  pub entry-kept-write : EntryKeptWrite t a n t' a'
-  entry-kept-write = record {
+  kept-filled : EntryKeptFilled most t a n t' a'
+  kept-filled = record {
     refused = made .refused;
-    size = λ z. ap length (made .text z .1) ∙ length-answers (pos size) (pos 0) (pos 0);
-    answers = λ z. let (x, y, w) = bytes-back z in made .text z .1 ∙ sym (λ i. answerBytes (x i) (y i) (w i));
-    range = λ z. let (x, y, w) = bytes-back z in ((size, x, written z .0, written z .1), y, w);
+    size = λ z. let (s, right, _, e) = made .filled z in ap length e ∙ length-answers (pos (length s)) (pos 0) (pos 0);
+    answers = λ z. let (x, y, w) = bytes-back z in made .filled z .3 ∙ sym (λ i. answerBytes (x i) (y i) (w i));
+    range = λ z. let (x, y, w) = bytes-back z in let h = sized z (made .filled z .0) (made .filled z .1) in ((length (made .filled z .0), x, h .0, h .1), y, w);
     within = within (eqOr n 0);
     rest = λ z k e.
-        let q : k ≡ size = pos-same (sym e ∙ bytes-back z .0) in
-        let l : size ≤ length t = written z .2 in
-        (omega arith, ap (λ (j : ℕ). drop j t') q ∙ ap (drop size) (made .text z .0) ∙ drop-at (fileText (decode b)) (drop size t) size refl ∙ ap (λ (j : ℕ). drop j t) (sym q));
+        let (s, right, q, _) = made .filled z in
+        let i : k ≡ length s = pos-same (sym e ∙ bytes-back z .0) in
+        (omega (arith, i, sized z s right .2), ap (λ (j : ℕ). drop j t') i ∙ ap (drop (length s)) q ∙ drop-at s (drop (length s) t) (length s) refl ∙ ap (λ (j : ℕ). drop j t) (sym i));
   }
     where
       pos-same : {j k : ℕ} → pos j ≡ pos k → j ≡ k
       pos-same e = let c = ap code e in omega arith
 
       within : (n ≡ 0) ⊎ (n ≢ 0) → length t' ≡ length t
-      within (inl z) = ap length (made .text z .0) ∙ length-append (fileText (decode b)) (drop size t) ∙ omega (arith, length-drop size t, written z .2)
+      within (inl z) = let (s, right, q, _) = made .filled z in ap length q ∙ length-append s (drop (length s) t) ∙ omega (arith, length-drop (length s) t, sized z s right .2)
       within (inr k) = ap length (made .refused k .0)
+
+-- the answers buffer has its length where the call is accepted
+past-answers : (a : List ℕ) (m n : ℕ) → n ≡ cond (eqb (length a) answersSize) m 1 → n ≡ 0 → m ≡ 0
+past-answers a m n e z = go (eqb (length a) answersSize) (sym e ∙ z)
+  where
+    go : (x : Bool) → cond x m 1 ≡ 0 → m ≡ 0
+    go true q = q
+    go false q = absurd (omega arith)
+
+pub entry-kept-write : (b t a : List ℕ) (n : ℕ) (t' a' : List ℕ) → IsBytes b → EntryWriteMade b t a n t' a' → EntryKeptWrite t a n t' a'
+entry-kept-write b t a n t' a' found made = kept-filled (writeRefusal b t) (λ s. s ≡ fileText (decode b)) t a n t' a' made mostWritten (omega arith) sized
+  where
+    sized : n ≡ 0 → (s : List ℕ) → s ≡ fileText (decode b) → (1 ≤ length s) × (length s ≤ mostWritten) × (length s ≤ length t)
+    sized z s e =
+        let w = write-through b t (past-answers a (writeRefusal b t) n (made .refusal) z) in
+        let most = file-short (decode b) (held-formed b found (w .formed)) in
+        (omega (arith, ap length e, file-some (decode b)), omega (arith, ap length e, most), omega (arith, ap length e, most, w .room))
+
+pub entry-kept-order : (g : Given) (b : List ℕ) (v : ℕ) (t a : List ℕ) (n : ℕ) (t' a' : List ℕ) → IsBytes b → EntryOrderMade g b v t a n t' a' → EntryKeptOrder t a n t' a'
+entry-kept-order g b v t a n t' a' found made =
+    kept-filled (orderRefusalOn g b v t) (λ s. (ws : List ℕ) × IsOrder (g .steps) (decode b) v ws × (s ≡ orderBytes (g .steps) (decode b) v ws)) t a n t' a' made orderSize (omega arith) sized
+  where
+    sized : n ≡ 0 → (s : List ℕ) → (ws : List ℕ) × IsOrder (g .steps) (decode b) v ws × (s ≡ orderBytes (g .steps) (decode b) v ws) → (1 ≤ length s) × (length s ≤ orderSize) × (length s ≤ length t)
+    sized z s (ws, o, e) =
+        let p = order-through g b v t (past-answers a (orderRefusalOn g b v t) n (made .refusal) z) in
+        let few = order-few (g .steps) (decode b) v o .1 (held-formed b found (p .formed)) in
+        let k = order-length (g .steps) (decode b) v ws in
+        (omega (arith, ap length e, k, order-some (g .steps) (decode b) v o), omega (arith, ap length e, k, few), omega (arith, ap length e, k, few, p .size))

@@ -1,5 +1,5 @@
 -- What every C entry point promises: one relation of what is given with the step table's text, the call, both buffers before, the number returned and both buffers after (document 01, 'Calls'; document 02,
--- C-11 and C-13). Assumes nothing.
+-- C-11, C-13 and C-14). Assumes nothing.
 use mathlib.Core.Path.{_≡_}
 use mathlib.Core.Logic.{_≢_}
 use mathlib.Core.Bool.{cond}
@@ -9,6 +9,7 @@ use lib.Dec.{eqb}
 use lib.ListN.{length, drop}
 use lib.IntN.{ℤ, pos}
 use Rattle.rules.specs.Register.{Register}
+use Rattle.rules.specs.Order.{IsOrder, orderBytes}
 use Rattle.rules.specs.Cut.{Change, changed}
 use Rattle.rules.specs.Call.{Call, Makes}
 use Rattle.rules.specs.CallStep.{answered}
@@ -21,6 +22,7 @@ use Rattle.register.specs.CallOn.{Result, callOn, openOn}
 use Rattle.register.specs.declared.Answer.{Answer}
 use Rattle.transfer.specs.FileOn.{writeRefusal}
 use Rattle.transfer.specs.RoundTrip.{reading}
+use Rattle.order.specs.OrderOn.{orderRefusalOn}
 use Rattle.seatreg.specs.Answers.{answersSize, answerBytes}
 
 -- the refusal number, 0 when accepted; the block and the answers buffer afterwards
@@ -65,12 +67,20 @@ EntryOpened b a n b' a' = record { refusal = n; block = b'; answers = a' } ≡ e
 abbrev pub EntryReadMade : (text table b a : List ℕ) → ℕ → List ℕ → List ℕ → Type 0
 EntryReadMade text table b a n b' a' = record { refusal = n; block = b'; answers = a' } ≡ entryOf (reading text table b) b a
 
--- of a write of the block b: n was returned; the text buffer and the answers buffer held t and a, and hold t' and a'
-pub record EntryWriteMade (b t a : List ℕ) (n : ℕ) (t' a' : List ℕ) : Type 0 where
-  pub refusal : n ≡ cond (eqb (length a) answersSize) (writeRefusal b t) 1
+-- of a call that fills the front of a lent buffer, is refused with m where the answers buffer has its length, and fills in what is Right: n was returned; the lent buffer and the answers buffer held t and a, and hold t' and a'
+pub record EntryFilled (m : ℕ) (Right : List ℕ → Type 0) (t a : List ℕ) (n : ℕ) (t' a' : List ℕ) : Type 0 where
+  pub refusal : n ≡ cond (eqb (length a) answersSize) m 1
   pub refused : n ≢ 0 → (t' ≡ t) × (a' ≡ a)
-  -- the text of the register, the bytes past it as they were; the answers are its length, 0 and 0
-  pub text : n ≡ 0 → let s = fileText (decode b) in (t' ≡ s ++ drop (length s) t) × (a' ≡ answerBytes (pos (length s)) (pos 0) (pos 0))
+  -- the front, the bytes past it as they were; the answers are its length, 0 and 0
+  pub filled : n ≡ 0 → (s : List ℕ) × Right s × (t' ≡ s ++ drop (length s) t) × (a' ≡ answerBytes (pos (length s)) (pos 0) (pos 0))
+
+-- of a write of the block b: the text of its register
+abbrev pub EntryWriteMade : (b t a : List ℕ) → ℕ → List ℕ → List ℕ → Type 0
+EntryWriteMade b t a n t' a' = EntryFilled (writeRefusal b t) (λ s. s ≡ fileText (decode b)) t a n t' a'
+
+-- of an order for the receiver v by what is given with a step table's text: the bytes of the order
+abbrev pub EntryOrderMade : Given → (b : List ℕ) → ℕ → (t a : List ℕ) → ℕ → List ℕ → List ℕ → Type 0
+EntryOrderMade g b v t a n t' a' = EntryFilled (orderRefusalOn g b v t) (λ s. (ws : List ℕ) × IsOrder (g .steps) (decode b) v ws × (s ≡ orderBytes (g .steps) (decode b) v ws)) t a n t' a'
 
 -- what an accepted cut leaves in both buffers: C is the register after its named change, and the bytes are those of three answers that are right for it
 pub record EntryCutRight (t : List ℤ) (C : Register) (r : Returned) : Type 0 where
@@ -87,6 +97,10 @@ EntryCutsRight t b c r = (k : Change) → Makes c k → r .refusal ≡ 0 → Ent
 -- `EntryMade`, and that: what demand 3 claims of a place, at the block that the call was handed
 abbrev pub EntryCutMade : Given → Call → List ℕ → List ℕ → ℕ → List ℕ → List ℕ → Type 0
 EntryCutMade g c b a n b' a' = PlaceRight (entryOn g a) (EntryCutsRight (g .steps)) b c record { refusal = n; block = b'; answers = a' }
+
+-- a number and one answer
+abbrev pub toldBy : ℕ → ℤ → Answer
+toldBy n first = record { refusal = n; first = first; second = pos 0; third = pos 0 }
 
 -- what the function that hands out an answer promises: its number is returned, its answers are put into the buffer when it is accepted
 abbrev pub AnswersPut : Answer → List ℕ → ℕ → List ℕ → Type 0

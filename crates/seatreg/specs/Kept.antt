@@ -1,4 +1,4 @@
--- Demand 1 for the entry points (document 01, 'Turned back by what was passed'; document 02, C-11 and C-13): refused, no lent byte changes; accepted, the block is well formed and the twelve bytes hold answers in range. Assumes nothing.
+-- Demand 1 for the entry points (document 01, 'Turned back by what was passed'; document 02, C-11, C-13 and C-14): refused, no lent byte changes; accepted, the block is well formed and the twelve bytes hold answers in range. Assumes nothing.
 use mathlib.Core.Path.{_≡_}
 use mathlib.Core.Logic.{_≢_}
 use mathlib.Core.Bool.{true}
@@ -12,6 +12,7 @@ use Rattle.block.specs.Bytes.{IsBytes}
 use Rattle.block.specs.WellFormed.{wellFormed}
 use Rattle.steptable.specs.declared.Given.{Given}
 use Rattle.transfer.specs.RoundTrip.{reading}
+use Rattle.order.specs.Pairs.{orderSize}
 use Rattle.demands.specs.Kept.{mostWritten}
 use Rattle.seatreg.specs.Answers.{answersSize, answerBytes, answerIn}
 use Rattle.seatreg.specs.Entry.{Returned, entryOf, entryOn, entryOpen}
@@ -38,12 +39,19 @@ EntryKeptOpen b a = BuffersKept AllUnused b a (entryOpen b a)
 abbrev pub EntryKeptRead : (text table b a : List ℕ) → Type 0
 EntryKeptRead text table b a = BuffersKept AllUnused b a (entryOf (reading text table b) b a)
 
--- a write changes no block: what holds of the number returned, the text buffer and the answers buffer, which held t and a, and hold t' and a'
-pub record EntryKeptWrite (t a : List ℕ) (n : ℕ) (t' a' : List ℕ) : Type 0 where
+-- a call that fills the front of a lent buffer, at most `most` bytes, changes no block: what holds of the number returned, the lent buffer and the answers buffer, which held t and a, and hold t' and a'
+pub record EntryKeptFilled (most : ℕ) (t a : List ℕ) (n : ℕ) (t' a' : List ℕ) : Type 0 where
   pub refused : n ≢ 0 → (t' ≡ t) × (a' ≡ a)
   pub size : n ≡ 0 → length a' ≡ answersSize
   pub answers : n ≡ 0 → a' ≡ answerBytes (answerIn a' 0) (answerIn a' 1) (answerIn a' 2)
-  pub range : n ≡ 0 → FromTo 1 mostWritten (answerIn a' 0) × Unused (answerIn a' 1) × Unused (answerIn a' 2)
-  -- as many bytes are written as the first answer says, no more than the text buffer has; those past them don't change
+  pub range : n ≡ 0 → FromTo 1 most (answerIn a' 0) × Unused (answerIn a' 1) × Unused (answerIn a' 2)
+  -- as many bytes are filled as the first answer says, no more than the buffer has; those past them don't change
   pub within : length t' ≡ length t
   pub rest : n ≡ 0 → (k : ℕ) → answerIn a' 0 ≡ pos k → (k ≤ length t) × (drop k t' ≡ drop k t)
+
+-- a write, and an order
+abbrev pub EntryKeptWrite : (t a : List ℕ) → ℕ → List ℕ → List ℕ → Type 0
+EntryKeptWrite t a n t' a' = EntryKeptFilled mostWritten t a n t' a'
+
+abbrev pub EntryKeptOrder : (t a : List ℕ) → ℕ → List ℕ → List ℕ → Type 0
+EntryKeptOrder t a n t' a' = EntryKeptFilled orderSize t a n t' a'

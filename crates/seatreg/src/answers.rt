@@ -1,10 +1,11 @@
 // Three signed answers in twelve lent bytes, four bytes each, low byte first.
 ghost use mathlib.Core.Path.{_≡_};
-ghost use Prim.Native.Nat.{_+_, _≤_};
+ghost use Prim.Native.Nat.{_+_, _≤_, _<_};
 ghost use lib.ListN.{length};
+ghost use lib.IntN.{pos};
 ghost use lib.Seq.{sets};
 ghost use Rattle.seatreg.specs.Answers.{answerSize, answersSize, bits, fourBytes, answerBytes};
-ghost use Rattle.seatreg.specs.Entry.{AnswersPut};
+ghost use Rattle.seatreg.specs.Entry.{toldBy, AnswersPut};
 use register::Answer;
 
 pub const ANSWERS_SIZE: usize = 12;
@@ -59,4 +60,19 @@ pub fn hand_out(o: Answer, answers: &mut [u8]) -> u32
         put_answers(answers, first, second, third);
     }
     refusal
+}
+
+// Of a call that fills the front of a lent buffer: how many bytes it filled.
+pub fn hand_out_length(refusal: u32, filled: usize, answers: &mut [u8]) -> u32
+    requires { ⌜ (length (now answers) ≡ answersSize) × (filled < 2147483648) ⌝ }
+    ensures { λ r. ⌜ AnswersPut (toldBy refusal (pos filled)) (now (answers .entry)) r (now (answers .exit)) ⌝ }
+{
+    let first = filled as i32;
+    let told = Answer {
+        refusal: refusal,
+        first: first,
+        second: 0,
+        third: 0,
+    };
+    hand_out(told, answers)
 }

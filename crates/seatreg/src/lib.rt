@@ -1,10 +1,10 @@
-// The C entry points of the register: the calls on plain numbers, a lent block and twelve lent bytes for the answers, both of any length and content; those that reckon reach also with the text of a step table; the register as a file, out and in.
+// The C entry points of the register: the calls on plain numbers, a lent block and twelve lent bytes for the answers, both of any length and content; those that reckon reach also with the text of a step table; the order for a receiver; the register as a file, out and in.
 mod answers;
 
 ghost use Rattle.rules.specs.Register.{granted};
 ghost use Rattle.rules.specs.Call.{enrol, grant, revoke, downgrade, askReach, askUse};
 ghost use Rattle.steptable.specs.TableText.{ours, given};
-ghost use Rattle.seatreg.specs.Entry.{EntryMade, EntryOpened, EntryCutMade, EntryReadMade, EntryWriteMade};
+ghost use Rattle.seatreg.specs.Entry.{EntryMade, EntryOpened, EntryCutMade, EntryReadMade, EntryWriteMade, EntryOrderMade};
 use rules::refusal;
 
 // Writes a fresh register: one subject, no delegation.
@@ -190,6 +190,24 @@ pub extern "C" fn seatreg_downgrade_table(
     answers::hand_out(o, answers)
 }
 
+// Writes from whom a right can come to a receiver, and how far, heaviest first, into a lent buffer, by the step table of a text; answers how many bytes.
+#[no_mangle]
+pub extern "C" fn seatreg_order(
+    block: &[u8],
+    receiver: u32,
+    table: &[u8],
+    out: &mut [u8],
+    answers: &mut [u8],
+) -> u32
+    ensures { λ r. ⌜ EntryOrderMade (given (now (table .entry))) (now (block .entry)) receiver (now (out .entry)) (now (answers .entry)) r (now (out .exit)) (now (answers .exit)) ⌝ }
+{
+    if answers.len() != answers::ANSWERS_SIZE {
+        return refusal::WRONG_LENGTH;
+    }
+    let o = order::write_order(block, receiver, table, out);
+    answers::hand_out_length(o.refusal, order::PAIR_SIZE * o.subjects, answers)
+}
+
 // Writes the register as text into a lent buffer; answers how many bytes.
 #[no_mangle]
 pub extern "C" fn seatreg_write(block: &[u8], text: &mut [u8], answers: &mut [u8]) -> u32
@@ -199,11 +217,7 @@ pub extern "C" fn seatreg_write(block: &[u8], text: &mut [u8], answers: &mut [u8
         return refusal::WRONG_LENGTH;
     }
     let o = transfer::write_file(block, text);
-    if o.refusal != 0 {
-        return o.refusal;
-    }
-    let length = o.length as i32;
-    answers::hand_out(register::answered(length, 0, 0), answers)
+    answers::hand_out_length(o.refusal, o.length, answers)
 }
 
 // Reads the register of a text into a block of any content, by the step table of a text, ours where it is empty.

@@ -6,7 +6,7 @@ use Rattle.steptable.specs.TableText.{given}
 use Rattle.steptable.specs.declared.Given.{Given}
 use Rattle.steptable.proofs.Right.{given-keeps}
 use Rattle.refusals.specs.Early.{orderRefusal}
-use Rattle.refusals.proofs.EarlyTests.{order-through}
+use Rattle.refusals.proofs.EarlyTests.{receives}
 use Rattle.order.proofs.OrderWays.{order-buffer, order-refused, order-made}
 use Rattle.order.proofs.write_order.Statement.{statement}
 use Rattle.order.proofs.write_order.Tie as tie
@@ -44,7 +44,7 @@ write-found-requires : tie.Need-write-found-requires
 write-found-requires c κs =
     let f = c .before .before .before .before .before in
     let a = begun f .args in
-    (order-through (given (a .table .now) .refusal) (a .block .now) (a .receiver) (sym (number f) ∙ c .before .before .before .before .if2 .left), rw (f .before .read-table .ensures) (given-keeps (a .table .now)), f .before .before .if1 .left)
+    (receives (given (a .table .now) .refusal) (a .block .now) (a .receiver) (sym (number f) ∙ c .before .before .before .before .if2 .left), rw (f .before .read-table .ensures) (given-keeps (a .table .now)), f .before .before .if1 .left)
 
 same-length : tie.Need-same-length
 same-length c = search needs
