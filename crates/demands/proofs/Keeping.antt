@@ -142,6 +142,14 @@ kept-filled most before n k after refused range front = record { refused = refus
     rest (inl e) = let (s, l, q) = front e in ap (drop k) q ∙ drop-at s (drop k before) k l
     rest (inr z) = ap (drop k) (refused z .1)
 
+-- no more than `most` bytes, refused or not
+pub filled-most : (most : ℕ) (before : List ℕ) (n k : ℕ) (after : List ℕ) → KeptFilled most before n k after → k ≤ most
+filled-most most before n k after kept = go (eqOr n 0)
+  where
+    go : (n ≡ 0) ⊎ (n ≢ 0) → k ≤ most
+    go (inl e) = kept .range e .1
+    go (inr z) = omega (arith, kept .refused z .0)
+
 pub kept-write : (b before : List ℕ) (o : Filled) (after : List ℕ) → IsBytes b → WriteMade b before o after → KeptWrite before o after
 kept-write b before o after bytes made = kept-filled mostWritten before (o .refusal) (o .length) after (made .refused) range (λ e. (fileText (decode b), sym (made .text e .0), made .text e .1))
   where

@@ -37,8 +37,12 @@ pub record OrderMade (k : Given) (b : List ℕ) (v : ℕ) (before : List ℕ) (o
   pub refused : o .refusal ≢ 0 → (o .subjects ≡ 0) × (after ≡ before)
   pub written : o .refusal ≡ 0 → OrderWritten (k .steps) (decode b) v before (o .subjects) after
 
+-- s are the bytes of the order for v
+abbrev pub IsOrderBytes : Given → List ℕ → ℕ → List ℕ → Type 0
+IsOrderBytes k b v s = (ws : List ℕ) × IsOrder (k .steps) (decode b) v ws × (s ≡ orderBytes (k .steps) (decode b) v ws)
+
 -- what it tells and hands back where it hands back the front: the refusal n; an empty part where refused, else the bytes of the order
 pub record OrderFront (k : Given) (b : List ℕ) (v : ℕ) (before : List ℕ) (n : ℕ) (part : List ℕ) : Type 0 where
   pub refusal : n ≡ orderRefusalOn k b v before
   pub refused : n ≢ 0 → part ≡ []
-  pub order : n ≡ 0 → (ws : List ℕ) × IsOrder (k .steps) (decode b) v ws × (part ≡ orderBytes (k .steps) (decode b) v ws)
+  pub order : n ≡ 0 → IsOrderBytes k b v part

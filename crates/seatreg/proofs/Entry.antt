@@ -10,7 +10,7 @@ use lib.Dec.{eqb}
 use lib.ListN.{length, drop}
 use lib.IntN.{ℤ, pos}
 use Rattle.rules.specs.Register.{Register}
-use Rattle.rules.specs.Order.{IsOrder, orderBytes}
+use Rattle.rules.specs.Order.{orderBytes}
 use Rattle.rules.proofs.Order.{order-length}
 use Rattle.rules.specs.Cut.{changed}
 use Rattle.rules.specs.Call.{Call}
@@ -26,7 +26,7 @@ use Rattle.transfer.specs.FileOn.{writeRefusal, WriteMade, ReadMade}
 use Rattle.transfer.specs.RoundTrip.{reading}
 use Rattle.transfer.specs.declared.Filled.{Filled}
 use Rattle.order.specs.Pairs.{pairSize}
-use Rattle.order.specs.OrderOn.{orderRefusalOn, OrderMade}
+use Rattle.order.specs.OrderOn.{orderRefusalOn, IsOrderBytes, OrderMade}
 use Rattle.order.specs.declared.Listed.{Listed}
 use Rattle.seatreg.specs.Answers.{answerBytes}
 use Rattle.seatreg.specs.Entry.{handedOut, wrongAnswers, entryOf, entryOn, entryOpen, EntryMade, EntryOpened, EntryReadMade, EntryFilled, EntryWriteMade, EntryOrderMade, EntryCutRight, EntryCutMade, toldBy, AnswersPut}
@@ -106,11 +106,11 @@ module _ (text table b a : List ℕ) where
 
 -- ── of a call that fills the front of a lent buffer ──
 module _ (m : ℕ) (Right : List ℕ → Type 0) (t a : List ℕ) where
-  pub filled-short : length a ≢ 12 → EntryFilled m Right t a 1 t a
+  filled-short : length a ≢ 12 → EntryFilled m Right t a 1 t a
   filled-short n = record { refusal = rw (ne-eqb (length a) 12 n); refused = λ _. (refl, refl); filled = λ z. absurd (omega arith) }
 
   -- k bytes were filled, and the library call returned r
-  pub filled-made : length a ≡ 12 → (r k : ℕ) (t' : List ℕ) → r ≡ m → (r ≢ 0 → t' ≡ t) → (r ≡ 0 → (s : List ℕ) × Right s × (length s ≡ k) × (t' ≡ s ++ drop k t))
+  filled-made : length a ≡ 12 → (r k : ℕ) (t' : List ℕ) → r ≡ m → (r ≢ 0 → t' ≡ t) → (r ≡ 0 → (s : List ℕ) × Right s × (length s ≡ k) × (t' ≡ s ++ drop k t))
       → (n : ℕ) (a' : List ℕ) → AnswersPut (toldBy r (pos k)) a n a' → EntryFilled m Right t a n t' a'
   filled-made l r k t' e refused front n a' h = record {
     refusal = h .0 ∙ e ∙ rw (eq-eqb (length a) 12 l);
@@ -120,14 +120,20 @@ module _ (m : ℕ) (Right : List ℕ → Type 0) (t a : List ℕ) where
         (s, right, q ∙ ap (λ (j : ℕ). s ++ drop j t) (sym size), accepted-bytes (toldBy r (pos k)) a n a' h z ∙ ap (λ (j : ℕ). answerBytes (pos j) (pos 0) (pos 0)) (sym size));
   }
 
+pub write-short : (b t a : List ℕ) → length a ≢ 12 → EntryWriteMade b t a 1 t a
+write-short b t a = filled-short (writeRefusal b t) (λ s. s ≡ fileText (decode b)) t a
+
 pub write-made : (b t a : List ℕ) → length a ≡ 12 → (o : Filled) (t' : List ℕ) → WriteMade b t o t' → (n : ℕ) (a' : List ℕ) → AnswersPut (toldBy (o .refusal) (pos (o .length))) a n a' → EntryWriteMade b t a n t' a'
 write-made b t a l o t' made =
     filled-made (writeRefusal b t) (λ s. s ≡ fileText (decode b)) t a l (o .refusal) (o .length) t' (made .refusal) (λ z. made .refused z .1) (λ z. (fileText (decode b), refl, sym (made .text z .0), made .text z .1))
 
+pub order-short : (g : Given) (b : List ℕ) (v : ℕ) (t a : List ℕ) → length a ≢ 12 → EntryOrderMade g b v t a 1 t a
+order-short g b v t a = filled-short (orderRefusalOn g b v t) (IsOrderBytes g b v) t a
+
 pub order-made : (g : Given) (b : List ℕ) (v : ℕ) (t a : List ℕ) → length a ≡ 12 → (o : Listed) (t' : List ℕ) → OrderMade g b v t o t' → (n : ℕ) (a' : List ℕ) → AnswersPut (toldBy (o .refusal) (pos (pairSize * o .subjects))) a n a'
     → EntryOrderMade g b v t a n t' a'
 order-made g b v t a l o t' made =
-    filled-made (orderRefusalOn g b v t) (λ s. (ws : List ℕ) × IsOrder (g .steps) (decode b) v ws × (s ≡ orderBytes (g .steps) (decode b) v ws)) t a l (o .refusal) (pairSize * o .subjects) t' (made .refusal) (λ z. made .refused z .1)
+    filled-made (orderRefusalOn g b v t) (IsOrderBytes g b v) t a l (o .refusal) (pairSize * o .subjects) t' (made .refusal) (λ z. made .refused z .1)
     (λ z.
     let w = made .written z in
     let n = ap (λ (k : ℕ). pairSize * k) (w .count) in

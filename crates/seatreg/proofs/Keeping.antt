@@ -13,7 +13,6 @@ use lib.IntN.{ℤ, pos, negsuc}
 use Rattle.rules.specs.Limit.{code, _≼_, fromNone}
 use Rattle.rules.specs.Table.{TableRule}
 use Rattle.rules.specs.Call.{Call, enrol, grant, revoke, downgrade, askReach, askUse, fresh}
-use Rattle.rules.specs.Order.{IsOrder, orderBytes}
 use Rattle.rules.specs.Ranges.{FromTo, Unused, CutInRange, InRange}
 use Rattle.rules.proofs.Table.{steps-rule}
 use Rattle.rules.proofs.Calls.{fresh-formed}
@@ -35,7 +34,7 @@ use Rattle.transfer.specs.FileOn.{writeRefusal}
 use Rattle.transfer.specs.RoundTrip.{reading}
 use Rattle.transfer.proofs.Writing.{write-through}
 use Rattle.order.specs.Pairs.{orderSize}
-use Rattle.order.specs.OrderOn.{orderRefusalOn}
+use Rattle.order.specs.OrderOn.{orderRefusalOn, IsOrderBytes}
 use Rattle.order.proofs.OrderWays.{order-through}
 use Rattle.demands.specs.History.{reads}
 use Rattle.demands.specs.Kept.{mostWritten}
@@ -243,9 +242,9 @@ entry-kept-write b t a n t' a' found made = kept-filled (writeRefusal b t) (λ s
 
 pub entry-kept-order : (g : Given) (b : List ℕ) (v : ℕ) (t a : List ℕ) (n : ℕ) (t' a' : List ℕ) → IsBytes b → EntryOrderMade g b v t a n t' a' → EntryKeptOrder t a n t' a'
 entry-kept-order g b v t a n t' a' found made =
-    kept-filled (orderRefusalOn g b v t) (λ s. (ws : List ℕ) × IsOrder (g .steps) (decode b) v ws × (s ≡ orderBytes (g .steps) (decode b) v ws)) t a n t' a' made orderSize (omega arith) sized
+    kept-filled (orderRefusalOn g b v t) (IsOrderBytes g b v) t a n t' a' made orderSize (omega arith) sized
   where
-    sized : n ≡ 0 → (s : List ℕ) → (ws : List ℕ) × IsOrder (g .steps) (decode b) v ws × (s ≡ orderBytes (g .steps) (decode b) v ws) → (1 ≤ length s) × (length s ≤ orderSize) × (length s ≤ length t)
+    sized : n ≡ 0 → (s : List ℕ) → IsOrderBytes g b v s → (1 ≤ length s) × (length s ≤ orderSize) × (length s ≤ length t)
     sized z s (ws, o, e) =
         let p = order-through g b v t (past-answers a (orderRefusalOn g b v t) n (made .refusal) z) in
         let few = order-few (g .steps) (decode b) v o .1 (held-formed b found (p .formed)) in

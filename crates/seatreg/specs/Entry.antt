@@ -9,7 +9,6 @@ use lib.Dec.{eqb}
 use lib.ListN.{length, drop}
 use lib.IntN.{ℤ, pos}
 use Rattle.rules.specs.Register.{Register}
-use Rattle.rules.specs.Order.{IsOrder, orderBytes}
 use Rattle.rules.specs.Cut.{Change, changed}
 use Rattle.rules.specs.Call.{Call, Makes}
 use Rattle.rules.specs.CallStep.{answered}
@@ -22,7 +21,7 @@ use Rattle.register.specs.CallOn.{Result, callOn, openOn}
 use Rattle.register.specs.declared.Answer.{Answer}
 use Rattle.transfer.specs.FileOn.{writeRefusal}
 use Rattle.transfer.specs.RoundTrip.{reading}
-use Rattle.order.specs.OrderOn.{orderRefusalOn}
+use Rattle.order.specs.OrderOn.{orderRefusalOn, IsOrderBytes}
 use Rattle.seatreg.specs.Answers.{answersSize, answerBytes}
 
 -- the refusal number, 0 when accepted; the block and the answers buffer afterwards
@@ -80,7 +79,7 @@ EntryWriteMade b t a n t' a' = EntryFilled (writeRefusal b t) (λ s. s ≡ fileT
 
 -- of an order for the receiver v by what is given with a step table's text: the bytes of the order
 abbrev pub EntryOrderMade : Given → (b : List ℕ) → ℕ → (t a : List ℕ) → ℕ → List ℕ → List ℕ → Type 0
-EntryOrderMade g b v t a n t' a' = EntryFilled (orderRefusalOn g b v t) (λ s. (ws : List ℕ) × IsOrder (g .steps) (decode b) v ws × (s ≡ orderBytes (g .steps) (decode b) v ws)) t a n t' a'
+EntryOrderMade g b v t a n t' a' = EntryFilled (orderRefusalOn g b v t) (IsOrderBytes g b v) t a n t' a'
 
 -- what an accepted cut leaves in both buffers: C is the register after its named change, and the bytes are those of three answers that are right for it
 pub record EntryCutRight (t : List ℤ) (C : Register) (r : Returned) : Type 0 where
