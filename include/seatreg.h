@@ -318,7 +318,7 @@ SEATREG_CALL uint32_t seatreg_downgrade_table(uint8_t *block, size_t block_len,
  *             printf("%d %d\n", out[i], out[i + 1]);
  *     The owner is first, with 255. Then comes always the heaviest unwritten one whose limit comes by
  *     one delegation from a subject already written, of equally heavy ones that of the lowest number.
- *     The bytes after the last pair stay as they were.
+ *     The bytes after the last limit stay as they were.
  *     A limit, 0 to 255, is how much the subject could pass on to this receiver now: what
  *     seatreg_reach_table, lent the same table, answers for that giver and this receiver, where the two
  *     differ. The receiver itself is among the subjects where a chain from the owner to it, all of whose

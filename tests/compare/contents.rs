@@ -39,8 +39,8 @@ impl Contents {
     }
 
     /// After an accepted order, its subjects, each with its limit.
-    pub fn pairs(&self) -> impl Iterator<Item = (u8, u8)> + '_ {
-        self.file[..self.answer()].chunks_exact(2).map(|pair| (pair[0], pair[1]))
+    pub fn items(&self) -> impl Iterator<Item = (u8, u8)> + '_ {
+        self.file[..self.answer()].chunks_exact(2).map(|item| (item[0], item[1]))
     }
 
     /// The first answer.

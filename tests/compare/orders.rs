@@ -13,7 +13,7 @@ use std::cmp::Reverse;
 
 type Left = (u32, Contents);
 /// A subject and its limit.
-type Pair = (u8, u8);
+type Item = (u8, u8);
 
 /// What differs where one side accepts and the other refuses.
 const ACCEPTED: &[Part] = &[Part::Number, Part::Answers, Part::File];
@@ -27,37 +27,37 @@ const TO_OWNER: u32 = 6;
 const NOT_ENROLLED: u32 = 9;
 
 pub const ORDERS: [Fault; 26] = [
-    wrong("two pairs exchanged", FILE, |lent, to| rewritten(lent, to, |_, pairs| {
-        let last = pairs.len() - 1;
-        pairs.swap(last, last.max(1) - 1);
+    wrong("two subjects exchanged", FILE, |lent, to| rewritten(lent, to, |_, items| {
+        let last = items.len() - 1;
+        items.swap(last, last.max(1) - 1);
     })),
-    wrong("sorted by limit, then number", FILE, |lent, to| rewritten(lent, to, |_, pairs| {
-        pairs.sort_by_key(|&(subject, limit)| (Reverse(limit), subject));
+    wrong("sorted by limit, then number", FILE, |lent, to| rewritten(lent, to, |_, items| {
+        items.sort_by_key(|&(subject, limit)| (Reverse(limit), subject));
     })),
-    wrong("sorted by number", FILE, |lent, to| rewritten(lent, to, |_, pairs| pairs.sort())),
-    wrong("ties by higher number", FILE, |lent, to| rewritten(lent, to, |order, pairs| {
-        *pairs = order.chosen(pairs, |(subject, limit)| (limit, subject));
+    wrong("sorted by number", FILE, |lent, to| rewritten(lent, to, |_, items| items.sort())),
+    wrong("ties by higher number", FILE, |lent, to| rewritten(lent, to, |order, items| {
+        *items = order.chosen(items, |(subject, limit)| (limit, subject));
     })),
-    wrong("lightest first", FILE, |lent, to| rewritten(lent, to, |order, pairs| {
-        *pairs = order.chosen(pairs, |(subject, limit)| (!limit, !subject));
+    wrong("lightest first", FILE, |lent, to| rewritten(lent, to, |order, items| {
+        *items = order.chosen(items, |(subject, limit)| (!limit, !subject));
     })),
-    wrong("breadth first", FILE, |lent, to| rewritten(lent, to, |order, pairs| *pairs = order.breadth_first(pairs))),
-    wrong("the receiver left out", WRITTEN, |lent, to| rewritten(lent, to, |_, pairs| {
-        pairs.retain(|&(subject, _)| subject as u32 != to);
+    wrong("breadth first", FILE, |lent, to| rewritten(lent, to, |order, items| *items = order.breadth_first(items))),
+    wrong("the receiver left out", WRITTEN, |lent, to| rewritten(lent, to, |_, items| {
+        items.retain(|&(subject, _)| subject as u32 != to);
     })),
-    wrong("the owner left out", WRITTEN, |lent, to| rewritten(lent, to, |_, pairs| { pairs.remove(0); })),
-    wrong("a subject of no reach written", WRITTEN, |lent, to| rewritten(lent, to, |order, pairs| {
+    wrong("the owner left out", WRITTEN, |lent, to| rewritten(lent, to, |_, items| { items.remove(0); })),
+    wrong("a subject of no reach written", WRITTEN, |lent, to| rewritten(lent, to, |order, items| {
         let mut others = 0..order.register.marks.len() as u8;
-        pairs.extend(others.find(|other| !pairs.iter().any(|pair| pair.0 == *other)).map(|other| (other, 0)));
+        items.extend(others.find(|other| !items.iter().any(|item| item.0 == *other)).map(|other| (other, 0)));
     })),
-    wrong("the weight of a link in place of the limit", FILE, |lent, to| rewritten(lent, to, |order, pairs| {
-        *pairs = pairs.iter().map(|&pair| order.with_weight(pairs, pair)).collect();
+    wrong("the weight of a link in place of the limit", FILE, |lent, to| rewritten(lent, to, |order, items| {
+        *items = items.iter().map(|&item| order.with_weight(items, item)).collect();
     })),
-    wrong("a limit one less", FILE, |lent, to| rewritten(lent, to, |_, pairs| {
-        pairs.last_mut().into_iter().for_each(|pair| pair.1 = pair.1.wrapping_sub(1));
+    wrong("a limit one less", FILE, |lent, to| rewritten(lent, to, |_, items| {
+        items.last_mut().into_iter().for_each(|item| item.1 = item.1.wrapping_sub(1));
     })),
-    wrong("subject and limit exchanged", FILE, |lent, to| rewritten(lent, to, |_, pairs| {
-        pairs.iter_mut().for_each(|pair| *pair = (pair.1, pair.0));
+    wrong("subject and limit exchanged", FILE, |lent, to| rewritten(lent, to, |_, items| {
+        items.iter_mut().for_each(|item| *item = (item.1, item.0));
     })),
     wrong("the rest of the order's buffer zeroed", FILE, |lent, to| accepted(lent, to, |left| {
         let length = left.answer();
@@ -132,12 +132,12 @@ fn accepted(lent: &Contents, receiver: u32, change: impl Fn(&mut Contents)) -> L
     (number, left)
 }
 
-/// The same, with other pairs written.
-fn rewritten(lent: &Contents, receiver: u32, change: impl Fn(&Order, &mut Vec<Pair>)) -> Left {
+/// The same, with other items written.
+fn rewritten(lent: &Contents, receiver: u32, change: impl Fn(&Order, &mut Vec<Item>)) -> Left {
     accepted(lent, receiver, |left| {
-        let mut pairs: Vec<Pair> = left.pairs().collect();
-        change(&Order::of(left, receiver), &mut pairs);
-        let bytes: Vec<u8> = pairs.iter().flat_map(|&(subject, limit)| [subject, limit]).collect();
+        let mut items: Vec<Item> = left.items().collect();
+        change(&Order::of(left, receiver), &mut items);
+        let bytes: Vec<u8> = items.iter().flat_map(|&(subject, limit)| [subject, limit]).collect();
         left.file.clone_from(&lent.file);
         left.file[..bytes.len()].copy_from_slice(&bytes);
         set_answer(left, bytes.len());
@@ -179,41 +179,41 @@ impl Order {
     }
 
     /// The delegation by which the one's limit gives the other's, if there is one.
-    fn link(&self, from: Pair, to: Pair) -> Option<&Delegation> {
+    fn link(&self, from: Item, to: Item) -> Option<&Delegation> {
         let d = self.register.standing(from.0 as u32, to.0 as u32)?;
         (meets(self.marks, d) && self.table.step(from.1 as i16, d.weight) == to.1 as i16).then_some(d)
     }
 
-    /// The pairs by another choice: of those that come from one already written, the one of the largest key.
-    fn chosen(&self, pairs: &[Pair], key: fn(Pair) -> Pair) -> Vec<Pair> {
-        let mut written = vec![pairs[0]];
-        let comes = |written: &[Pair], pair: Pair| written.iter().any(|&from| self.link(from, pair).is_some());
-        let next = |written: &[Pair]| {
-            let rest = pairs.iter().copied().filter(|pair| !written.contains(pair));
-            rest.filter(|&pair| comes(written, pair)).max_by_key(|&pair| key(pair))
+    /// The items by another choice: of those that come from one already written, the one of the largest key.
+    fn chosen(&self, items: &[Item], key: fn(Item) -> Item) -> Vec<Item> {
+        let mut written = vec![items[0]];
+        let comes = |written: &[Item], item: Item| written.iter().any(|&from| self.link(from, item).is_some());
+        let next = |written: &[Item]| {
+            let rest = items.iter().copied().filter(|item| !written.contains(item));
+            rest.filter(|&item| comes(written, item)).max_by_key(|&item| key(item))
         };
-        while let Some(pair) = next(&written) {
-            written.push(pair);
+        while let Some(item) = next(&written) {
+            written.push(item);
         }
         written
     }
 
-    /// The pairs by how many delegations they are from the owner.
-    fn breadth_first(&self, pairs: &[Pair]) -> Vec<Pair> {
-        let mut written = vec![pairs[0]];
+    /// The items by how many delegations they are from the owner.
+    fn breadth_first(&self, items: &[Item]) -> Vec<Item> {
+        let mut written = vec![items[0]];
         let mut at = 0;
         while at < written.len() {
-            let comes = |pair: &Pair| !written.contains(pair) && self.link(written[at], *pair).is_some();
-            let coming: Vec<Pair> = pairs.iter().copied().filter(comes).collect();
+            let comes = |item: &Item| !written.contains(item) && self.link(written[at], *item).is_some();
+            let coming: Vec<Item> = items.iter().copied().filter(comes).collect();
             written.extend(coming);
             at += 1;
         }
         written
     }
 
-    /// The pair with the weight of a delegation by which its limit comes.
-    fn with_weight(&self, pairs: &[Pair], pair: Pair) -> Pair {
-        let link = pairs.iter().find_map(|&from| self.link(from, pair));
-        (pair.0, link.map_or(pair.1, |d| d.weight))
+    /// The item with the weight of a delegation by which its limit comes.
+    fn with_weight(&self, items: &[Item], item: Item) -> Item {
+        let link = items.iter().find_map(|&from| self.link(from, item));
+        (item.0, link.map_or(item.1, |d| d.weight))
     }
 }

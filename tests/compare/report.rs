@@ -131,7 +131,7 @@ impl Orders {
         if case.due != 0 {
             return;
         }
-        let order: Vec<(u8, u8)> = case.left.pairs().collect();
+        let order: Vec<(u8, u8)> = case.left.items().collect();
         let has_receiver = order.iter().any(|&(subject, _)| subject as u32 == receiver);
         self.full += (word(&case.left.block, DELEGATIONS_AT) as usize == MOST_DELEGATIONS) as u64;
         self.all += (order.len() == MOST_SUBJECTS) as u64;

@@ -86,7 +86,7 @@ by_text='    write_chain_by(block, &g.steps, g.refusal, giver, receiver, buf)'
 by_ours='    write_chain(block, giver, receiver, buf)'
 text='    if text.len() == 0 {'
 file_end='    let end = written.length;'
-order_end='    let end = PAIR_SIZE * written.subjects;'
+order_end='    let end = ITEM_SIZE * written.subjects;'
 sized='    if !is_sized(calls.len(), blocks.len(), refusals.len(), answers.len()) {'
 first='        if blocks.len() > 0 {
             blocks[0] = 0;

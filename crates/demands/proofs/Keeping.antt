@@ -41,7 +41,7 @@ use Rattle.transfer.specs.declared.Filled.{Filled}
 use Rattle.transfer.proofs.Writing.{write-through}
 use Rattle.transfer.proofs.Reading.{read-turned}
 use Rattle.transfer.proofs.RoundTrip.{read-passed, read-formed, read-is-bytes}
-use Rattle.order.specs.Pairs.{pairSize, orderSize}
+use Rattle.order.specs.Items.{itemSize, orderSize}
 use Rattle.order.specs.OrderOn.{OrderMade}
 use Rattle.order.specs.declared.Listed.{Listed}
 use Rattle.order.proofs.OrderWays.{order-through}
@@ -162,9 +162,9 @@ kept-write b before o after bytes made = kept-filled mostWritten before (o .refu
         (omega arith, omega arith, omega (arith, w .room))
 
 pub kept-order : (g : Given) (b : List ℕ) (v : ℕ) (before : List ℕ) (o : Listed) (after : List ℕ) → IsBytes b → OrderMade g b v before o after → KeptOrder before o after
-kept-order g b v before o after bytes made = kept-filled orderSize before (o .refusal) (pairSize * o .subjects) after (λ n. (ap (λ (k : ℕ). pairSize * k) (made .refused n .0), made .refused n .1)) range front
+kept-order g b v before o after bytes made = kept-filled orderSize before (o .refusal) (itemSize * o .subjects) after (λ n. (ap (λ (k : ℕ). itemSize * k) (made .refused n .0), made .refused n .1)) range front
   where
-    range : o .refusal ≡ 0 → (1 ≤ pairSize * o .subjects) × (pairSize * o .subjects ≤ orderSize) × (pairSize * o .subjects ≤ length before)
+    range : o .refusal ≡ 0 → (1 ≤ itemSize * o .subjects) × (itemSize * o .subjects ≤ orderSize) × (itemSize * o .subjects ≤ length before)
     range e =
         let w = made .written e in
         let p = order-through g b v before (sym (made .refusal) ∙ e) in
@@ -172,8 +172,8 @@ kept-order g b v before o after bytes made = kept-filled orderSize before (o .re
         let few = order-few (g .steps) (decode b) v (w .order) .1 (held-formed b bytes (p .formed)) in
         (omega (arith, w .count), omega (arith, w .count), omega (arith, w .count, p .size))
 
-    front : o .refusal ≡ 0 → (s : List ℕ) × (length s ≡ pairSize * o .subjects) × (after ≡ s ++ drop (pairSize * o .subjects) before)
+    front : o .refusal ≡ 0 → (s : List ℕ) × (length s ≡ itemSize * o .subjects) × (after ≡ s ++ drop (itemSize * o .subjects) before)
     front e =
         let w = made .written e in
-        let n = ap (λ (k : ℕ). pairSize * k) (w .count) in
+        let n = ap (λ (k : ℕ). itemSize * k) (w .count) in
         (orderBytes (g .steps) (decode b) v (w .subjects), order-length (g .steps) (decode b) v (w .subjects) ∙ sym n, w .bytes ∙ ap (λ (k : ℕ). orderBytes (g .steps) (decode b) v (w .subjects) ++ drop k before) (sym n))

@@ -14,7 +14,7 @@ use Rattle.steptable.specs.declared.Given.{Given}
 use Rattle.register.specs.CallOn.{callOn, openOn}
 use Rattle.transfer.specs.RoundTrip.{reading}
 use Rattle.transfer.specs.declared.Filled.{Filled}
-use Rattle.order.specs.Pairs.{pairSize, orderSize}
+use Rattle.order.specs.Items.{itemSize, orderSize}
 use Rattle.order.specs.declared.Listed.{Listed}
 
 pub record Kept (g : Given) (b : List ℕ) (c : Call) : Type 0 where
@@ -54,4 +54,4 @@ KeptWrite before o after = KeptFilled mostWritten before (o .refusal) (o .length
 
 -- an order, two bytes a subject
 abbrev pub KeptOrder : List ℕ → Listed → List ℕ → Type 0
-KeptOrder before o after = KeptFilled orderSize before (o .refusal) (pairSize * o .subjects) after
+KeptOrder before o after = KeptFilled orderSize before (o .refusal) (itemSize * o .subjects) after

@@ -18,7 +18,7 @@ pub struct Fill {
 // The most subjects, and the bytes of each in an order.
 const MOST_SUBJECTS: usize = 64;
 
-const PAIR_SIZE: usize = 2;
+const ITEM_SIZE: usize = 2;
 
 // What was judged of the call, and how many bytes of the file are left.
 pub struct Written {
@@ -64,7 +64,7 @@ fn filled_by(fill: Fill, block: &[u8], table: &[u8], buf: &mut [u8]) -> Filled {
     }
     Filled {
         refusal: listed.refusal,
-        length: PAIR_SIZE * subjects,
+        length: ITEM_SIZE * subjects,
     }
 }
 

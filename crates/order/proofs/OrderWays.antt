@@ -27,42 +27,42 @@ use Rattle.steptable.specs.declared.Given.{Given}
 use Rattle.refusals.specs.Early.{orderRefusal}
 use Rattle.refusals.proofs.EarlyTests.{receives}
 use Rattle.search.specs.Found.{OrderFound}
-use Rattle.order.specs.Pairs.{pairSize, orderSize, pairBytes, PairsHeld}
+use Rattle.order.specs.Items.{itemSize, orderSize, itemBytes, ItemsHeld}
 use Rattle.order.specs.OrderOn.{orderRefusalOn, unlistedBy, OrderWritten, OrderMade, OrderFront}
 use Rattle.order.specs.declared.Listed.{Listed}
 
 -- ── the bytes of subjects and their limits ──
 module _ (l : List ℤ) where
-  pub pairs-length : (ws : List ℕ) → length (pairBytes l ws) ≡ pairSize * length ws
-  pairs-length [] = refl
-  pairs-length (w ∷ ws) = omega (arith, pairs-length ws)
+  pub items-length : (ws : List ℕ) → length (itemBytes l ws) ≡ itemSize * length ws
+  items-length [] = refl
+  items-length (w ∷ ws) = omega (arith, items-length ws)
 
-  pairs-snoc : (ws : List ℕ) (s : ℕ) → pairBytes l (ws ++ (s ∷ [])) ≡ pairBytes l ws ++ (s ∷ natAbs (getD l s none) ∷ [])
-  pairs-snoc [] s = refl
-  pairs-snoc (w ∷ ws) s = ap (λ (xs : List ℕ). w ∷ natAbs (getD l w none) ∷ xs) (pairs-snoc ws s)
+  items-snoc : (ws : List ℕ) (s : ℕ) → itemBytes l (ws ++ (s ∷ [])) ≡ itemBytes l ws ++ (s ∷ natAbs (getD l s none) ∷ [])
+  items-snoc [] s = refl
+  items-snoc (w ∷ ws) s = ap (λ (xs : List ℕ). w ∷ natAbs (getD l w none) ∷ xs) (items-snoc ws s)
 
   -- the first i of xs are written
   abbrev pub Written : List ℕ → List ℕ → ℕ → List ℕ → Type 0
-  Written xs before i buf = buf ≡ pairBytes l (take i xs) ++ drop (pairSize * i) before
+  Written xs before i buf = buf ≡ itemBytes l (take i xs) ++ drop (itemSize * i) before
 
-  module _ (xs : List ℕ) (n : ℕ) (before : List ℕ) (held : PairsHeld l xs n before) where
+  module _ (xs : List ℕ) (n : ℕ) (before : List ℕ) (held : ItemsHeld l xs n before) where
     pub written-length : (i : ℕ) (buf : List ℕ) → i ≤ n → Written xs before i buf → length buf ≡ length before
     written-length i buf b w =
         ap length w
-        ∙ length-append (pairBytes l (take i xs)) (drop (pairSize * i) before)
-        ∙ omega (arith, pairs-length (take i xs), length-take-le i xs (omega (arith, b, held .within)), length-drop (pairSize * i) before, held .room, b)
+        ∙ length-append (itemBytes l (take i xs)) (drop (itemSize * i) before)
+        ∙ omega (arith, items-length (take i xs), length-take-le i xs (omega (arith, b, held .within)), length-drop (itemSize * i) before, held .room, b)
 
-    pub written-more : (i : ℕ) (buf : List ℕ) (s z : ℕ) → i < n → s ≡ getD xs i 0 → z ≡ natAbs (getD l s none) → Written xs before i buf → Written xs before (i + 1) (set (set buf (pairSize * i) s) (pairSize * i + 1) z)
+    pub written-more : (i : ℕ) (buf : List ℕ) (s z : ℕ) → i < n → s ≡ getD xs i 0 → z ≡ natAbs (getD l s none) → Written xs before i buf → Written xs before (i + 1) (set (set buf (itemSize * i) s) (itemSize * i + 1) z)
     written-more i buf s z b es ez w =
-        let here : length (pairBytes l (take i xs)) ≡ pairSize * i = pairs-length (take i xs) ∙ omega (arith, length-take-le i xs (omega (arith, b, held .within))) in
-        let next : pairBytes l (take (suc i) xs) ≡ pairBytes l (take i xs) ++ (s ∷ z ∷ []) =
-        ap (pairBytes l) (take-suc xs i 0 (omega (arith, b, held .within))) ∙ pairs-snoc (take i xs) (getD xs i 0) ∙ (λ j. pairBytes l (take i xs) ++ (sym es j ∷ (ap (λ (x : ℕ). natAbs (getD l x none)) (sym es) ∙ sym ez) j ∷ [])) in
-        let two : suc (suc (pairSize * i)) ≡ pairSize * (i + 1) = omega arith in
+        let here : length (itemBytes l (take i xs)) ≡ itemSize * i = items-length (take i xs) ∙ omega (arith, length-take-le i xs (omega (arith, b, held .within))) in
+        let next : itemBytes l (take (suc i) xs) ≡ itemBytes l (take i xs) ++ (s ∷ z ∷ []) =
+        ap (itemBytes l) (take-suc xs i 0 (omega (arith, b, held .within))) ∙ items-snoc (take i xs) (getD xs i 0) ∙ (λ j. itemBytes l (take i xs) ++ (sym es j ∷ (ap (λ (x : ℕ). natAbs (getD l x none)) (sym es) ∙ sym ez) j ∷ [])) in
+        let two : suc (suc (itemSize * i)) ≡ itemSize * (i + 1) = omega arith in
         let one : suc i ≡ i + 1 = omega arith in
-        ap (λ (x : List ℕ). set (set x (pairSize * i) s) (pairSize * i + 1) z) w
-        ∙ two-stored (pairBytes l (take i xs)) before (pairSize * i) s z here (omega (arith, b, held .room))
+        ap (λ (x : List ℕ). set (set x (itemSize * i) s) (itemSize * i + 1) z) w
+        ∙ two-stored (itemBytes l (take i xs)) before (itemSize * i) s z here (omega (arith, b, held .room))
         ∙ (λ j. sym next j ++ drop (two j) before)
-        ∙ ap (λ (k : ℕ). pairBytes l (take k xs) ++ drop (pairSize * (i + 1)) before) one
+        ∙ ap (λ (k : ℕ). itemBytes l (take k xs) ++ drop (itemSize * (i + 1)) before) one
 
 -- ── what a search found, written ──
 module _ (t : List ℤ) (rule : TableRule t) (R : Register) (formed : WellFormed R) (v : ℕ) (l : List ℤ) (xs : List ℕ) (n : ℕ) (found : OrderFound t R v l xs n) (before : List ℕ) (size : length before ≡ orderSize) where
@@ -75,8 +75,8 @@ module _ (t : List ℤ) (rule : TableRule t) (R : Register) (formed : WellFormed
   few : n ≤ mostSubjects
   few = omega (arith, count, order-few t R v (found .order) .1 formed)
 
-  pub pairs-held : PairsHeld l xs n before
-  pairs-held = record {
+  pub items-held : ItemsHeld l xs n before
+  items-held = record {
     few = few;
     within = found .within;
     room = omega (arith, few, size);
@@ -85,16 +85,16 @@ module _ (t : List ℤ) (rule : TableRule t) (R : Register) (formed : WellFormed
   }
 
   -- the entries are the reaches
-  pairs-order : (ws : List ℕ) → ((s : ℕ) → s ∈ ws → s ∈ take n xs) → pairBytes l ws ≡ orderBytes t R v ws
-  pairs-order [] h = refl
-  pairs-order (w ∷ ws) h = λ j. w ∷ natAbs (limit-of w (h w (List·Memᴰ·head refl)) j) ∷ pairs-order ws (λ s m. h s (List·Memᴰ·tail m)) j
+  items-order : (ws : List ℕ) → ((s : ℕ) → s ∈ ws → s ∈ take n xs) → itemBytes l ws ≡ orderBytes t R v ws
+  items-order [] h = refl
+  items-order (w ∷ ws) h = λ j. w ∷ natAbs (limit-of w (h w (List·Memᴰ·head refl)) j) ∷ items-order ws (λ s m. h s (List·Memᴰ·tail m)) j
 
-  pub order-written : (after : List ℕ) → after ≡ pairBytes l (take n xs) ++ drop (pairSize * n) before → OrderWritten t R v before n after
+  pub order-written : (after : List ℕ) → after ≡ itemBytes l (take n xs) ++ drop (itemSize * n) before → OrderWritten t R v before n after
   order-written after e = record {
     subjects = take n xs;
     order = found .order;
     count = sym count;
-    bytes = e ∙ (λ j. pairs-order (take n xs) (λ s m. m) j ++ drop (pairSize * sym count j) before);
+    bytes = e ∙ (λ j. items-order (take n xs) (λ s m. m) j ++ drop (itemSize * sym count j) before);
   }
 
 -- ── the call ──
@@ -133,18 +133,18 @@ order-through k b v buf z = go (eqOr (length buf) orderSize)
 
 -- ── the front handed back ──
 module _ (k : Given) (b : List ℕ) (v : ℕ) (buf : List ℕ) (o : Listed) (after : List ℕ) (made : OrderMade k b v buf o after) where
-  pub front-fits : pairSize * o .subjects ≤ length after
+  pub front-fits : itemSize * o .subjects ≤ length after
   front-fits = go (eqOr (o .refusal) 0)
     where
-      go : (o .refusal ≡ 0) ⊎ (o .refusal ≢ 0) → pairSize * o .subjects ≤ length after
-      go (inl e) = let w = made .written e in omega (arith, w .count, ap length (w .bytes), length-append (orderBytes (k .steps) (decode b) v (w .subjects)) (drop (pairSize * length (w .subjects)) buf), order-length (k .steps) (decode b) v (w .subjects))
+      go : (o .refusal ≡ 0) ⊎ (o .refusal ≢ 0) → itemSize * o .subjects ≤ length after
+      go (inl e) = let w = made .written e in omega (arith, w .count, ap length (w .bytes), length-append (orderBytes (k .steps) (decode b) v (w .subjects)) (drop (itemSize * length (w .subjects)) buf), order-length (k .steps) (decode b) v (w .subjects))
       go (inr n) = omega (arith, made .refused n .0)
 
-  pub front-made : OrderFront k b v buf (o .refusal) (take (pairSize * o .subjects) after)
+  pub front-made : OrderFront k b v buf (o .refusal) (take (itemSize * o .subjects) after)
   front-made = record {
     refusal = made .refusal;
-    refused = λ n. ap (λ (i : ℕ). take (pairSize * i) after) (made .refused n .0);
+    refused = λ n. ap (λ (i : ℕ). take (itemSize * i) after) (made .refused n .0);
     order = λ z.
         let w = made .written z in
-        (w .subjects, w .order, (λ j. take (pairSize * w .count j) (w .bytes j)) ∙ take-at (orderBytes (k .steps) (decode b) v (w .subjects)) (drop (pairSize * length (w .subjects)) buf) (pairSize * length (w .subjects)) (order-length (k .steps) (decode b) v (w .subjects)));
+        (w .subjects, w .order, (λ j. take (itemSize * w .count j) (w .bytes j)) ∙ take-at (orderBytes (k .steps) (decode b) v (w .subjects)) (drop (itemSize * length (w .subjects)) buf) (itemSize * length (w .subjects)) (order-length (k .steps) (decode b) v (w .subjects)));
   }

@@ -12,7 +12,7 @@ use Rattle.rules.specs.Order.{IsOrder, orderBytes}
 use Rattle.block.specs.Block.{decode}
 use Rattle.steptable.specs.declared.Given.{Given}
 use Rattle.refusals.specs.Early.{orderRefusal}
-use Rattle.order.specs.Pairs.{pairSize, orderSize}
+use Rattle.order.specs.Items.{itemSize, orderSize}
 use Rattle.order.specs.declared.Listed.{Listed}
 
 -- 1 where the buffer is not 128 bytes; else the first that applies of 1 for the block, what was passed, 7 and 17 by the step table's text, 8, what the register holds
@@ -28,7 +28,7 @@ pub record OrderWritten (t : List ℤ) (R : Register) (v : ℕ) (before : List �
   pub subjects : List ℕ
   pub order : IsOrder t R v subjects
   pub count : n ≡ length subjects
-  pub bytes : after ≡ orderBytes t R v subjects ++ drop (pairSize * length subjects) before
+  pub bytes : after ≡ orderBytes t R v subjects ++ drop (itemSize * length subjects) before
 
 -- what the order call promises: of the register that the block holds, by the table given
 pub record OrderMade (k : Given) (b : List ℕ) (v : ℕ) (before : List ℕ) (o : Listed) (after : List ℕ) : Type 0 where

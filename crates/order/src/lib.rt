@@ -8,16 +8,16 @@ ghost use Rattle.rules.specs.Table.{TableRule};
 ghost use Rattle.block.specs.Block.{decode};
 ghost use Rattle.refusals.specs.Checked.{Receives};
 ghost use Rattle.steptable.specs.TableText.{given};
-ghost use Rattle.order.specs.Pairs.{pairSize, orderSize, pairBytes, PairsHeld};
+ghost use Rattle.order.specs.Items.{itemSize, orderSize, itemBytes, ItemsHeld};
 ghost use Rattle.order.specs.OrderOn.{unlistedBy, OrderWritten, OrderMade, OrderFront};
 use block::layout;
 use rules::refusal;
 
 // The bytes of a subject and its limit.
-pub const PAIR_SIZE: usize = 2;
+pub const ITEM_SIZE: usize = 2;
 
 // The length of the lent buffer: room for all subjects.
-pub const ORDER_SIZE: usize = PAIR_SIZE * layout::SUBJECTS;
+pub const ORDER_SIZE: usize = ITEM_SIZE * layout::SUBJECTS;
 
 // The refusal number of the order call, 0 when accepted, and how many subjects were written.
 pub struct Listed {
@@ -36,16 +36,16 @@ fn unlisted(number: u32) -> Listed
 }
 
 // The first `count` subjects of a list, each with its limit, two bytes a subject.
-fn write_pairs(limits: &[i16], order: &[u8], count: usize, buf: &mut [u8])
-    requires { ⌜ PairsHeld (now limits) (now order) count (now buf) ⌝ }
-    ensures { λ _. ⌜ now (buf .exit) ≡ pairBytes (now (limits .entry)) (take count (now (order .entry))) ++ drop (pairSize * count) (now (buf .entry)) ⌝ }
+fn write_items(limits: &[i16], order: &[u8], count: usize, buf: &mut [u8])
+    requires { ⌜ ItemsHeld (now limits) (now order) count (now buf) ⌝ }
+    ensures { λ _. ⌜ now (buf .exit) ≡ itemBytes (now (limits .entry)) (take count (now (order .entry))) ++ drop (itemSize * count) (now (buf .entry)) ⌝ }
 {
     let mut i: usize = 0;
     while i < count {
         let subject = order[i];
         let limit = limits[subject as usize];
-        buf[PAIR_SIZE * i] = subject;
-        buf[PAIR_SIZE * i + 1] = limit as u8;
+        buf[ITEM_SIZE * i] = subject;
+        buf[ITEM_SIZE * i + 1] = limit as u8;
         i += 1;
     }
 }
@@ -58,7 +58,7 @@ fn write_found(block: &[u8], table: &[i16], receiver: usize, buf: &mut [u8]) -> 
     let mut limits = [-1i16; layout::SUBJECTS];
     let mut order = [0u8; layout::SUBJECTS];
     let count = search::order_of(block, table, receiver, &mut limits, &mut order);
-    write_pairs(&limits, &order, count, buf);
+    write_items(&limits, &order, count, buf);
     count
 }
 
@@ -92,6 +92,6 @@ pub fn order<'a>(
     ensures { λ r. ⌜ OrderFront (given (now (table .entry))) (now (block .entry)) receiver (now (buf .entry)) (now (refusal .exit)) (now r) × (ptr r ≡ ptr (buf .entry)) ⌝ }
 {
     let written = write_order(block, receiver, table, buf);
-    let end = PAIR_SIZE * written.subjects;
+    let end = ITEM_SIZE * written.subjects;
     refusals::front(written.refusal, end, refusal, buf)
 }

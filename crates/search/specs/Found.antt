@@ -39,7 +39,7 @@ pub record OrderLent (l : List ℤ) (p q xs : List ℕ) : Type 0 where
   pub order : length xs ≡ mostSubjects
 
 -- room for the limits and for the subjects in their order
-pub record PairsLent (l : List ℤ) (xs : List ℕ) : Type 0 where
+pub record ItemsLent (l : List ℤ) (xs : List ℕ) : Type 0 where
   pub limits : length l ≡ mostSubjects
   pub order : length xs ≡ mostSubjects
 

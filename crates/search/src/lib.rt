@@ -151,8 +151,8 @@ fn append(order: &mut [u8], count: usize, subject: usize) -> usize
 }
 
 // The reach of every subject, for each subject that has one the place of the record by which it is reached, and these subjects in the
-// order in which they are settled; how many they are. They are settled from the largest limit down, of equal ones the lowest first; one
-// that was raised after it began to wait is settled at its new limit. The queue is lent empty and left empty.
+// order in which they are settled; how many they are. They are settled from the largest limit down, of those who wait at one limit the
+// lowest number first; one that was raised after it began to wait is settled at its new limit. The queue is lent empty and left empty.
 fn search(
     records: &[u8],
     starts: &[u16],

@@ -10,7 +10,7 @@ ghost use Rattle.block.specs.WellFormed.{wellFormed};
 ghost use Rattle.queue.specs.Queue.{Empty};
 ghost use Rattle.runs.specs.Lent.{SubjectLists};
 ghost use Rattle.runs.specs.Steps.{startCount, Starts};
-ghost use Rattle.search.specs.Found.{Searchable, Prepared, SearchLent, OrderLent, PairsLent, Searched, SearchMade, OrderFound};
+ghost use Rattle.search.specs.Found.{Searchable, Prepared, SearchLent, OrderLent, ItemsLent, Searched, SearchMade, OrderFound};
 use crate::search;
 use block::layout;
 
@@ -121,7 +121,7 @@ pub fn order_of(
     limits: &mut [i16],
     order: &mut [u8],
 ) -> usize
-    requires { ⌜ Searchable (now table) (now block) × (receiver < subjectsIn (now block)) × PairsLent (now limits) (now order) ⌝ }
+    requires { ⌜ Searchable (now table) (now block) × (receiver < subjectsIn (now block)) × ItemsLent (now limits) (now order) ⌝ }
     ensures { λ r. ⌜ OrderFound (now (table .entry)) (decode (now (block .entry))) receiver (now (limits .exit)) (now (order .exit)) r ⌝ }
 {
     let mut starts = [0u16; runs::STARTS];

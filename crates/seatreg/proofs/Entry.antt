@@ -25,7 +25,7 @@ use Rattle.register.specs.declared.Answer.{Answer}
 use Rattle.transfer.specs.FileOn.{writeRefusal, WriteMade, ReadMade}
 use Rattle.transfer.specs.RoundTrip.{reading}
 use Rattle.transfer.specs.declared.Filled.{Filled}
-use Rattle.order.specs.Pairs.{pairSize}
+use Rattle.order.specs.Items.{itemSize}
 use Rattle.order.specs.OrderOn.{orderRefusalOn, IsOrderBytes, OrderMade}
 use Rattle.order.specs.declared.Listed.{Listed}
 use Rattle.seatreg.specs.Answers.{answerBytes}
@@ -130,11 +130,11 @@ write-made b t a l o t' made =
 pub order-short : (g : Given) (b : List ℕ) (v : ℕ) (t a : List ℕ) → length a ≢ 12 → EntryOrderMade g b v t a 1 t a
 order-short g b v t a = filled-short (orderRefusalOn g b v t) (IsOrderBytes g b v) t a
 
-pub order-made : (g : Given) (b : List ℕ) (v : ℕ) (t a : List ℕ) → length a ≡ 12 → (o : Listed) (t' : List ℕ) → OrderMade g b v t o t' → (n : ℕ) (a' : List ℕ) → AnswersPut (toldBy (o .refusal) (pos (pairSize * o .subjects))) a n a'
+pub order-made : (g : Given) (b : List ℕ) (v : ℕ) (t a : List ℕ) → length a ≡ 12 → (o : Listed) (t' : List ℕ) → OrderMade g b v t o t' → (n : ℕ) (a' : List ℕ) → AnswersPut (toldBy (o .refusal) (pos (itemSize * o .subjects))) a n a'
     → EntryOrderMade g b v t a n t' a'
 order-made g b v t a l o t' made =
-    filled-made (orderRefusalOn g b v t) (IsOrderBytes g b v) t a l (o .refusal) (pairSize * o .subjects) t' (made .refusal) (λ z. made .refused z .1)
+    filled-made (orderRefusalOn g b v t) (IsOrderBytes g b v) t a l (o .refusal) (itemSize * o .subjects) t' (made .refusal) (λ z. made .refused z .1)
     (λ z.
     let w = made .written z in
-    let n = ap (λ (k : ℕ). pairSize * k) (w .count) in
+    let n = ap (λ (k : ℕ). itemSize * k) (w .count) in
     (orderBytes (g .steps) (decode b) v (w .subjects), (w .subjects, w .order, refl), order-length (g .steps) (decode b) v (w .subjects) ∙ sym n, w .bytes ∙ ap (λ (k : ℕ). orderBytes (g .steps) (decode b) v (w .subjects) ++ drop k t) (sym n)))

@@ -33,7 +33,7 @@ use Rattle.register.specs.CallOn.{Result, turned, callOn, openOn}
 use Rattle.transfer.specs.FileOn.{writeRefusal}
 use Rattle.transfer.specs.RoundTrip.{reading}
 use Rattle.transfer.proofs.Writing.{write-through}
-use Rattle.order.specs.Pairs.{orderSize}
+use Rattle.order.specs.Items.{orderSize}
 use Rattle.order.specs.OrderOn.{orderRefusalOn, IsOrderBytes}
 use Rattle.order.proofs.OrderWays.{order-through}
 use Rattle.demands.specs.History.{reads}

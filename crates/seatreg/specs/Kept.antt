@@ -12,7 +12,7 @@ use Rattle.block.specs.Bytes.{IsBytes}
 use Rattle.block.specs.WellFormed.{wellFormed}
 use Rattle.steptable.specs.declared.Given.{Given}
 use Rattle.transfer.specs.RoundTrip.{reading}
-use Rattle.order.specs.Pairs.{orderSize}
+use Rattle.order.specs.Items.{orderSize}
 use Rattle.demands.specs.Kept.{mostWritten}
 use Rattle.seatreg.specs.Answers.{answersSize, answerBytes, answerIn}
 use Rattle.seatreg.specs.Entry.{Returned, entryOf, entryOn, entryOpen}

@@ -205,7 +205,7 @@ pub extern "C" fn seatreg_order(
         return refusal::WRONG_LENGTH;
     }
     let o = order::write_order(block, receiver, table, out);
-    answers::hand_out_length(o.refusal, order::PAIR_SIZE * o.subjects, answers)
+    answers::hand_out_length(o.refusal, order::ITEM_SIZE * o.subjects, answers)
 }
 
 // Writes the register as text into a lent buffer; answers how many bytes.

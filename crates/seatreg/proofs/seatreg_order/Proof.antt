@@ -3,7 +3,7 @@ use borrow.Author.Needs.{needs}
 use Prim.Native.Nat.{_*_, _≤_}
 use native.Mathlib.Omega.{arith}
 use Rattle.steptable.specs.TableText.{given}
-use Rattle.order.specs.Pairs.{pairSize, orderSize}
+use Rattle.order.specs.Items.{itemSize, orderSize}
 use Rattle.block.proofs.Bytes.{fits-bytes}
 use Rattle.demands.proofs.Keeping.{kept-order, filled-most}
 use Rattle.seatreg.proofs.Entry.{order-short, order-made}
@@ -14,11 +14,11 @@ use Rattle.seatreg.proofs.seatreg_order.Tie as tie
 abbrev start : tie.After-write-order → tie.Start
 start c = c .before .before .before .before .before .before .before
 
-few : (c : tie.After-write-order) → pairSize * c .write-order .result .subjects ≤ orderSize
+few : (c : tie.After-write-order) → itemSize * c .write-order .result .subjects ≤ orderSize
 few c =
     let a = start c .args in
     let w = c .write-order in
-    filled-most orderSize (a .out .now) (w .result .refusal) (pairSize * w .result .subjects) _ (kept-order (given (a .table .now)) (a .block .now) (a .receiver) (a .out .now) (w .result) _ (fits-bytes (a .block .now) (c .before .before .before .before .before .before .shared-slice-known .given)) (w .ensures))
+    filled-most orderSize (a .out .now) (w .result .refusal) (itemSize * w .result .subjects) _ (kept-order (given (a .table .now)) (a .block .now) (a .receiver) (a .out .now) (w .result) _ (fits-bytes (a .block .now) (c .before .before .before .before .before .before .shared-slice-known .given)) (w .ensures))
 
 -- ── the needs ──
 returns : tie.Need-returns

@@ -1,4 +1,4 @@
--- `order::write_pairs` writes subjects and their limits. Assumes nothing.
+-- `order::write_items` writes subjects and their limits. Assumes nothing.
 use mathlib.Core.Path.{_≡_, refl, sym, ap, subst, _∙_}
 use mathlib.Core.List.{List}
 use Prim.Native.Nat.{ℕ, _-_, _≤_, _<_}
@@ -13,8 +13,8 @@ use Rattle.rules.specs.Limit.{none}
 use Rattle.rules.proofs.Signed.{kept, read-limit, live-natural}
 use Rattle.block.proofs.Bytes.{getD-mem}
 use Rattle.order.proofs.OrderWays.{Written, written-length, written-more}
-use Rattle.order.proofs.write_pairs.Statement.{statement}
-use Rattle.order.proofs.write_pairs.Tie as tie
+use Rattle.order.proofs.write_items.Statement.{statement}
+use Rattle.order.proofs.write_items.Tie as tie
 
 abbrev Inv-loop : tie.InvT-loop
 Inv-loop limits order count buf₀ i₀ buf i = (i ≤ count) × Written limits order buf₀ i buf
@@ -109,8 +109,8 @@ returns c =
     let e : v .i ≡ s .args .count = omega (arith, v .inv .0, c .loop-test .left) in
     subst (λ (i : ℕ). Written (s .args .limits .now) (s .args .order .now) (s .args .buf .now) i (v .buf)) e (v .inv .1)
 
-pub write-pairs-spec : {M : Type 1} → statement M
-write-pairs-spec =
+pub write-items-spec : {M : Type 1} → statement M
+write-items-spec =
     tie.close
     (tie.spec
     Inv-loop
