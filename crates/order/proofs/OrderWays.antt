@@ -1,28 +1,27 @@
 -- The ways of the order call: refused in its order; or the order for the receiver, two bytes a subject. Assumes nothing.
 use mathlib.Core.Path.{_≡_, refl, sym, ap, subst, _∙_}
 use mathlib.Core.Logic.{_≢_, _⊎_, inl, inr}
-use mathlib.Core.Bool.{true, cond}
+use mathlib.Core.Bool.{true}
 use mathlib.Core.List.{List, [], _∷_, _++_, List·Memᴰ·head, List·Memᴰ·tail}
 use Prim.Native.Nat.{ℕ, suc, _+_, _*_, _≤_, _<_}
 use native.Mathlib.Omega.{arith}
 use borrow.Author.Tests.{eq-eqb, ne-eqb}
-use lib.Dec.{eqb}
-use lib.ListN.{length, getD, set, take, drop, length-append, length-drop, length-take}
+use lib.ListN.{length, getD, set, take, drop, length-append, length-drop}
 use lib.Seq.{take-suc, take-at, length-take-le}
 use lib.IntN.{ℤ, pos, natAbs}
 use Rattle.rules.specs.List.{_∈_}
-use Rattle.rules.specs.Limit.{none, code, _≼_}
+use Rattle.rules.specs.Limit.{none, _≼_}
 use Rattle.rules.specs.Table.{TableRule}
 use Rattle.rules.specs.Register.{Register}
 use Rattle.rules.specs.Reach.{reach}
-use Rattle.rules.specs.Order.{IsOrder, orderBytes}
+use Rattle.rules.specs.Order.{orderBytes}
 use Rattle.rules.specs.WellFormed.{WellFormed}
 use Rattle.rules.proofs.Lists.{eqOr}
 use Rattle.rules.proofs.Order.{order-few, order-length, order-small, order-limits}
 use Rattle.block.specs.Layout.{mostSubjects}
 use Rattle.block.specs.Block.{subjectsIn, decode}
 use Rattle.block.specs.WellFormed.{wellFormed}
-use Rattle.block.proofs.Bytes.{two-stored, getD-mem}
+use Rattle.block.proofs.Bytes.{two-stored}
 use Rattle.steptable.specs.declared.Given.{Given}
 use Rattle.refusals.specs.Early.{orderRefusal}
 use Rattle.refusals.proofs.EarlyTests.{receives}

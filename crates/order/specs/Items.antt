@@ -1,5 +1,4 @@
 -- Subjects and their limits as bytes, two a subject, and what the function that writes them is lent. Assumes nothing.
-use mathlib.Core.Path.{_≡_}
 use mathlib.Core.List.{List, [], _∷_}
 use Prim.Native.Nat.{ℕ, _*_, _≤_, _<_}
 use lib.ListN.{length, getD, take}

@@ -1,20 +1,20 @@
 -- The subjects that a search has settled so far, listed in the order in which it does. Assumes nothing.
-use mathlib.Core.Path.{_≡_, refl, sym, ap, subst, _∙_}
-use mathlib.Core.Logic.{_≢_, _⊎_, inl, inr}
-use mathlib.Core.Bool.{Bool, not}
+use mathlib.Core.Path.{_≡_, sym, ap, subst, _∙_}
+use mathlib.Core.Logic.{_⊎_, inl, inr}
+use mathlib.Core.Bool.{not}
 use mathlib.Core.List.{List, [], _∷_, _++_}
 use Prim.Native.Nat.{ℕ, suc, _+_, _≤_, _<_}
 use native.Mathlib.Omega.{arith}
 use lib.Bits.{bitOr}
 use lib.Dec.{T, ltb, ltb→lt, nltb→le}
-use lib.ListN.{length, getD, set, take, length-set}
+use lib.ListN.{length, set, take, length-set}
 use lib.Seq.{take-suc-set}
-use lib.IntN.{ℤ, pos}
-use Rattle.rules.specs.Limit.{none, code, _≼_}
+use lib.IntN.{ℤ}
+use Rattle.rules.specs.Limit.{none, code}
 use Rattle.rules.proofs.Lists.{either, eq→eqb}
 use Rattle.rules.proofs.Order.{Ordered, ordered-start, ordered-next, ordered-end}
 use Rattle.block.specs.Layout.{mostSubjects}
-use Rattle.queue.specs.Queue.{bit, BitPut, Lowest}
+use Rattle.queue.specs.Queue.{BitPut, Lowest}
 use Rattle.queue.specs.declared.Sets.{Sets}
 use Rattle.queue.proofs.Buckets.{bit-zero, left-few}
 use Rattle.runs.specs.Lent.{recordCount, delegationsIn, Lent}

@@ -1,16 +1,13 @@
 -- `order::write_items` writes subjects and their limits. Assumes nothing.
-use mathlib.Core.Path.{_≡_, refl, sym, ap, subst, _∙_}
-use mathlib.Core.List.{List}
+use mathlib.Core.Path.{_≡_, refl, ap, subst}
 use Prim.Native.Nat.{ℕ, _-_, _≤_, _<_}
 use native.Mathlib.Omega.{arith}
-use lib.Dec.{T}
 use lib.ListN.{length, getD, take, length-set}
 use lib.Seq.{getD-take, length-take-le}
-use lib.IntN.{ℤ, pos, natAbs}
-use lib.Signed.{nonNeg}
+use lib.IntN.{natAbs}
 use Rattle.rules.specs.List.{_∈_}
 use Rattle.rules.specs.Limit.{none}
-use Rattle.rules.proofs.Signed.{kept, read-limit, live-natural}
+use Rattle.rules.proofs.Signed.{read-limit, live-natural}
 use Rattle.block.proofs.Bytes.{getD-mem}
 use Rattle.order.proofs.OrderWays.{Written, written-length, written-more}
 use Rattle.order.proofs.write_items.Statement.{statement}

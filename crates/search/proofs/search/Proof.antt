@@ -1,15 +1,13 @@
 -- `search::search` finds the reaches by settling the heaviest open subject, the lowest where several are, until none waits; one that was raised is settled at its new limit, and waits no more; and lists them as it settles them.
 -- Assumes nothing.
-use mathlib.Core.Path.{_≡_, sym, subst, _∙_}
+use mathlib.Core.Path.{sym, subst, _∙_}
 use mathlib.Core.Logic.{_≢_}
 use mathlib.Core.List.{List}
 use Prim.Native.Nat.{ℕ, _≤_, _<_}
 use native.Mathlib.Omega.{arith}
-use lib.IntN.{ℤ}
 use Rattle.queue.specs.Queue.{Lowest}
 use Rattle.queue.specs.declared.Sets.{Sets}
 use Rattle.runs.specs.Lent.{SubjectLists}
-use Rattle.search.specs.Turns.{setsOf}
 use Rattle.search.proofs.Whole.{measure}
 use Rattle.search.proofs.Midway.{Midway, midway-start, midway-limits, some-far, midway-on, midway-down, midway-turn, midway-ready, midway-settle, midway-less, midway-found, midway-empty}
 use Rattle.search.proofs.Listing.{Listing, listing-start, listing-room, listing-next, listing-end}
