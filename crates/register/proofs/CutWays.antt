@@ -9,12 +9,13 @@ use lib.IntN.{ℤ, pos}
 use Rattle.rules.specs.Table.{TableRule}
 use Rattle.rules.specs.Register.{Register}
 use Rattle.rules.specs.Round.{settle}
-use Rattle.rules.specs.Cut.{Cut, removal, lowering, named, changed}
+use Rattle.rules.specs.Cut.{Change, changed}
+use Rattle.rules.specs.Remainder.{LiftsNothing}
 use Rattle.rules.specs.WellFormed.{WellFormed}
-use Rattle.rules.specs.Call.{Call, revoke, downgrade}
-use Rattle.rules.specs.CallStep.{Outcome, cut, accepted, callStep}
+use Rattle.rules.specs.Call.{Call, Makes}
+use Rattle.rules.specs.CallStep.{Outcome, cut, callStep}
 use Rattle.rules.specs.History.{CutRight}
-use Rattle.rules.proofs.Calls.{removed-formed, lowered-formed, callStep-formed}
+use Rattle.rules.proofs.Calls.{changed-formed, accepted-change, callStep-formed}
 use Rattle.rules.proofs.History.{callStep-cut}
 use Rattle.rules.proofs.Bound.{rounds-most}
 use Rattle.rules.proofs.Ranges.{both-few}
@@ -32,10 +33,9 @@ use Rattle.register.specs.Made.{refusedBy, answeredBy, result, Made}
 use Rattle.register.specs.Cuts.{onRegister, CutsLeft, CutMade}
 use Rattle.register.specs.declared.Answer.{Answer}
 use Rattle.steptable.specs.declared.Given.{Given}
-use Rattle.refusals.specs.Checked.{InLimits}
 use Rattle.refusals.specs.Early.{refusalOn}
 use Rattle.refusals.proofs.EarlyTests.{Through, through}
-use Rattle.register.proofs.Made.{made-done, made-refused}
+use Rattle.register.proofs.Made.{accepted-passes, made-done, made-refused}
 use Rattle.register.proofs.Through.{accepted-through, accepted-step, accepted-left}
 
 -- what `settled` promises, as the outcome of a cut
@@ -54,20 +54,6 @@ written-cut : (t : List ℤ) (b d : List ℕ) (C : Register) → written b (cut 
 unfolding cut
 written-cut t b d C = refl
 
--- the call by y that makes the cut k
-abbrev cutCall : ℕ → Cut → Call
-cutCall y (removal g r) = revoke y g r
-cutCall y (lowering g r w) = downgrade y g r w
-
-accepted-cut : (t : List ℤ) (R : Register) (y : ℕ) (k : Cut) → accepted t R (cutCall y k) ≡ cut t (named R k)
-unfolding accepted
-accepted-cut t R y (removal g r) = refl
-accepted-cut t R y (lowering g r w) = refl
-
-named-formed : (R : Register) (y : ℕ) (k : Cut) → WellFormed R → InLimits (cutCall y k) → WellFormed (named R k)
-named-formed R y (removal g r) f p = removed-formed R g r f
-named-formed R y (lowering g r w) f p = lowered-formed R g r w (p .1) f
-
 -- an accepted call leaves, on every block, the register that the definitions leave
 pub register-left : (g : Given) (b : List ℕ) → IsBytes b → (c : Call) → callOn g b c .refusal ≡ 0 → onRegister (callOn g b c) ≡ callStep (g .steps) (decode b) c
 register-left g b bytes c e =
@@ -77,11 +63,12 @@ register-left g b bytes c e =
     let l = ap decode (sym (ap (λ (r : Result). r .bytes) (accepted-step g b c e .0)) ∙ accepted-left g b c e) ∙ decode-encode (o .left) f in
     q ∙ (λ i. record { refusal = o .refusal; first = o .first; second = o .second; third = o .third; left = l i })
 
--- so an accepted cut leaves the best remainder
+-- so an accepted cut leaves the best remainder, and lifts nothing
 pub cuts-left : (g : Given) → TableRule (g .steps) → (b : List ℕ) → IsBytes b → (c : Call) → CutsLeft (g .steps) b c (callOn g b c)
 cuts-left g rule b bytes c k i e =
     let q = register-left g b bytes c e in
-    subst (λ (o : Outcome). CutRight (g .steps) (changed (decode b) k) o) (sym q) (callStep-cut (g .steps) rule (decode b) c k i (sym (ap (λ (o : Outcome). o .refusal) q) ∙ e))
+    let f = held-formed b bytes (accepted-through g b c e .early .formed) in
+    subst (λ (o : Outcome). CutRight (g .steps) (changed (decode b) k) o × LiftsNothing (decode b) (o .left)) (sym q) (callStep-cut (g .steps) rule (decode b) f c k i (sym (ap (λ (o : Outcome). o .refusal) q) ∙ e))
 
 -- and every call that is made keeps what demand 3 claims
 pub cut-made : (g : Given) → TableRule (g .steps) → (c : Call) (b : List ℕ) → IsBytes b → (o : Answer) (after : List ℕ) → Made g c b o after → CutMade g c b o after
@@ -91,28 +78,29 @@ cut-made g rule c b bytes o after q = record { outcome = q; leaves = subst (λ (
 pub cut-refused : (g : Given) (c : Call) (b : List ℕ) (n : ℕ) → n ≡ refusalOn g b c → n ≢ 0 → CutMade g c b (refusedBy n) b
 cut-refused g c b n e h = record { outcome = made-refused g c b n e h; leaves = λ k i z. absurd (h z) }
 
--- ── a cut by y past its tests ──
-pub record CutThrough (g : Given) (b : List ℕ) (y : ℕ) (k : Cut) : Type 0 where
+-- ── a call that makes the change k, past its tests ──
+pub record CutThrough (g : Given) (b : List ℕ) (c : Call) (k : Change) : Type 0 where
   pub rule : TableRule (g .steps)
   pub bytes : IsBytes b
-  pub through : Through g b (cutCall y k)
+  pub makes : Makes c k
+  pub through : Through g b c
 
 -- n is the refusal that the code finds
-pub cut-past : {g : Given} {b : List ℕ} {y : ℕ} {k : Cut} {n : ℕ} → TableRule (g .steps) → IsBytes b → n ≡ refusalOn g b (cutCall y k) → n ≡ 0 → CutThrough g b y k
-cut-past {g} {b} {y} {k} rule bytes e z = record { rule = rule; bytes = bytes; through = through g b (cutCall y k) (sym e ∙ z) }
+pub cut-past : {g : Given} {b : List ℕ} {c : Call} {k : Change} {n : ℕ} → TableRule (g .steps) → IsBytes b → Makes c k → n ≡ refusalOn g b c → n ≡ 0 → CutThrough g b c k
+cut-past {g} {b} {c} rule bytes makes e z = record { rule = rule; bytes = bytes; makes = makes; through = through g b c (sym e ∙ z) }
 
--- d is the block after the named change
-module _ {g : Given} {b : List ℕ} {y : ℕ} {k : Cut} (h : CutThrough g b y k) {d : List ℕ} (e : d ≡ encode (named (decode b) k)) where
-  formed : WellFormed (named (decode b) k)
-  formed = named-formed (decode b) y k (held-formed b (h .bytes) (h .through .early .formed)) (h .through .numbers)
+-- d is the block after the change
+module _ {g : Given} {b : List ℕ} {c : Call} {k : Change} (h : CutThrough g b c k) {d : List ℕ} (e : d ≡ encode (changed (decode b) k)) where
+  formed : WellFormed (changed (decode b) k)
+  formed = changed-formed (g .steps) (decode b) c k (h .makes) (accepted-passes g c b (h .through .early) (h .through .held)) (held-formed b (h .bytes) (h .through .early .formed))
 
-  pub named-block : wellFormed d ≡ true
-  named-block = ap wellFormed e ∙ T-true (wellFormed (encode (named (decode b) k))) (encode-formed (named (decode b) k) formed)
+  pub changed-block : wellFormed d ≡ true
+  changed-block = ap wellFormed e ∙ T-true (wellFormed (encode (changed (decode b) k))) (encode-formed (changed (decode b) k) formed)
 
   -- the rounds are made on it
-  pub cut-done : (o : Answer) (after : List ℕ) → result o after ≡ written d (cut (g .steps) (decode d)) → CutMade g (cutCall y k) b o after
+  pub cut-done : (o : Answer) (after : List ℕ) → result o after ≡ written d (cut (g .steps) (decode d)) → CutMade g c b o after
   cut-done o after q =
-      let C = named (decode b) k in
-      cut-made g (h .rule) (cutCall y k) b (h .bytes) o after
-      (made-done g (cutCall y k) b (h .through .early) (h .through .held) o after
-      (q ∙ ap (λ (x : List ℕ). written x (cut (g .steps) (decode x))) e ∙ ap (λ (D : Register). written (encode C) (cut (g .steps) D)) (decode-encode C formed) ∙ written-cut (g .steps) (encode C) b C ∙ ap (written b) (sym (accepted-cut (g .steps) (decode b) y k))))
+      let C = changed (decode b) k in
+      cut-made g (h .rule) c b (h .bytes) o after
+      (made-done g c b (h .through .early) (h .through .held) o after
+      (q ∙ ap (λ (x : List ℕ). written x (cut (g .steps) (decode x))) e ∙ ap (λ (D : Register). written (encode C) (cut (g .steps) D)) (decode-encode C formed) ∙ written-cut (g .steps) (encode C) b C ∙ ap (written b) (sym (accepted-change (g .steps) (decode b) c k (h .makes)))))

@@ -23,6 +23,7 @@ use Rattle.rules.proofs.Lists.{either, eq→eqb, T-not-not, filter-leng
 use Rattle.rules.proofs.Table.{steps-rule}
 use Rattle.rules.proofs.Rounds.{settle-right}
 use Rattle.rules.proofs.WellFormed.{round-formed}
+use Rattle.rules.proofs.Pairs.{pair-found}
 use Rattle.rules.proofs.Calls.{removed-formed, lowered-formed}
 use Rattle.rules.proofs.Firm.{Firm, firm-most}
 
@@ -108,16 +109,6 @@ module _ (t : List ℤ) (rule : TableRule t) where
   rounds-most C f = (omega (arith, settle-few C f), omega (arith, settle-few C f, filter-length isUnlimited (C .delegations), f .few))
 
 -- ── the named change leaves at most 255 unlimited ──
-
--- what stands for a pair
-pair-found : (g r : ℕ) (ds : List Delegation) → zero < code (weightAt ds g r) → (d : Delegation) × (d ∈ ds) × T (isPair g r d) × (weightAt ds g r ≡ pos (d .weight))
-pair-found g r [] h = absurd (omega arith)
-pair-found g r (x ∷ xs) h = go (isPair g r x) refl (pair-found g r xs) h
-  where
-    go : (b : Bool) → isPair g r x ≡ b → (zero < code (weightAt xs g r) → (d : Delegation) × (d ∈ xs) × T (isPair g r d) × (weightAt xs g r ≡ pos (d .weight)))
-        → zero < code (cond b (pos (x .weight)) (weightAt xs g r)) → (d : Delegation) × (d ∈ (x ∷ xs)) × T (isPair g r d) × (cond b (pos (x .weight)) (weightAt xs g r) ≡ pos (d .weight))
-    go true e ih k = (x, List·Memᴰ·head refl, subst T (sym e) tt, refl)
-    go false e ih k = let (d, m, p, q) = ih k in (d, List·Memᴰ·tail m, p, q)
 
 -- one that is not unlimited makes them fewer
 not-all : (ds : List Delegation) (d : Delegation) → d ∈ ds → d .weight < 255 → unlimited ds < length ds

@@ -18,9 +18,9 @@ use Rattle.rules.specs.Support.{allowed, Carried, Supported}
 use Rattle.rules.specs.Pair.{isPair, stands, setFor, reweighed}
 use Rattle.rules.specs.Round.{settle}
 use Rattle.rules.specs.Granted.{GrantedIn}
-use Rattle.rules.specs.Cut.{removal, lowering, named}
+use Rattle.rules.specs.Cut.{Change, cutting, removal, lowering, named, changed}
 use Rattle.rules.specs.WellFormed.{DelegationFormed, WellFormed}
-use Rattle.rules.specs.Call.{Call, enrol, grant, revoke, downgrade, askReach, askUse, fresh, enrolled}
+use Rattle.rules.specs.Call.{Call, enrol, grant, revoke, downgrade, askReach, askUse, fresh, enrolled, Makes}
 use Rattle.rules.specs.Refusal.{pairStands, allStand, passed, held, refusalOf}
 use Rattle.rules.specs.CallStep.{Outcome, insert, afterGrant, cut, accepted, refused, callStep}
 use Rattle.rules.proofs.Lists.{filter-mem, filter-length, map-mem, eq→eqb, not-or-left, not-or-right, not-not, test-ne}
@@ -135,6 +135,26 @@ cut-formed : (t : List ℤ) (C : Register) → WellFormed C → WellFormed (cut 
 unfolding cut
 cut-formed t C f = settles-formed t (settle t C .changed) C (settle t C .left) (settle-right t C) f
 
+-- the register after the change that a call makes, where no test turns it back
+pub changed-formed : (t : List ℤ) (R : Register) (c : Call) (k : Change) → Makes c k → Passes (passed c ++ held t R c) → WellFormed R → WellFormed (changed R k)
+unfolding passed held
+changed-formed t R (enrol m) k i p f = absurd i
+changed-formed t R (grant d) k i p f = absurd i
+changed-formed t R (revoke y g r) k i p f = subst (λ (x : Change). WellFormed (changed R x)) (sym i) (removed-formed R g r f)
+changed-formed t R (downgrade y g r w) k i p f = subst (λ (x : Change). WellFormed (changed R x)) (sym i) (lowered-formed R g r w (nltb→le 255 w (p 3)) f)
+changed-formed t R (askReach g r) k i p f = absurd i
+changed-formed t R (askUse r) k i p f = absurd i
+
+-- rounds follow it
+pub accepted-change : (t : List ℤ) (R : Register) (c : Call) (k : Change) → Makes c k → accepted t R c ≡ cut t (changed R k)
+unfolding accepted
+accepted-change t R (enrol m) k i = absurd i
+accepted-change t R (grant d) k i = absurd i
+accepted-change t R (revoke y g r) k i = ap (λ (x : Change). cut t (changed R x)) (sym i)
+accepted-change t R (downgrade y g r w) k i = ap (λ (x : Change). cut t (changed R x)) (sym i)
+accepted-change t R (askReach g r) k i = absurd i
+accepted-change t R (askUse r) k i = absurd i
+
 pub accepted-formed : (t : List ℤ) (R : Register) (c : Call) → Passes (passed c ++ held t R c) → WellFormed R → WellFormed (accepted t R c .left)
 unfolding accepted passed held
 accepted-formed t R (enrol m) p f = enrol-formed R m (nltb→le 65535 m (p 4)) (nleb→lt 64 (R .subjects) (p 10)) f
@@ -155,8 +175,8 @@ accepted-formed t R (grant d) p f =
       disjoint = eqb→eq (bitAnd n b) 0 (not-not (eqb (bitAnd n b) 0) (not-or-right (ltb 65535 n || ltb 65535 b) (not (eqb (bitAnd n b) 0)) (p 4)));
     }
     (p 11) (p 12) f
-accepted-formed t R (revoke y g r) p f = cut-formed t (named R (removal g r)) (removed-formed R g r f)
-accepted-formed t R (downgrade y g r w) p f = cut-formed t (named R (lowering g r w)) (lowered-formed R g r w (nltb→le 255 w (p 3)) f)
+accepted-formed t R (revoke y g r) p f = cut-formed t (named R (removal g r)) (changed-formed t R (revoke y g r) (cutting (removal g r)) refl p f)
+accepted-formed t R (downgrade y g r w) p f = cut-formed t (named R (lowering g r w)) (changed-formed t R (downgrade y g r w) (cutting (lowering g r w)) refl p f)
 accepted-formed t R (askReach g r) p f = f
 accepted-formed t R (askUse r) p f = f
 

@@ -16,17 +16,7 @@ use Rattle.rules.specs.CallStep.{insert, afterGrant}
 use Rattle.rules.specs.Granted.{GrantedIn, Raises}
 use Rattle.rules.proofs.Lists.{T-left, T-right, T-both, yes, no, eq→eqb, not-not, any-mem, mem-any, mem-map, map-mem}
 use Rattle.rules.proofs.AtMost.{AtMost-refl}
-use Rattle.rules.proofs.WellFormed.{Before-irrefl}
-use Rattle.rules.proofs.Pairs.{IsPair, pair-test, test-pair, insert-mem, mem-insert}
-
--- a pair stands once in a rising list
-pub pair-one : {ds : List Delegation} → Rising ds → {d e : Delegation} → d ∈ ds → e ∈ ds → IsPair (d .giver) (d .receiver) e → d ≡ e
-pair-one r (List·Memᴰ·head p) (List·Memᴰ·head q) s = p ∙ sym q
-pair-one r {d} {e} (List·Memᴰ·head {x = x} p) (List·Memᴰ·tail m) s =
-    absurd (Before-irrefl x e (ap (λ (y : Delegation). y .giver) (sym p) ∙ sym (s .0)) (ap (λ (y : Delegation). y .receiver) (sym p) ∙ sym (s .1)) (r .0 e m))
-pair-one r {d} {e} (List·Memᴰ·tail m) (List·Memᴰ·head {x = x} q) s =
-    absurd (Before-irrefl x d (ap (λ (y : Delegation). y .giver) (sym q) ∙ s .0) (ap (λ (y : Delegation). y .receiver) (sym q) ∙ s .1) (r .0 d m))
-pair-one r (List·Memᴰ·tail m) (List·Memᴰ·tail n) s = pair-one (r .1) m n s
+use Rattle.rules.proofs.Pairs.{IsPair, pair-test, test-pair, pair-one, insert-mem, mem-insert}
 
 -- ── d raises e ──
 test-raises : (d e : Delegation) → T (isRaise d e) → Raises d e

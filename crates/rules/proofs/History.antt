@@ -1,7 +1,7 @@
 -- Demand 3 in its register form: at every place of every list of calls the outcome is that of the definitions followed down the list, and each accepted cut leaves the best
 -- remainder. Assumes nothing.
 use mathlib.Core.Path.{_≡_, refl, sym, subst}
-use mathlib.Core.List.{List, List·Memᴰ·not-nil}
+use mathlib.Core.List.{List, _++_, List·Memᴰ·not-nil}
 use Prim.Native.Nat.{ℕ}
 use lib.IntN.{ℤ}
 use Rattle.rules.specs.Table.{TableRule, steps}
@@ -9,13 +9,17 @@ use Rattle.rules.specs.Register.{Register}
 use Rattle.rules.specs.Support.{Supported}
 use Rattle.rules.specs.Round.{settle}
 use Rattle.rules.specs.Cut.{Change, cutting, removal, lowering, changed}
+use Rattle.rules.specs.Remainder.{LiftsNothing}
 use Rattle.rules.specs.WellFormed.{WellFormed}
 use Rattle.rules.specs.Call.{Call, enrol, grant, revoke, downgrade, askReach, askUse, fresh, Makes}
+use Rattle.rules.specs.Refusal.{passed, held}
 use Rattle.rules.specs.CallStep.{Outcome, cut, accepted, callStep}
 use Rattle.rules.specs.History.{leftBy, CutRight, CutsRight, Demand3}
 use Rattle.rules.proofs.Table.{steps-rule}
 use Rattle.rules.proofs.Rounds.{settle-right, settle-best}
-use Rattle.rules.proofs.Calls.{fresh-formed, callStep-cases, callStep-formed, callStep-supported}
+use Rattle.rules.proofs.Refusals.{Passes}
+use Rattle.rules.proofs.Calls.{fresh-formed, accepted-change, callStep-cases, callStep-formed, callStep-supported}
+use Rattle.rules.proofs.Lifting.{lifts-trans, changed-lifts}
 use Rattle.rules.proofs.Trace.{stays, places}
 
 -- each of the two cuts makes its change, so that what is claimed of a change is claimed of them
@@ -35,21 +39,17 @@ module _ (t : List ℤ) (rule : TableRule t) where
     rounds = (settle t C .changed, refl, settle-right t C);
   }
 
-  change-right : (R : Register) (k k′ : Change) → k ≡ k′ → CutRight t (changed R k) (cut t (changed R k′))
-  change-right R k k′ e = subst (λ (x : Change). CutRight t (changed R x) (cut t (changed R k′))) (sym e) (cut-right (changed R k′))
+  -- one call, on any well-formed register, supported or not: an accepted cut leaves the best remainder, and lifts nothing
+  pub callStep-cut : (R : Register) → WellFormed R → (c : Call) → CutsRight t R c (callStep t R c)
+  callStep-cut R f c k i = callStep-cases t R c (λ (o : Outcome). o .refusal ≡ 0 → CutRight t C o × LiftsNothing R (o .left)) (λ z p e. right p) (λ n e. absurd (n e))
+    where
+      C : Register
+      C = changed R k
 
-  accepted-cut : (R : Register) (c : Call) (k : Change) → Makes c k → CutRight t (changed R k) (accepted t R c)
-  unfolding accepted
-  accepted-cut R (enrol m) k e = absurd e
-  accepted-cut R (grant d) k e = absurd e
-  accepted-cut R (revoke y g r) k e = change-right R k (cutting (removal g r)) e
-  accepted-cut R (downgrade y g r w) k e = change-right R k (cutting (lowering g r w)) e
-  accepted-cut R (askReach g r) k e = absurd e
-  accepted-cut R (askUse r) k e = absurd e
-
-  -- one call, on any register, supported or not: an accepted cut leaves the best remainder
-  pub callStep-cut : (R : Register) (c : Call) → CutsRight t R c (callStep t R c)
-  callStep-cut R c k i = callStep-cases t R c (λ (o : Outcome). o .refusal ≡ 0 → CutRight t (changed R k) o) (λ z p e. accepted-cut R c k i) (λ n e. absurd (n e))
+      right : Passes (passed c ++ held t R c) → CutRight t C (accepted t R c) × LiftsNothing R (accepted t R c .left)
+      right p =
+          let lifts = lifts-trans R C (cut t C .left) (changed-lifts t R c k i p f) (cut-right C .best .remainder .within .held) in
+          subst (λ (o : Outcome). CutRight t C o × LiftsNothing R (o .left)) (sym (accepted-change t R c k i)) (cut-right C, lifts)
 
   -- every call leaves a well-formed and supported register so
   abbrev Sound : Register → Type 0
@@ -64,7 +64,7 @@ module _ (t : List ℤ) (rule : TableRule t) where
   -- THE WHOLE LIST
   pub demand3 : Demand3 t
   demand3 = record {
-    places = places (callStep t) leftBy Sound sound (CutsRight t) (λ R c s. callStep-cut R c) fresh fresh-sound;
+    places = places (callStep t) leftBy Sound sound (CutsRight t) (λ R c s. callStep-cut R (s .0) c) fresh fresh-sound;
     wellFormed = λ cs i. stays (callStep t) leftBy Sound sound fresh cs i fresh-sound .0;
     supported = λ cs i. stays (callStep t) leftBy Sound sound fresh cs i fresh-sound .1;
   }

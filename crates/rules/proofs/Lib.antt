@@ -14,6 +14,7 @@ pub mod Pairs
 pub mod OwnPair
 pub mod Granting
 pub mod Calls
+pub mod Lifting
 pub mod Firm
 pub mod Bound
 pub mod Ranges

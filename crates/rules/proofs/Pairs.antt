@@ -1,5 +1,5 @@
 -- Laws of pairs in a list of delegations: the weight that stands, a delegation added at its place, removed or set. Assumes nothing.
-use mathlib.Core.Path.{_≡_, refl, sym, ap, subst}
+use mathlib.Core.Path.{_≡_, refl, sym, ap, subst, _∙_}
 use mathlib.Core.Logic.{_≢_, _⊎_, inl, inr}
 use mathlib.Core.Bool.{Bool, true, false, not, cond, _&&_, _||_}
 use mathlib.Core.List.{List, [], _∷_, map, List·Memᴰ·head, List·Memᴰ·tail, List·Memᴰ·not-nil}
@@ -15,7 +15,7 @@ use Rattle.rules.specs.Pair.{isPair, weightAt, stands}
 use Rattle.rules.specs.WellFormed.{Before, Rising}
 use Rattle.rules.specs.CallStep.{before, insert}
 use Rattle.rules.proofs.Lists.{T-true, yes, T-left, T-right, T-both, T-or-left, T-or-right, either, eq→eqb, filter-mem, map-mem, not-or-left, not-or-right, test-ne}
-use Rattle.rules.proofs.WellFormed.{Before-trans, Before-pairs}
+use Rattle.rules.proofs.WellFormed.{Before-trans, Before-pairs, Before-irrefl}
 
 -- ── what a pair's weight says ──
 abbrev pub IsPair : ℕ → ℕ → Delegation → Type 0
@@ -44,6 +44,31 @@ pair-stands R g r d m p = T-true (stands R g r) (lt→ltb zero (code (weightAt (
 
 pub none-stands : (R : Register) (g r : ℕ) → T (not (stands R g r)) → (d : Delegation) → d ∈ R .delegations → IsPair g r d → ⊥
 none-stands R g r h d m p = T-not (stands R g r) h (yes (pair-stands R g r d m p))
+
+-- what stands for a pair
+pub pair-found : (g r : ℕ) (ds : List Delegation) → zero < code (weightAt ds g r) → (d : Delegation) × (d ∈ ds) × T (isPair g r d) × (weightAt ds g r ≡ pos (d .weight))
+pair-found g r [] h = absurd (omega arith)
+pair-found g r (x ∷ xs) h = go (isPair g r x) refl (pair-found g r xs) h
+  where
+    go : (b : Bool) → isPair g r x ≡ b → (zero < code (weightAt xs g r) → (d : Delegation) × (d ∈ xs) × T (isPair g r d) × (weightAt xs g r ≡ pos (d .weight)))
+        → zero < code (cond b (pos (x .weight)) (weightAt xs g r)) → (d : Delegation) × (d ∈ (x ∷ xs)) × T (isPair g r d) × (cond b (pos (x .weight)) (weightAt xs g r) ≡ pos (d .weight))
+    go true e ih k = (x, List·Memᴰ·head refl, subst T (sym e) tt, refl)
+    go false e ih k = let (d, m, p, q) = ih k in (d, List·Memᴰ·tail m, p, q)
+
+-- a pair stands once in a rising list
+pub pair-one : {ds : List Delegation} → Rising ds → {d e : Delegation} → d ∈ ds → e ∈ ds → IsPair (d .giver) (d .receiver) e → d ≡ e
+pair-one r (List·Memᴰ·head p) (List·Memᴰ·head q) s = p ∙ sym q
+pair-one r {d} {e} (List·Memᴰ·head {x = x} p) (List·Memᴰ·tail m) s =
+    absurd (Before-irrefl x e (ap (λ (y : Delegation). y .giver) (sym p) ∙ sym (s .0)) (ap (λ (y : Delegation). y .receiver) (sym p) ∙ sym (s .1)) (r .0 e m))
+pair-one r {d} {e} (List·Memᴰ·tail m) (List·Memᴰ·head {x = x} q) s =
+    absurd (Before-irrefl x d (ap (λ (y : Delegation). y .giver) (sym q) ∙ s .0) (ap (λ (y : Delegation). y .receiver) (sym q) ∙ s .1) (r .0 d m))
+pair-one r (List·Memᴰ·tail m) (List·Memᴰ·tail n) s = pair-one (r .1) m n s
+
+-- so the weight that stands for its pair is that of the delegation
+pub weight-one : {ds : List Delegation} → Rising ds → {d : Delegation} → d ∈ ds → weightAt ds (d .giver) (d .receiver) ≡ pos (d .weight)
+weight-one {ds} rising {d} m =
+    let (e, n, p, q) = pair-found (d .giver) (d .receiver) ds (weight-stands (d .giver) (d .receiver) m (refl, refl)) in
+    q ∙ ap (λ (x : Delegation). pos (x .weight)) (sym (pair-one rising m n (test-pair (d .giver) (d .receiver) e p)))
 
 -- ── a delegation is added ──
 pub before-Before : (d e : Delegation) → T (before d e) → Before d e

@@ -7,7 +7,7 @@ use Rattle.rules.specs.Register.{Register}
 use Rattle.rules.specs.Support.{Supported}
 use Rattle.rules.specs.Round.{SettlesIn}
 use Rattle.rules.specs.Cut.{Change, changed, dropped, lowered}
-use Rattle.rules.specs.Remainder.{Best}
+use Rattle.rules.specs.Remainder.{LiftsNothing, Best}
 use Rattle.rules.specs.WellFormed.{WellFormed}
 use Rattle.rules.specs.Call.{Call, fresh, Makes}
 use Rattle.rules.specs.CallStep.{Outcome, callStep}
@@ -35,9 +35,9 @@ pub record CutRight (t : List ℤ) (C : Register) (o : Outcome) : Type 0 where
   pub lowered : o .second ≡ pos (lowered C (o .left))
   pub rounds : (n : ℕ) × (o .third ≡ pos (suc n)) × SettlesIn t n C (o .left)
 
--- of a call on the register S: where it makes a change and is accepted, its outcome is right for that change
+-- of a call on the register S: where it makes a change and is accepted, its outcome is right for that change, and nothing of S is lifted
 abbrev pub CutsRight : List ℤ → Register → Call → Outcome → Type 0
-CutsRight t S c o = (k : Change) → Makes c k → o .refusal ≡ 0 → CutRight t (changed S k) o
+CutsRight t S c o = (k : Change) → Makes c k → o .refusal ≡ 0 → CutRight t (changed S k) o × LiftsNothing S (o .left)
 
 -- demand 3: at every place of every history; and every register that the definitions lead to is well formed and supported
 pub record Demand3 (t : List ℤ) : Type 0 where

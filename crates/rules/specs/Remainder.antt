@@ -12,11 +12,15 @@ pub record AtMost (d e : Delegation) : Type 0 where
   pub same : d ≡ reweigh e (d .weight)
   pub weight : d .weight ≤ e .weight
 
+-- G holds each delegation of F, at least as heavy: from G to F nothing is added, no condition changes and nothing is lifted
+abbrev pub LiftsNothing : Register → Register → Type 0
+LiftsNothing G F = (d : Delegation) → d ∈ F .delegations → (e : Delegation) × (e ∈ G .delegations) × AtMost d e
+
 -- the same subjects and marks, and G holds each delegation of F at least as heavy
 pub record Within (F G : Register) : Type 0 where
   pub subjects : F .subjects ≡ G .subjects
   pub marks : F .marks ≡ G .marks
-  pub held : (d : Delegation) → d ∈ F .delegations → (e : Delegation) × (e ∈ G .delegations) × AtMost d e
+  pub held : LiftsNothing G F
 
 -- F is a remainder of C: within C, and each delegation supported within F itself. F is any list of delegations, well formed or not
 pub record Remainder (t : List ℤ) (C F : Register) : Type 0 where

@@ -84,7 +84,7 @@ module _ (b a : List ℕ) where
     pub cut-made : length a ≡ 12 → (o : Answer) (b' : List ℕ) → CutMade g c b o b' → (n : ℕ) (a' : List ℕ) → AnswersPut o a n a' → EntryCutMade g c b a n b' a'
     cut-made l o b' m n a' h = record {
       outcome = made l o b' (m .outcome) n a' h;
-      leaves = λ k i z. let y = sym (h .0) ∙ z in cut-left (g .steps) (changed (decode b) k) o n b' a' y (m .leaves k i y) (accepted-bytes o a n a' h z);
+      leaves = λ k i z. let y = sym (h .0) ∙ z in let (right, lifts) = m .leaves k i y in (cut-left (g .steps) (changed (decode b) k) o n b' a' y right (accepted-bytes o a n a' h z), lifts);
     }
 
   pub open-short : length a ≢ 12 → EntryOpened b a 1 b a

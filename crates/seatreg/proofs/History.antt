@@ -38,7 +38,9 @@ entry-cuts t b a c r cut = go (eqb (length a) answersSize)
     o = record { refusal = r .refusal; first = r .first; second = r .second; third = r .third }
 
     go : (x : Bool) → EntryCutsRight t b c (cond x (handedOut r a) (wrongAnswers b a))
-    go true = λ k i z. cut-left t (changed (decode b) k) o (r .refusal) (r .bytes) (handedOut r a .answers) z (cut k i z) (ap (λ (x : Bool). cond x (answerBytes (r .first) (r .second) (r .third)) a) (eq-eqb (r .refusal) 0 z))
+    go true = λ k i z.
+        let (right, lifts) = cut k i z in
+        (cut-left t (changed (decode b) k) o (r .refusal) (r .bytes) (handedOut r a .answers) z right (ap (λ (x : Bool). cond x (answerBytes (r .first) (r .second) (r .third)) a) (eq-eqb (r .refusal) 0 z)), lifts)
     go false = λ k i z. absurd (omega arith)
 
 buffers-right : (b a : List ℕ) → IsBytes b → (q : Asked) → BuffersRight b q (entryOf (askedOn b q) b a)

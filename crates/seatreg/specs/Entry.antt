@@ -11,6 +11,7 @@ use lib.IntN.{ℤ, pos}
 use Rattle.rules.specs.Register.{Register}
 use Rattle.rules.specs.Cut.{Change, changed}
 use Rattle.rules.specs.Call.{Call, Makes}
+use Rattle.rules.specs.Remainder.{LiftsNothing}
 use Rattle.rules.specs.CallStep.{answered}
 use Rattle.rules.specs.Trace.{PlaceRight}
 use Rattle.rules.specs.History.{CutRight}
@@ -89,9 +90,9 @@ pub record EntryCutRight (t : List ℤ) (C : Register) (r : Returned) : Type 0 w
   pub bytes : r .answers ≡ answerBytes first second third
   pub right : CutRight t C (answered first second third (decode (r .block)))
 
--- of a call on the block b: where it makes a change and is accepted, both buffers are right for that change of the register that b holds
+-- of a call on the block b: where it makes a change and is accepted, both buffers are right for that change of the register that b holds, and nothing of that register is lifted
 abbrev pub EntryCutsRight : List ℤ → List ℕ → Call → Returned → Type 0
-EntryCutsRight t b c r = (k : Change) → Makes c k → r .refusal ≡ 0 → EntryCutRight t (changed (decode b) k) r
+EntryCutsRight t b c r = (k : Change) → Makes c k → r .refusal ≡ 0 → EntryCutRight t (changed (decode b) k) r × LiftsNothing (decode b) (decode (r .block))
 
 -- `EntryMade`, and that: what demand 3 claims of a place, at the block that the call was handed
 abbrev pub EntryCutMade : Given → Call → List ℕ → List ℕ → ℕ → List ℕ → List ℕ → Type 0

@@ -1,30 +1,31 @@
 -- `register::downgrade_by` makes a cut. Assumes nothing.
 use borrow.Author.Needs.{needs}
+use mathlib.Core.Path.{refl}
 use native.Mathlib.Omega.{arith}
 use Rattle.rules.specs.Call.{Call, downgrade}
-use Rattle.rules.specs.Cut.{Cut, lowering, named}
+use Rattle.rules.specs.Cut.{Change, cutting, lowering, named}
 use Rattle.block.specs.Block.{decode}
 use Rattle.block.proofs.Bytes.{fits-bytes}
 use Rattle.steptable.specs.TableText.{lent}
 use Rattle.refusals.proofs.CutHolding.{downgrade-stands}
-use Rattle.register.proofs.CutWays.{cut-refused, CutThrough, cut-past, named-block, cut-done}
+use Rattle.register.proofs.CutWays.{cut-refused, CutThrough, cut-past, changed-block, cut-done}
 use Rattle.register.proofs.cutting.downgrade_by.Statement.{statement}
 use Rattle.register.proofs.cutting.downgrade_by.Tie as tie
 
 abbrev call : tie.Start → Call
 call s = downgrade (s .args .by) (s .args .giver) (s .args .receiver) (s .args .weight)
 
-abbrev change : tie.Start → Cut
-change s = lowering (s .args .giver) (s .args .receiver) (s .args .weight)
+abbrev change : tie.Start → Change
+change s = cutting (lowering (s .args .giver) (s .args .receiver) (s .args .weight))
 
 -- ── past the tests ──
 abbrev start : tie.Else1 → tie.Start
 start c = c .before .before .before .before
 
-past : (c : tie.Else1) → let a = start c .args in CutThrough (lent (a .fault) (a .table .now)) (a .block .now) (a .by) (change (start c))
+past : (c : tie.Else1) → let a = start c .args in CutThrough (lent (a .fault) (a .table .now)) (a .block .now) (call (start c)) (change (start c))
 past c =
     let s = start c in
-    cut-past (s .pre) (fits-bytes (s .args .block .now) (c .before .before .before .slice-known .given)) (c .before .downgrade-refusal .ensures (s .args .table .now)) (c .if1 .left)
+    cut-past (s .pre) (fits-bytes (s .args .block .now) (c .before .before .before .slice-known .given)) refl (c .before .downgrade-refusal .ensures (s .args .table .now)) (c .if1 .left)
 
 -- ── the needs ──
 downgrade-refusal-requires : tie.Need-downgrade-refusal-requires
@@ -63,7 +64,7 @@ unfolding named
 settle-requires c κs =
     let d = c .before .before .before in
     let e = d .before .before in
-    (named-block (past e) (d .set-weight .ensures), start e .pre)
+    (changed-block (past e) (d .set-weight .ensures), start e .pre)
 
 same-length-2 : tie.Need-same-length-2
 same-length-2 c = search needs

@@ -1,30 +1,31 @@
 -- `register::revoke_by` makes a cut. Assumes nothing.
 use borrow.Author.Needs.{needs}
+use mathlib.Core.Path.{refl}
 use native.Mathlib.Omega.{arith}
 use Rattle.rules.specs.Call.{Call, revoke}
-use Rattle.rules.specs.Cut.{Cut, removal}
+use Rattle.rules.specs.Cut.{Change, cutting, removal}
 use Rattle.block.specs.Block.{decode}
 use Rattle.block.proofs.Bytes.{fits-bytes}
 use Rattle.steptable.specs.TableText.{lent}
 use Rattle.refusals.proofs.CutHolding.{revoke-stands}
-use Rattle.register.proofs.CutWays.{cut-refused, CutThrough, cut-past, named-block, cut-done}
+use Rattle.register.proofs.CutWays.{cut-refused, CutThrough, cut-past, changed-block, cut-done}
 use Rattle.register.proofs.cutting.revoke_by.Statement.{statement}
 use Rattle.register.proofs.cutting.revoke_by.Tie as tie
 
 abbrev call : tie.Start → Call
 call s = revoke (s .args .by) (s .args .giver) (s .args .receiver)
 
-abbrev change : tie.Start → Cut
-change s = removal (s .args .giver) (s .args .receiver)
+abbrev change : tie.Start → Change
+change s = cutting (removal (s .args .giver) (s .args .receiver))
 
 -- ── past the tests ──
 abbrev start : tie.Else1 → tie.Start
 start c = c .before .before .before .before
 
-past : (c : tie.Else1) → let a = start c .args in CutThrough (lent (a .fault) (a .table .now)) (a .block .now) (a .by) (change (start c))
+past : (c : tie.Else1) → let a = start c .args in CutThrough (lent (a .fault) (a .table .now)) (a .block .now) (call (start c)) (change (start c))
 past c =
     let s = start c in
-    cut-past (s .pre) (fits-bytes (s .args .block .now) (c .before .before .before .slice-known .given)) (c .before .revoke-refusal .ensures (s .args .table .now)) (c .if1 .left)
+    cut-past (s .pre) (fits-bytes (s .args .block .now) (c .before .before .before .slice-known .given)) refl (c .before .revoke-refusal .ensures (s .args .table .now)) (c .if1 .left)
 
 -- ── the needs ──
 revoke-refusal-requires : tie.Need-revoke-refusal-requires
@@ -59,7 +60,7 @@ settle-requires : tie.Need-settle-requires
 settle-requires c κs =
     let d = c .before .before .before in
     let e = d .before .before in
-    (named-block (past e) (d .remove .ensures), start e .pre)
+    (changed-block (past e) (d .remove .ensures), start e .pre)
 
 same-length-2 : tie.Need-same-length-2
 same-length-2 c = search needs
