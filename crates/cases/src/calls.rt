@@ -48,7 +48,7 @@ pub fn read_columns(text: &[u8], from: usize, has_table: bool) -> Columns {
 }
 
 // One arm for each call that reckons reach, by its number in the files; it is lent the table's text where the line has one. Only read
-// takes a file.
+// takes a file. Marks has its subject under receiver, the marks under need.
 pub fn make(c: Columns, file: &[u8], table: &[u8], block: &mut [u8]) -> Answer {
     let call = c.call;
     match call {
@@ -58,6 +58,7 @@ pub fn make(c: Columns, file: &[u8], table: &[u8], block: &mut [u8]) -> Answer {
         4 => reach(c, table, block),
         7 => chain(c, table, block),
         9 => transfer::read_file(block, file, table),
+        11 => register::set_marks(block, c.by, c.receiver, c.need, table),
         _ => make_other(c, block),
     }
 }

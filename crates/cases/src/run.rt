@@ -30,7 +30,7 @@ fn nowhere() -> Place {
     }
 }
 
-// Runs every line, by the first byte of the text's name: `t` and `o` where lines have a table's text, `f` where they have a file and
+// Runs every line, by the first byte of the text's name: `t`, `o` and `m` where lines have a table's text, `f` where they have a file and
 // a table's text; false where one cannot be read.
 pub fn run_lines(
     text: &[u8],
@@ -65,7 +65,7 @@ fn run_line(
     block: &mut [u8],
 ) -> Place {
     let has_file = kind == b'f';
-    let has_table = has_file || kind == b't' || kind == b'o';
+    let has_table = has_file || kind == b't' || kind == b'o' || kind == b'm';
     let columns = calls::read_columns(text, from.at, has_table);
     if !columns.is_read {
         return nowhere();

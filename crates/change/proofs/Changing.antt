@@ -10,7 +10,7 @@ use lib.ListN.{length, getD, take, drop, set}
 use lib.Seq.{sets}
 use Rattle.rules.specs.Register.{Delegation, reweigh, withDelegations, granted}
 use Rattle.rules.specs.Pair.{isPair, stands, reweighed}
-use Rattle.rules.specs.Cut.{removal, named}
+use Rattle.rules.specs.Cut.{removal, marking, named, changed}
 use Rattle.rules.specs.Call.{enrolled}
 use Rattle.rules.specs.CallStep.{before, insert}
 use Rattle.block.specs.Layout.{blockSize, mostSubjects, mostRecords, recordSize, countAt, recordsAt, weightByte}
@@ -24,9 +24,9 @@ use Rattle.change.specs.Place.{IsPlace}
 use Rattle.change.specs.Shift.{movedUp, movedDown}
 use Rattle.block.proofs.Fitting.{fitting-subjects, fitting-count}
 use Rattle.block.proofs.PairPlace.{leading-most, pairPlace, pair-past}
-use Rattle.block.proofs.Held.{leading-read, size-held, count-most, held-formed, held-written, held-fitting, delegations-held, count-held, record-held, place-held, place-inside, pair-held, found-stands}
+use Rattle.block.proofs.Held.{leading-read, size-held, count-most, held-formed, held-written, held-fitting, subjects-held, delegations-held, count-held, record-held, place-held, place-inside, pair-held, found-stands}
 use Rattle.change.proofs.Splice.{insert-leading, filter-pair, map-pair}
-use Rattle.change.proofs.Rewrite.{encode-append, encode-insert, encode-remove, encode-reweigh, encode-enrol}
+use Rattle.change.proofs.Rewrite.{encode-append, encode-insert, encode-remove, encode-reweigh, encode-enrol, encode-mark}
 use Rattle.block.specs.Records.{markPlace, recordPlace, delegationAt, delegationsTo}
 
 -- b is a block, n records stand in it, and k is a place among them
@@ -56,6 +56,12 @@ module _ (b : List ℕ) (bytes : IsBytes b) (formed : wellFormed b ≡ true) whe
     most = subst (λ (m : ℕ). m ≤ mostRecords) (sym e) (count-most b bytes formed);
     within = subst (λ (m : ℕ). m ≤ n) (sym q) (leading-read f delegationIn recordSize (drop recordsAt b) n);
   }
+
+  -- the marks of subject v set
+  pub mark-held : (v m : ℕ) → v < subjectsIn b → sets b (markPlace v) (twoBytes m) ≡ encode (changed (decode b) (marking v m))
+  mark-held v m l =
+      ap (λ (x : List ℕ). sets x (markPlace v) (twoBytes m)) (held-written b bytes formed)
+      ∙ encode-mark (decode b) (held-fitting b bytes formed .fits) v m (subst (λ (n : ℕ). v < n) (sym (subjects-held b bytes formed)) l)
 
   -- ── the place of a pair, where a delegation of it is put ──
   module _ (g r k : ℕ) (place : IsPlace b g r k) where

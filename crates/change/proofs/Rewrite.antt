@@ -4,10 +4,10 @@ use mathlib.Core.List.{List, [], _∷_, _++_, append-assoc}
 use Prim.Native.Nat.{ℕ, zero, suc, _+_, _*_, _-_, _≤_, _<_}
 use native.Mathlib.Nat.{not-suc-le-zero, le-of-suc-le-suc}
 use native.Mathlib.Omega.{arith}
-use lib.ListN.{length, getD, take, drop, set, replicate, length-append, length-drop, length-replicate, drop-of-length-le, take-append-drop, replicate-append-replicate}
+use lib.ListN.{length, getD, take, drop, set, replicate, length-append, length-drop, length-set, length-replicate, drop-of-length-le, take-append-drop, replicate-append-replicate}
 use lib.Seq.{sets, sets-eq, length-take-le, drop-at, drop-cons, drop-drop, drop-append-add, drop-append-le, set-at, take-all, take-at}
 use Rattle.rules.specs.List.{concatMap}
-use Rattle.rules.specs.Register.{Delegation, Register, reweigh, withDelegations, granted}
+use Rattle.rules.specs.Register.{Delegation, Register, reweigh, withDelegations, withMarks, granted}
 use Rattle.rules.specs.Call.{fresh, enrolled}
 use Rattle.block.specs.Layout.{blockSize, mostSubjects, mostRecords, markSize, recordSize, marksSize, recordsSize, countAt, recordsAt, weightByte}
 use Rattle.block.specs.Bytes.{twoBytes, padded}
@@ -17,7 +17,7 @@ use Rattle.block.specs.Records.{markPlace, recordPlace}
 use Rattle.change.specs.Shift.{movedUp, movedDown}
 use Rattle.block.proofs.Bytes.{length-written}
 use Rattle.block.proofs.Fitting.{headOf, marksPart, middlePart, afterMarks, encode-records, encode-marks, record-wide, length-middlePart, records-encode, front-encode}
-use Rattle.change.proofs.Splice.{spliced-in, spliced-out}
+use Rattle.change.proofs.Splice.{spliced-in, spliced-out, written-set}
 
 pub concatMap-append : {A : Type 0} (f : A → List ℕ) (xs ys : List A) → concatMap f (xs ++ ys) ≡ concatMap f xs ++ concatMap f ys
 concatMap-append f [] ys = refl
@@ -193,6 +193,27 @@ module _ (R : Register) (f : Fits R) where
       ∙ ap (λ (t : List ℕ). H ++ (t ++ D)) (sym pad′)
       ∙ ap (λ (k : ℕ). headOf k (length (R .delegations)) ++ (padded marksSize (concatMap twoBytes (R .marks ++ (v ∷ []))) ++ D)) s
       ∙ sym (encode-marks (enrolled R v))
+
+  -- the marks of subject k set
+  pub encode-mark : (k v : ℕ) → k < R .subjects → sets (encode R) (markPlace k) (twoBytes v) ≡ encode (withMarks R (set (R .marks) k v))
+  encode-mark k v l =
+      let ms = set (R .marks) k v in
+      let wide : (xs : List ℕ) → length (concatMap twoBytes xs) ≡ markSize * length xs = length-written twoBytes markSize (λ n. refl) in
+      let n : length (concatMap twoBytes (R .marks)) ≡ length (concatMap twoBytes ms) = wide (R .marks) ∙ ap (λ (m : ℕ). markSize * m) (sym (length-set (R .marks) k v)) ∙ sym (wide ms) in
+      ap (λ (s : List ℕ). sets s (markPlace k) (twoBytes v)) (encode-marks R ∙ group (R .marks))
+      ∙ written-set twoBytes markSize (λ n. refl) head (zeros ++ afterMarks R) (R .marks) k v (omega (arith, f .marked))
+      ∙ sym (group ms)
+      ∙ (λ j. head ++ ((concatMap twoBytes ms ++ replicate (marksSize - n j) 0) ++ afterMarks R))
+      ∙ sym (encode-marks (withMarks R ms))
+    where
+      head : List ℕ
+      head = headOf (R .subjects) (length (R .delegations))
+
+      zeros : List ℕ
+      zeros = replicate (marksSize - length (concatMap twoBytes (R .marks))) 0
+
+      group : (xs : List ℕ) → head ++ ((concatMap twoBytes xs ++ zeros) ++ afterMarks R) ≡ head ++ (concatMap twoBytes xs ++ (zeros ++ afterMarks R))
+      group xs = ap (λ (s : List ℕ). head ++ s) (append-assoc (concatMap twoBytes xs) zeros (afterMarks R))
 
 -- the fresh register
 pub encode-fresh : set (replicate blockSize 0) 0 1 ≡ encode fresh

@@ -2,13 +2,13 @@
 use mathlib.Core.Path.{_≡_, refl, sym, ap, subst, _∙_}
 use mathlib.Core.Bool.{Bool, true, false, not, cond}
 use mathlib.Core.List.{List, [], _∷_, _++_, append-assoc, map, List·Memᴰ·head, List·Memᴰ·tail}
-use Prim.Native.Nat.{ℕ, zero, suc, _+_, _-_, _≤_, _<_}
-use native.Mathlib.Nat.{le-of-suc-le-suc, not-suc-le-zero}
+use Prim.Native.Nat.{ℕ, zero, suc, _+_, _*_, _-_, _≤_, _<_}
+use native.Mathlib.Nat.{le-of-suc-le-suc, not-suc-le-zero, mul-zero, mul-suc}
 use native.Mathlib.Omega.{arith}
 use lib.Dec.{T}
-use lib.ListN.{length, getD, take, drop, length-append, length-drop}
+use lib.ListN.{length, getD, take, drop, set, length-append, length-drop}
 use lib.Seq.{sets, sets-eq, take-at, drop-at, take-take, take-append-le, drop-append-add, drop-append-seam, drop-drop, length-take-le}
-use Rattle.rules.specs.List.{_∈_, keep, filter}
+use Rattle.rules.specs.List.{_∈_, keep, filter, concatMap}
 use Rattle.rules.specs.Register.{Delegation, reweigh}
 use Rattle.rules.specs.Pair.{isPair, setFor}
 use Rattle.rules.specs.WellFormed.{Rising}
@@ -69,6 +69,31 @@ module _ (P : List ℕ) (at : ℕ) (here : length P ≡ at) where
       ∙ (λ j. take-at (P ++ Y) q last py j ++ rec ++ tail j)
       ∙ append-assoc (P ++ Y) rec Z
       ∙ append-assoc P Y (rec ++ Z)
+
+-- bytes over as many others
+sets-over : (P X Y Z : List ℕ) (at : ℕ) → length P ≡ at → length X ≡ length Y → sets (P ++ (X ++ Z)) at Y ≡ P ++ (Y ++ Z)
+sets-over P X Y Z at here e =
+    let b = P ++ (X ++ Z) in
+    let room : at + length Y ≤ length b = omega (arith, length-append P (X ++ Z), length-append X Z) in
+    let tail : drop (at + length Y) b ≡ Z = sym (drop-drop (length Y) at b) ∙ ap (drop (length Y)) (drop-at P (X ++ Z) at here) ∙ drop-at X Z (length Y) e in
+    sets-eq Y b at room ∙ (λ j. take-at P (X ++ Z) at here j ++ Y ++ tail j) ∙ append-assoc P Y Z
+
+-- value k of those that are written one after another, after P
+module _ {A : Type 0} (enc : A → List ℕ) (w : ℕ) (wide : (x : A) → length (enc x) ≡ w) where
+  pub written-set : (P Z : List ℕ) (xs : List A) (k : ℕ) (v : A) → k < length xs → sets (P ++ (concatMap enc xs ++ Z)) (length P + w * k) (enc v) ≡ P ++ (concatMap enc (set xs k v) ++ Z)
+  written-set P Z [] k v l = absurd (not-suc-le-zero l)
+  written-set P Z (x ∷ xs) zero v l =
+      let S = concatMap enc xs in
+      let here : length P ≡ length P + w * zero = omega (arith, mul-zero w) in
+      ap (λ (s : List ℕ). sets (P ++ s) (length P + w * zero) (enc v)) (append-assoc (enc x) S Z)
+      ∙ sets-over P (enc x) (enc v) (S ++ Z) (length P + w * zero) here (wide x ∙ sym (wide v))
+      ∙ ap (λ (s : List ℕ). P ++ s) (sym (append-assoc (enc v) S Z))
+  written-set P Z (x ∷ xs) (suc k) v l =
+      let at : length P + w * suc k ≡ length (P ++ enc x) + w * k = omega (arith, length-append P (enc x), wide x, mul-suc w k) in
+      (λ j. sets (group (concatMap enc xs) j) (at j) (enc v)) ∙ written-set (P ++ enc x) Z xs k v (le-of-suc-le-suc l) ∙ sym (group (concatMap enc (set xs k v)))
+    where
+      group : (S : List ℕ) → P ++ ((enc x ++ S) ++ Z) ≡ (P ++ enc x) ++ (S ++ Z)
+      group S = ap (λ (s : List ℕ). P ++ s) (append-assoc (enc x) S Z) ∙ sym (append-assoc P (enc x) (S ++ Z))
 
 -- ── delegations ──
 

@@ -9,7 +9,7 @@ ghost use Prim.Native.Nat.{_<_};
 ghost use lib.ListN.{length};
 ghost use Rattle.rules.specs.Register.{withDelegations, granted};
 ghost use Rattle.rules.specs.Pair.{stands, reweighed};
-ghost use Rattle.rules.specs.Cut.{removal, named};
+ghost use Rattle.rules.specs.Cut.{removal, named, marking, changed};
 ghost use Rattle.rules.specs.Call.{fresh, enrolled};
 ghost use Rattle.rules.specs.CallStep.{insert, afterGrant};
 ghost use Rattle.block.specs.Layout.{blockSize, mostSubjects, mostRecords};
@@ -21,14 +21,13 @@ use block::count;
 use block::find;
 use block::is_pair;
 use block::layout::COUNT_AT;
-use block::layout::MARK_SIZE;
-use block::layout::MARKS_AT;
 use block::layout::WEIGHT;
 use block::place;
 use block::record_place;
 use block::subjects;
 pub use left::write_left;
 pub use write::copy;
+use write::put_marks;
 use write::put_record;
 use write::put_two;
 use write::shift_down;
@@ -59,7 +58,15 @@ pub fn add_subject(b: &mut [u8], marks: u16)
 {
     let n = subjects(b);
     b[0] = n + 1;
-    put_two(b, MARKS_AT + MARK_SIZE * (n as usize), marks);
+    put_marks(b, n, marks);
+}
+
+// The marks of an enrolled subject set.
+pub fn set_marks(b: &mut [u8], subject: u8, marks: u16)
+    requires { ⌜ (wellFormed (now b) ≡ true) × (subject < subjectsIn (now b)) ⌝ }
+    ensures { λ _. ⌜ now (b .exit) ≡ encode (changed (decode (now (b .entry))) (marking subject marks)) ⌝ }
+{
+    put_marks(b, subject, marks);
 }
 
 // One more delegation, after all others.

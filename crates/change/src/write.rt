@@ -7,9 +7,12 @@ ghost use Rattle.rules.specs.Register.{granted};
 ghost use Rattle.block.specs.Layout.{recordSize};
 ghost use Rattle.block.specs.Bytes.{twoBytes};
 ghost use Rattle.block.specs.Block.{recordBytes};
+ghost use Rattle.block.specs.Records.{markPlace, HasMarks};
 ghost use Rattle.change.specs.Shift.{movedUp, movedDown};
 use block::layout::BAR;
 use block::layout::GIVER;
+use block::layout::MARK_SIZE;
+use block::layout::MARKS_AT;
 use block::layout::NEED;
 use block::layout::RECEIVER;
 use block::layout::RECORD_SIZE;
@@ -46,6 +49,14 @@ pub fn put_two(b: &mut [u8], at: usize, n: u16)
 {
     b[at] = (n % 256) as u8;
     b[at + 1] = (n / 256 % 256) as u8;
+}
+
+// The marks of a subject.
+pub fn put_marks(b: &mut [u8], subject: u8, marks: u16)
+    requires { ⌜ HasMarks (now b) subject ⌝ }
+    ensures { λ _. ⌜ now (b .exit) ≡ sets (now (b .entry)) (markPlace subject) (twoBytes marks) ⌝ }
+{
+    put_two(b, MARKS_AT + MARK_SIZE * (subject as usize), marks);
 }
 
 // The record of a delegation.

@@ -11,12 +11,12 @@ use lib.IntN.{ℤ, pos}
 use Rattle.rules.specs.List.{_∈_}
 use Rattle.rules.specs.Limit.{none, code, _≼_}
 use Rattle.rules.specs.Table.{TableRule}
-use Rattle.rules.specs.Register.{Delegation, Register}
+use Rattle.rules.specs.Register.{Delegation, Register, marksOf}
 use Rattle.rules.specs.Chain.{limit, IsChain}
 use Rattle.rules.specs.Reach.{IsReach, reach}
 use Rattle.rules.specs.Support.{allowed, Carried}
 use Rattle.rules.specs.Pair.{isPair, stands, raises}
-use Rattle.rules.specs.Call.{grant, askReach}
+use Rattle.rules.specs.Call.{grant, askReach, setMarks}
 use Rattle.rules.specs.Refusal.{firstOf, held, notEnrolled, pairStands, allStand, overweight}
 use Rattle.rules.specs.CallStep.{accepted}
 use Rattle.rules.specs.Granted.{GrantedIn, Raises}
@@ -28,15 +28,16 @@ use Rattle.rules.proofs.Support.{allowed-carried, carried-allowed}
 use Rattle.rules.proofs.Pairs.{test-pair, pair-stands}
 use Rattle.rules.proofs.Granting.{one-raised, raising, grant-leaves}
 use Rattle.rules.proofs.Calls.{accepted-refusal}
+use Rattle.rules.proofs.Still.{marks-still}
 use Rattle.block.specs.Bytes.{IsBytes}
 use Rattle.block.specs.Block.{decode}
 use Rattle.block.specs.WellFormed.{wellFormed}
-use Rattle.block.proofs.Held.{held-formed}
+use Rattle.block.proofs.Held.{held-formed, held-written}
 use Rattle.steptable.specs.TableText.{ours, given}
 use Rattle.steptable.specs.declared.Given.{Given}
 use Rattle.steptable.proofs.Right.{given-keeps}
-use Rattle.register.specs.CallOn.{Result, callOn}
-use Rattle.demands.specs.Exactly.{Grantable, GrantExactly, Before11, Raisable, RaiseAnswer, RaiseExactly, GrantKeeps, RaiseByte, ReachAnswer, ReachExactly}
+use Rattle.register.specs.CallOn.{Result, written, callOn}
+use Rattle.demands.specs.Exactly.{Grantable, GrantExactly, Before11, Raisable, RaiseAnswer, RaiseExactly, GrantKeeps, RaiseByte, ReachAnswer, ReachExactly, MarksStill}
 use Rattle.refusals.proofs.EarlyTests.{early-none, none-early, refused-held}
 use Rattle.register.proofs.Made.{callOn-accepted, made-refused}
 use Rattle.register.proofs.GrantWays.{grant-register, raise-left}
@@ -174,6 +175,16 @@ module _ (o : Given) (b : List ℕ) (g r : ℕ) (e : callOn o b (askReach g r) .
 pub reach-exactly : (o : Given) (b : List ℕ) (g r : ℕ) → ReachExactly o b g r
 reach-exactly o b g r e = answers-reach o b g r e
 
+-- ── the marks that stand ──
+pub marks-left : (g : Given) → TableRule (g .steps) → (b : List ℕ) → IsBytes b → (y s : ℕ) → MarksStill g b y s
+marks-left g rule b bytes y s z p =
+    let c = setMarks y s (marksOf (decode b) s) in
+    let h = accepted-through g b c z in
+    let formed = h .early .formed in
+    callOn-accepted g c b (h .early) (h .held)
+    ∙ ap (written b) (marks-still (g .steps) rule (decode b) (held-formed b bytes formed .rising) p y s)
+    ∙ (λ i. record { refusal = 0; first = pos 0; second = pos 0; third = pos 1; bytes = sym (held-written b bytes formed) i })
+
 -- ── by the table of any text, and by document 01's own ──
 pub grant-exactly-given : (text b : List ℕ) (d : Delegation) → GrantExactly (given text) b d
 grant-exactly-given text b d = grant-exactly (given text) (given-keeps text) b d
@@ -186,3 +197,6 @@ raise-exactly-given text b d bytes = raise-exactly (given text) (given-keeps tex
 
 pub raise-exactly-ours : (b : List ℕ) (d : Delegation) → IsBytes b → RaiseExactly ours b d
 raise-exactly-ours b d bytes = raise-exactly ours steps-rule b d bytes
+
+pub marks-left-given : (text b : List ℕ) → IsBytes b → (y s : ℕ) → MarksStill (given text) b y s
+marks-left-given text b bytes y s = marks-left (given text) (given-keeps text) b bytes y s

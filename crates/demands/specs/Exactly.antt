@@ -1,4 +1,5 @@
--- Demand 2: when exactly a grant is accepted, what it leaves, and what exactly reach answers, on any bytes and by any step table (document 01, 'Calls'; document 02, C-11 and C-12). Assumes nothing.
+-- Demand 2: when exactly a grant is accepted, what it leaves, what exactly reach answers, and what setting the marks that stand leaves, on any bytes and by any step table (document 01, 'Calls'; document 02,
+-- C-11, C-12 and C-15). Assumes nothing.
 use mathlib.Core.Path.{_≡_}
 use mathlib.Core.Bool.{true}
 use mathlib.Core.List.{List, [], _∷_}
@@ -8,11 +9,11 @@ use lib.ListN.{set}
 use lib.IntN.{pos}
 use Rattle.rules.specs.List.{_∈_}
 use Rattle.rules.specs.Limit.{none, _≼_}
-use Rattle.rules.specs.Register.{Delegation}
+use Rattle.rules.specs.Register.{Delegation, marksOf}
 use Rattle.rules.specs.Chain.{limit, IsChain}
-use Rattle.rules.specs.Support.{Carried}
+use Rattle.rules.specs.Support.{Carried, Supported}
 use Rattle.rules.specs.Pair.{isPair, stands}
-use Rattle.rules.specs.Call.{grant, askReach}
+use Rattle.rules.specs.Call.{grant, askReach, setMarks}
 use Rattle.rules.specs.Refusal.{firstOf, notEnrolled, pairStands, allStand}
 use Rattle.rules.specs.Granted.{GrantedIn, Raises}
 use Rattle.block.specs.Layout.{weightByte}
@@ -76,3 +77,9 @@ pub record ReachAnswer (k : Given) (b : List ℕ) (g r : ℕ) : Type 0 where
 -- of every accepted reach
 abbrev pub ReachExactly : Given → List ℕ → ℕ → ℕ → Type 0
 ReachExactly k b g r = callOn k b (askReach g r) .refusal ≡ 0 → ReachAnswer k b g r
+
+-- setting the marks that the subject has, on a register that the table given supports: where it is accepted nothing is dropped, nothing lowered, one round is made, and every byte is left
+abbrev pub MarksStill : Given → List ℕ → (by subject : ℕ) → Type 0
+MarksStill g b y s =
+    let c = setMarks y s (marksOf (decode b) s) in
+    callOn g b c .refusal ≡ 0 → Supported (g .steps) (decode b) → callOn g b c ≡ record { refusal = 0; first = pos 0; second = pos 0; third = pos 1; bytes = b }

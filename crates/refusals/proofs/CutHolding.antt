@@ -1,17 +1,17 @@
 -- Refusals of a cut by what the register holds, test by test as the code makes them; and what a cut that is not refused may rely on. Assumes nothing.
 use mathlib.Core.Path.{_≡_, refl, sym, ap, _∙_}
-use mathlib.Core.Bool.{true, not}
+use mathlib.Core.Bool.{true, false, not, _||_}
 use mathlib.Core.List.{List, [], _∷_, _++_}
 use Prim.Native.Nat.{ℕ, suc, _≤_, _<_, zero-le}
 use borrow.Author.Tests.{le-leb}
-use lib.Dec.{T, leb, leb·suc-suc}
+use lib.Dec.{T, leb, nleb→lt, leb·suc-suc}
 use lib.IntN.{ℤ, pos}
 use Rattle.rules.specs.Limit.{code}
 use Rattle.rules.specs.Register.{Register}
 use Rattle.rules.specs.Pair.{isPair, stands}
-use Rattle.rules.specs.Call.{revoke, downgrade}
+use Rattle.rules.specs.Call.{revoke, downgrade, setMarks}
 use Rattle.rules.specs.Refusal.{firstOf, held, notBelow}
-use Rattle.rules.proofs.Lists.{not-not, T-true}
+use Rattle.rules.proofs.Lists.{not-not, not-or-left, not-or-right, T-true}
 use Rattle.rules.proofs.Refusals.{numbered, firstOf-append, passes-of}
 use Rattle.block.specs.Bytes.{IsBytes, leading}
 use Rattle.block.specs.Block.{countIn, decode}
@@ -42,6 +42,13 @@ module _ (t : List ℤ) (R : Register) (y g r : ℕ) where
     pub downgrade-stands : firstOf (held t R (downgrade y g r w)) ≡ 0 → stands R g r ≡ true
     unfolding held
     downgrade-stands e = let p = passes-of (held t R (downgrade y g r w)) tt e in T-true (stands R g r) (not-not (stands R g r) (p 13))
+
+-- the subject whose marks are set is enrolled
+pub marks-enrolled : (t : List ℤ) (R : Register) (y s m : ℕ) → firstOf (held t R (setMarks y s m)) ≡ 0 → s < R .subjects
+unfolding held
+marks-enrolled t R y s m e =
+    let p = passes-of (held t R (setMarks y s m)) tt e in
+    nleb→lt (R .subjects) s (not-or-left (leb (R .subjects) s) false (not-or-right (leb (R .subjects) y) (leb (R .subjects) s || false) (p 9)))
 
 -- the test of 15, as the code makes it; k is the pair's place
 module _ (b : List ℕ) (bytes : IsBytes b) (formed : wellFormed b ≡ true) (g r k : ℕ) (place : k ≡ leading (λ d. not (isPair g r d)) (delegationsTo b (countIn b))) where

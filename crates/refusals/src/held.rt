@@ -2,13 +2,13 @@
 ghost use mathlib.Core.Path.{_≡_};
 ghost use mathlib.Core.Bool.{true, not, _||_};
 ghost use mathlib.Core.List.{List, [], _∷_};
-ghost use Prim.Native.Nat.{_≤_};
+ghost use Prim.Native.Nat.{ℕ, _≤_};
 ghost use lib.Dec.{leb};
 ghost use lib.IntN.{ℤ};
 ghost use Rattle.rules.specs.Table.{TableRule};
 ghost use Rattle.rules.specs.Pair.{stands, isRaise};
 ghost use Rattle.rules.specs.Register.{granted};
-ghost use Rattle.rules.specs.Call.{grant, revoke, downgrade, askReach};
+ghost use Rattle.rules.specs.Call.{grant, revoke, downgrade, askReach, setMarks};
 ghost use Rattle.rules.specs.Refusal.{firstOf, notEnrolled, allEnrolled, pairStands, allStand, mayNot, notBelow, overweight, held};
 ghost use Rattle.block.specs.Block.{subjectsIn, decode};
 ghost use Rattle.block.specs.Records.{HasRecord, delegationAt};
@@ -198,4 +198,14 @@ pub fn downgrade_held(block: &[u8], by: u32, giver: u32, receiver: u32, weight: 
 {
     let n = revoke_held(block, by, giver, receiver);
     not_below(n, block, giver, receiver, weight)
+}
+
+// Of setting marks, which only the owner may.
+pub fn marks_held(block: &[u8], by: u32, subject: u32) -> u32
+    requires { ⌜ wellFormed (now block) ≡ true ⌝ }
+    ensures { λ r. ⌜ ((t : List ℤ) (marks : ℕ) → r ≡ firstOf (held t (decode (now (block .entry))) (setMarks by subject marks))) ⌝ }
+{
+    let n = not_enrolled(0, block, by);
+    let n = not_enrolled(n, block, subject);
+    may_not(n, by, 0)
 }

@@ -12,7 +12,7 @@ ghost use lib.IntN.{ℤ};
 ghost use lib.ListN.{length, take};
 ghost use Rattle.rules.specs.Table.{TableRule};
 ghost use Rattle.rules.specs.Register.{granted};
-ghost use Rattle.rules.specs.Call.{enrol, grant, revoke, downgrade, askReach, askUse};
+ghost use Rattle.rules.specs.Call.{enrol, grant, revoke, downgrade, askReach, askUse, setMarks};
 ghost use Rattle.rules.specs.Refusal.{firstOf};
 ghost use Rattle.steptable.specs.TableText.{lent, ours};
 ghost use Rattle.refusals.specs.Early.{wrongLength, textRefused, notWellFormed, refusalOn, orderRefusal};
@@ -146,6 +146,17 @@ pub fn downgrade_refusal(
         return n;
     }
     held::downgrade_held(block, by, giver, receiver, weight)
+}
+
+// Of setting marks.
+pub fn marks_refusal(block: &[u8], fault: u32, by: u32, subject: u32, marks: u32) -> u32
+    ensures { λ r. ⌜ ((t : List ℤ) → r ≡ refusalOn (lent fault t) (now (block .entry)) (setMarks by subject marks)) ⌝ }
+{
+    let n = early(block, passed::marks_passed(by, subject, marks), fault);
+    if n != 0 {
+        return n;
+    }
+    held::marks_held(block, by, subject)
 }
 
 // Of the order call, its lent buffer aside.

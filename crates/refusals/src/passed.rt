@@ -2,7 +2,7 @@
 ghost use mathlib.Core.Path.{_≡_};
 ghost use mathlib.Core.List.{[], _∷_};
 ghost use Rattle.rules.specs.Register.{granted};
-ghost use Rattle.rules.specs.Call.{enrol, grant, revoke, downgrade, askReach, askUse};
+ghost use Rattle.rules.specs.Call.{enrol, grant, revoke, downgrade, askReach, askUse, setMarks};
 ghost use Rattle.rules.specs.Refusal.{firstOf, noSubject, noWeight, noMarks, noCondition, equalPair, toOwner, passed, orderPassed};
 ghost use Rattle.refusals.specs.Joined.{orElse};
 use crate::tested;
@@ -46,7 +46,7 @@ fn equal_pair(n: u32, giver: u32, receiver: u32) -> u32
     tested(n, refusal::EQUAL_PAIR, giver == receiver)
 }
 
-// 6: the receiver is the owner.
+// 6: the receiver, or the subject whose marks are set, is the owner.
 fn to_owner(n: u32, receiver: u32) -> u32
     ensures { λ r. ⌜ r ≡ orElse n (toOwner receiver) ⌝ }
 {
@@ -118,4 +118,14 @@ pub fn downgrade_passed(by: u32, giver: u32, receiver: u32, weight: u32) -> u32
     let n = no_weight(n, weight);
     let n = equal_pair(n, giver, receiver);
     to_owner(n, receiver)
+}
+
+// Of setting marks.
+pub fn marks_passed(by: u32, subject: u32, marks: u32) -> u32
+    ensures { λ r. ⌜ r ≡ firstOf (passed (setMarks by subject marks)) ⌝ }
+{
+    let n = no_subject(0, by);
+    let n = no_subject(n, subject);
+    let n = no_marks(n, marks);
+    to_owner(n, subject)
 }

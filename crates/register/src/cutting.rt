@@ -1,8 +1,8 @@
-// The cuts by a lent step table, whose text is refused with `fault` or passes where that is 0.
+// The calls that rounds follow, by a lent step table, whose text is refused with `fault` or passes where that is 0.
 ghost use mathlib.Core.Path.{_≡_};
 ghost use mathlib.Core.Bool.{true};
 ghost use Rattle.rules.specs.Table.{TableRule};
-ghost use Rattle.rules.specs.Call.{revoke, downgrade};
+ghost use Rattle.rules.specs.Call.{revoke, downgrade, setMarks};
 ghost use Rattle.rules.specs.CallStep.{cut};
 ghost use Rattle.block.specs.Block.{decode};
 ghost use Rattle.block.specs.WellFormed.{wellFormed};
@@ -14,7 +14,7 @@ use crate::Answer;
 use crate::answered;
 use crate::refused;
 
-// What a cut does after its named change: rounds until one changes nothing; answers dropped, lowered and rounds.
+// What such a call does after its change: rounds until one changes nothing; answers dropped, lowered and rounds.
 fn settle(block: &mut [u8], table: &[i16]) -> Answer
     requires { ⌜ (wellFormed (now block) ≡ true) × TableRule (now table) ⌝ }
     ensures { λ r. ⌜ result r (now (block .exit)) ≡ written (now (block .entry)) (cut (now (table .entry)) (decode (now (block .entry)))) ⌝ }
@@ -62,5 +62,24 @@ pub fn downgrade_by(
         return refused(n);
     }
     change::set_weight(block, giver as u8, receiver as u8, weight as u8);
+    settle(block, table)
+}
+
+pub fn set_marks_by(
+    block: &mut [u8],
+    table: &[i16],
+    fault: u32,
+    by: u32,
+    subject: u32,
+    marks: u32,
+) -> Answer
+    requires { ⌜ TableRule (now table) ⌝ }
+    ensures { λ r. ⌜ CutMade (lent fault (now (table .entry))) (setMarks by subject marks) (now (block .entry)) r (now (block .exit)) ⌝ }
+{
+    let n = refusals::marks_refusal(block, fault, by, subject, marks);
+    if n != 0 {
+        return refused(n);
+    }
+    change::set_marks(block, subject as u8, marks as u16);
     settle(block, table)
 }

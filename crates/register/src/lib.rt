@@ -4,7 +4,7 @@ mod granting;
 
 ghost use mathlib.Core.Path.{_≡_};
 ghost use Rattle.rules.specs.Register.{granted};
-ghost use Rattle.rules.specs.Call.{enrol, grant, revoke, downgrade, askReach, askUse};
+ghost use Rattle.rules.specs.Call.{enrol, grant, revoke, downgrade, askReach, askUse, setMarks};
 ghost use Rattle.steptable.specs.TableText.{ours, given};
 ghost use Rattle.register.specs.Made.{refusedBy, answeredBy, Made, MadeOpen};
 ghost use Rattle.register.specs.Cuts.{CutMade};
@@ -177,4 +177,12 @@ pub fn downgrade_table(
 {
     let g = steptable::read_table(table);
     cutting::downgrade_by(block, &g.steps, g.refusal, by, giver, receiver, weight)
+}
+
+// Sets all marks of an enrolled subject, which only the owner may, then as revoke: chains are judged by the new marks and by such a table.
+pub fn set_marks(block: &mut [u8], by: u32, subject: u32, marks: u32, table: &[u8]) -> Answer
+    ensures { λ r. ⌜ CutMade (given (now (table .entry))) (setMarks by subject marks) (now (block .entry)) r (now (block .exit)) ⌝ }
+{
+    let g = steptable::read_table(table);
+    cutting::set_marks_by(block, &g.steps, g.refusal, by, subject, marks)
 }

@@ -3,7 +3,7 @@ use mathlib.Core.Path.{_≡_, sym, ap, subst, _∙_}
 use mathlib.Core.Logic.{_≢_}
 use mathlib.Core.Bool.{Bool, true, false}
 use mathlib.Core.List.{List}
-use Prim.Native.Nat.{ℕ, _+_, _<_}
+use Prim.Native.Nat.{ℕ, _+_, _≤_, _<_, zero-le}
 use native.Mathlib.Nat.{add-zero}
 use native.Mathlib.Omega.{arith}
 use borrow.Author.Tests.{lt-leb}
@@ -18,8 +18,12 @@ use Rattle.register.specs.declared.Answer.{Answer}
 use Rattle.demands.specs.History.{lentTo}
 use Rattle.replay.specs.Replay.{isCall, callOf, CallMade, callIn}
 
-pub no-call : (n : ℕ) → n ≢ 0 → n ≢ 1 → n ≢ 2 → n ≢ 3 → n ≢ 4 → n ≢ 5 → isCall n ≡ false
-no-call n a b c d e f = lt-leb n 5 (omega arith)
+past : (k n : ℕ) → k ≤ n → n ≢ k → k < n
+past k n l h = omega arith
+
+-- a number that is none of the calls' is no call's
+pub no-call : (n : ℕ) → n ≢ 0 → n ≢ 1 → n ≢ 2 → n ≢ 3 → n ≢ 4 → n ≢ 5 → n ≢ 6 → isCall n ≡ false
+no-call n a b c d e f g = lt-leb n 6 (past 6 n (past 5 n (past 4 n (past 3 n (past 2 n (past 1 n (past 0 n zero-le a) b) c) d) e) f) g)
 
 -- a test that every call passes, call i passes
 pub passes-at : (f : ℕ → Bool) (n : ℕ) → allFrom f 0 n ≡ true → (i : ℕ) → i < n → T (f i)

@@ -25,20 +25,26 @@ pub reckons-none : (n : ℕ) → n ≡ 0 → Reckoning n false
 unfolding callOf
 reckons-none n e by giver receiver weight need bar = rw e
 
-reckons-high : (n : ℕ) → 4 < n → Reckoning n false
+pub reckons-none-5 : (n : ℕ) → n ≡ 5 → Reckoning n false
 unfolding callOf
-reckons-high n h by giver receiver weight need bar = rw (ne-eqb n 0 (λ e. omega arith), ne-eqb n 1 (λ e. omega arith), ne-eqb n 2 (λ e. omega arith), ne-eqb n 3 (λ e. omega arith), ne-eqb n 4 (λ e. omega arith))
+reckons-none-5 n e by giver receiver weight need bar = rw e
 
-pub reckons-some : (n : ℕ) → n ≢ 0 → Reckoning n (leb n 4)
+reckons-high : (n : ℕ) → 6 < n → Reckoning n false
 unfolding callOf
-reckons-some zero h by giver receiver weight need bar = absurd (h refl)
-reckons-some (suc zero) h by giver receiver weight need bar = refl
-reckons-some (suc (suc zero)) h by giver receiver weight need bar = refl
-reckons-some (suc (suc (suc zero))) h by giver receiver weight need bar = refl
-reckons-some (suc (suc (suc (suc zero)))) h by giver receiver weight need bar = refl
-reckons-some (suc (suc (suc (suc (suc n))))) h by giver receiver weight need bar =
-    let m : ℕ = suc (suc (suc (suc (suc n)))) in
-    lt-leb m 4 (omega arith) ∙ reckons-high m (omega arith) by giver receiver weight need bar
+reckons-high n h by giver receiver weight need bar = rw (ne-eqb n 0 (λ e. omega arith), ne-eqb n 1 (λ e. omega arith), ne-eqb n 2 (λ e. omega arith), ne-eqb n 3 (λ e. omega arith), ne-eqb n 4 (λ e. omega arith), ne-eqb n 6 (λ e. omega arith))
+
+pub reckons-some : (n : ℕ) → n ≢ 0 → n ≢ 5 → Reckoning n (leb n 6)
+unfolding callOf
+reckons-some zero h k by giver receiver weight need bar = absurd (h refl)
+reckons-some (suc zero) h k by giver receiver weight need bar = refl
+reckons-some (suc (suc zero)) h k by giver receiver weight need bar = refl
+reckons-some (suc (suc (suc zero))) h k by giver receiver weight need bar = refl
+reckons-some (suc (suc (suc (suc zero)))) h k by giver receiver weight need bar = refl
+reckons-some (suc (suc (suc (suc (suc zero))))) h k by giver receiver weight need bar = absurd (k refl)
+reckons-some (suc (suc (suc (suc (suc (suc zero)))))) h k by giver receiver weight need bar = refl
+reckons-some (suc (suc (suc (suc (suc (suc (suc n))))))) h k by giver receiver weight need bar =
+    let m : ℕ = suc (suc (suc (suc (suc (suc (suc n)))))) in
+    lt-leb m 6 (omega arith) ∙ reckons-high m (omega arith) by giver receiver weight need bar
 
 -- ── where it lies ──
 module _ (calls : List ℕ) (at : ℕ) (r : Bool) (known : Reckoning (getD calls at 0) r) where

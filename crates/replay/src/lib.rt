@@ -17,7 +17,8 @@ pub const NUMBERS_PER_CALL: usize = 9;
 
 pub const ANSWERS_PER_CALL: usize = 3;
 
-// Makes the call that the numbers name: 0 enrol (marks under need), 1 grant, 2 revoke, 3 downgrade, 4 reach, 5 use.
+// Makes the call that the numbers name: 0 enrol (marks under need), 1 grant, 2 revoke, 3 downgrade, 4 reach, 5 use, 6 marks (the
+// subject under receiver, its marks under need).
 // Those that reckon reach go by the table of the text, ours where it is empty; the others do not look at it.
 pub fn call(
     block: &mut [u8],
@@ -50,6 +51,9 @@ pub fn call(
     if number == 5 {
         return register::use_right(block, receiver);
     }
+    if number == 6 {
+        return register::set_marks(block, by, receiver, need, table);
+    }
     Answer {
         refusal: refusal::MALFORMED,
         first: 0,
@@ -62,7 +66,7 @@ pub fn call(
 fn is_call(number: u32) -> bool
     ensures { λ r. ⌜ r ≡ isCall number ⌝ }
 {
-    number <= 5
+    number <= 6
 }
 
 // Every call number is a call's.
@@ -87,7 +91,10 @@ fn reckons(number: u32) -> bool
     if number == 0 {
         return false;
     }
-    number <= 4
+    if number == 5 {
+        return false;
+    }
+    number <= 6
 }
 
 // The number at a place, as a size.

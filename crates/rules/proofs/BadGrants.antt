@@ -1,16 +1,16 @@
 -- Wrong outcomes of a grant for a pair that stands, which the definitions shut out (document 02, C-12). Assumes nothing.
-use mathlib.Core.Path.{_≡_, refl, sym, ap, subst}
+use mathlib.Core.Path.{_≡_, refl, sym, ap}
 use mathlib.Core.Logic.{_≢_}
-use mathlib.Core.Bool.{Bool, true, false, _&&_}
+use mathlib.Core.Bool.{true, false}
 use mathlib.Core.List.{List, [], _∷_, _++_}
 use Prim.Native.Nat.{ℕ}
 use native.Mathlib.Omega.{arith}
-use lib.Dec.{T, eqb, not-T}
+use lib.Dec.{T, not-T}
 use lib.IntN.{ℤ, pos}
-use Rattle.rules.specs.List.{_∈_, any, concatMap}
-use Rattle.rules.specs.Limit.{code, larger}
+use Rattle.rules.specs.List.{_∈_, any}
+use Rattle.rules.specs.Limit.{larger}
 use Rattle.rules.specs.Table.{next, step, steps}
-use Rattle.rules.specs.Register.{Delegation, Register, granted, fields}
+use Rattle.rules.specs.Register.{Delegation, Register, granted}
 use Rattle.rules.specs.Condition.{meets}
 use Rattle.rules.specs.Chain.{limitFrom}
 use Rattle.rules.specs.Reach.{goesOn, chains, reach}
@@ -22,18 +22,12 @@ use Rattle.rules.specs.CallStep.{Outcome, answered, refused, accepted, c
 use Rattle.rules.specs.Trace.{PlaceRight}
 use Rattle.rules.specs.History.{registerAt, CutsRight}
 use Rattle.rules.specs.Examples.{P2, entry, needing, plain, two, twos}
-use Rattle.rules.proofs.Lists.{T-true, T-both, no, eq→eqb, any-mem}
+use Rattle.rules.proofs.Lists.{T-true, no}
 use Rattle.rules.proofs.Refusals.{applies, firstOf-other}
 use Rattle.rules.proofs.Pairs.{pair-stands}
 use Rattle.rules.proofs.Granting.{raised}
+use Rattle.rules.proofs.Wrong.{Wrong, asDefined, not-right}
 use Rattle.rules.proofs.BadOutcomes.{P2-left, twos-left}
-
--- a call on a register by a table, and what a wrong program returns and leaves
-pub record Wrong : Type 0 where
-  pub table : List ℤ
-  pub register : Register
-  pub call : Call
-  pub outcome : Outcome
 
 -- ── on P2's register ──
 abbrev others : List Delegation
@@ -113,29 +107,12 @@ wrong-grants =
     ∷ []
 
 -- ── none of them is right ──
-abbrev numbers : Outcome → List ℕ
-numbers o = o .refusal ∷ code (o .first) ∷ code (o .second) ∷ code (o .third) ∷ concatMap fields (o .left .delegations)
-
-abbrev same : List ℕ → List ℕ → Bool
-same [] [] = true
-same [] (y ∷ ys) = false
-same (x ∷ xs) [] = false
-same (x ∷ xs) (y ∷ ys) = eqb x y && same xs ys
-
-same-refl : (xs : List ℕ) → T (same xs xs)
-same-refl [] = tt
-same-refl (x ∷ xs) = T-both (eqb x x) (same xs xs) (eq→eqb {m = x} refl) (same-refl xs)
-
-abbrev asDefined : Wrong → Bool
-asDefined w = same (numbers (callStep (w .table) (w .register) (w .call))) (numbers (w .outcome))
-
 none-as-defined : any asDefined wrong-grants ≡ false
 unfolding larger next step steps two twos meets limitFrom goesOn chains reach allowed passed held refusalOf accepted callStep
 none-as-defined = refl
 
 pub not-granted-so : (w : Wrong) → w ∈ wrong-grants → PlaceRight (callStep (w .table)) (CutsRight (w .table)) (w .register) (w .call) (w .outcome) → ⊥
-not-granted-so w m r =
-    no none-as-defined (any-mem asDefined m (subst (λ (o : Outcome). T (same (numbers o) (numbers (w .outcome)))) (r .outcome) (same-refl (numbers (w .outcome)))))
+not-granted-so = not-right wrong-grants none-as-defined
 
 -- the register is that of P2
 pub grants-on : P2-register ≡ registerAt steps (P2 .given) 9

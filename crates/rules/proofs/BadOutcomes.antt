@@ -1,14 +1,13 @@
 -- Wrong outcomes that the definitions shut out: for each worthless program that document 01 names, and for each mistake named after P8, what it would return or leave, on the
 -- registers of P1 to P8, does not satisfy the definition. Assumes nothing.
 use mathlib.Core.Path.{_≡_, refl, sym, ap, subst, _∙_}
-use mathlib.Core.Bool.{Bool, _&&_}
 use mathlib.Core.List.{List, [], _∷_, List·Memᴰ·head, List·Memᴰ·tail, List·Memᴰ·not-nil}
 use Prim.Native.Nat.{ℕ, zero, suc}
 use native.Mathlib.Omega.{arith}
-use lib.Dec.{T, eqb, leb, leb→le, le→leb}
+use lib.Dec.{T, leb→le}
 use lib.ListN.{length}
 use lib.IntN.{pos}
-use Rattle.rules.specs.List.{_∈_, any}
+use Rattle.rules.specs.List.{_∈_}
 use Rattle.rules.specs.Limit.{none, code, _≼_, larger}
 use Rattle.rules.specs.Table.{next, step, steps}
 use Rattle.rules.specs.Register.{Delegation, Register, granted}
@@ -25,14 +24,14 @@ use Rattle.rules.specs.CallStep.{Outcome, answered, refused, cut, accept
 use Rattle.rules.specs.Trace.{PlaceRight}
 use Rattle.rules.specs.History.{registerAt, CutRight, CutsRight}
 use Rattle.rules.specs.Examples.{P1, P2, P3-with, P4, P5, P6, entry, needing, two, twos, twos-given}
-use Rattle.rules.proofs.Lists.{T-both, eq→eqb, any-mem}
 use Rattle.rules.proofs.Table.{steps-rule}
-use Rattle.rules.proofs.AtMost.{AtMost-refl, AtMost-reweigh, at-giver, at-receiver}
+use Rattle.rules.proofs.AtMost.{AtMost-refl, AtMost-reweigh}
 use Rattle.rules.proofs.Chains.{chain-owner}
 use Rattle.rules.proofs.Reach.{reach-only}
 use Rattle.rules.proofs.Support.{carried-chain, carried-allowed, allowed-carried}
 use Rattle.rules.proofs.History.{demand3-steps}
 use Rattle.rules.proofs.Answers.{twos-rule}
+use Rattle.rules.proofs.Wrong.{holds, found}
 
 zero-one : _≡_ {A = ℕ} 0 1 → ⊥
 zero-one e = omega arith
@@ -110,17 +109,6 @@ P2-supported d (List·Memᴰ·tail (List·Memᴰ·tail (List·Memᴰ·tail m))) 
 
 P2-remainder : Remainder steps P2-cut P2-best
 P2-remainder = record { within = P2-within; supported = λ d m. allowed-carried steps steps-rule P2-best d (P2-supported d m) }
-
--- d stands in the list, at least as heavy, as a test
-abbrev holds : Delegation → List Delegation → Bool
-holds d es = any (λ e. eqb (d .giver) (e .giver) && eqb (d .receiver) (e .receiver) && leb (d .weight) (e .weight)) es
-
-found : (d : Delegation) {e : Delegation} {es : List Delegation} → e ∈ es → AtMost d e → T (holds d es)
-found d {e} m a =
-    any-mem (λ x. eqb (d .giver) (x .giver) && eqb (d .receiver) (x .receiver) && leb (d .weight) (x .weight)) m
-    (T-both (eqb (d .giver) (e .giver) && eqb (d .receiver) (e .receiver)) (leb (d .weight) (e .weight))
-    (T-both (eqb (d .giver) (e .giver)) (eqb (d .receiver) (e .receiver)) (eq→eqb (at-giver a)) (eq→eqb (at-receiver a)))
-    (le→leb (d .weight) (e .weight) (a .weight)))
 
 -- a best remainder holds what document 01 says is left
 best-holds : (F : Register) (d : Delegation) → d ∈ P2-best .delegations → Best steps P2-cut F → T (holds d (F .delegations))

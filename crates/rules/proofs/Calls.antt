@@ -8,22 +8,23 @@ use native.Mathlib.Nat.{le-trans, le-refl}
 use native.Mathlib.Omega.{arith}
 use lib.Bits.{bitAnd}
 use lib.Dec.{T, leb, ltb, eqb, eqb→eq, nleb→lt, nltb→le}
-use lib.ListN.{length, length-append, length-map, List·getD-append}
+use lib.ListN.{length, set, length-append, length-map, length-set, List·getD-append}
+use lib.Seq.{getD-set-other}
 use lib.IntN.{ℤ, pos}
 use Rattle.rules.specs.List.{_∈_}
 use Rattle.rules.specs.Limit.{code, _≼_}
 use Rattle.rules.specs.Table.{TableRule, Below}
-use Rattle.rules.specs.Register.{Delegation, Register, reweigh, withDelegations}
+use Rattle.rules.specs.Register.{Delegation, Register, reweigh, withDelegations, withMarks}
 use Rattle.rules.specs.Support.{allowed, Carried, Supported}
 use Rattle.rules.specs.Pair.{isPair, stands, setFor, reweighed}
 use Rattle.rules.specs.Round.{settle}
 use Rattle.rules.specs.Granted.{GrantedIn}
-use Rattle.rules.specs.Cut.{Change, cutting, removal, lowering, named, changed}
+use Rattle.rules.specs.Cut.{Change, cutting, marking, removal, lowering, named, changed}
 use Rattle.rules.specs.WellFormed.{DelegationFormed, WellFormed}
-use Rattle.rules.specs.Call.{Call, enrol, grant, revoke, downgrade, askReach, askUse, fresh, enrolled, Makes}
+use Rattle.rules.specs.Call.{Call, enrol, grant, revoke, downgrade, askReach, askUse, setMarks, fresh, enrolled, Makes}
 use Rattle.rules.specs.Refusal.{pairStands, allStand, passed, held, refusalOf}
 use Rattle.rules.specs.CallStep.{Outcome, insert, afterGrant, cut, accepted, refused, callStep}
-use Rattle.rules.proofs.Lists.{filter-mem, filter-length, map-mem, eq→eqb, not-or-left, not-or-right, not-not, test-ne}
+use Rattle.rules.proofs.Lists.{filter-mem, filter-length, map-mem, set-mem, eq→eqb, not-or-left, not-or-right, not-not, test-ne}
 use Rattle.rules.proofs.Chains.{mem-snoc}
 use Rattle.rules.proofs.Tables.{Below-refl}
 use Rattle.rules.proofs.Support.{carried-on, allowed-carried, carried-mono, carried-under, supported-under}
@@ -72,6 +73,22 @@ reweighed-formed R g r w h f = record {
 pub lowered-formed : (R : Register) (g r w : ℕ) → w ≤ 255 → WellFormed R → WellFormed (named R (lowering g r w))
 unfolding named
 lowered-formed R g r w h f = reweighed-formed R g r w h f
+
+marked-formed : (R : Register) (s m : ℕ) → s ≢ 0 → m ≤ 65535 → WellFormed R → WellFormed (withMarks R (set (R .marks) s m))
+marked-formed R s m n h f = record {
+  some = f .some;
+  most = f .most;
+  marked = length-set (R .marks) s m ∙ f .marked;
+  marks = λ x i. small x (set-mem (R .marks) s m i);
+  owner = getD-set-other (R .marks) s 0 m 0 (λ e. n (sym e)) ∙ f .owner;
+  few = f .few;
+  rising = f .rising;
+  each = f .each;
+}
+  where
+    small : (x : ℕ) → (x ≡ m) ⊎ (x ∈ R .marks) → x ≤ 65535
+    small x (inl q) = omega arith
+    small x (inr i) = f .marks x i
 
 -- ── each call ──
 pub fresh-formed : WellFormed fresh
@@ -144,6 +161,7 @@ changed-formed t R (revoke y g r) k i p f = subst (λ (x : Change). WellFormed (
 changed-formed t R (downgrade y g r w) k i p f = subst (λ (x : Change). WellFormed (changed R x)) (sym i) (lowered-formed R g r w (nltb→le 255 w (p 3)) f)
 changed-formed t R (askReach g r) k i p f = absurd i
 changed-formed t R (askUse r) k i p f = absurd i
+changed-formed t R (setMarks y s m) k i p f = subst (λ (x : Change). WellFormed (changed R x)) (sym i) (marked-formed R s m (test-ne s 0 (p 6)) (nltb→le 65535 m (p 4)) f)
 
 -- rounds follow it
 pub accepted-change : (t : List ℤ) (R : Register) (c : Call) (k : Change) → Makes c k → accepted t R c ≡ cut t (changed R k)
@@ -154,6 +172,7 @@ accepted-change t R (revoke y g r) k i = ap (λ (x : Change). cut t (changed R x
 accepted-change t R (downgrade y g r w) k i = ap (λ (x : Change). cut t (changed R x)) (sym i)
 accepted-change t R (askReach g r) k i = absurd i
 accepted-change t R (askUse r) k i = absurd i
+accepted-change t R (setMarks y s m) k i = ap (λ (x : Change). cut t (changed R x)) (sym i)
 
 pub accepted-formed : (t : List ℤ) (R : Register) (c : Call) → Passes (passed c ++ held t R c) → WellFormed R → WellFormed (accepted t R c .left)
 unfolding accepted passed held
@@ -179,6 +198,7 @@ accepted-formed t R (revoke y g r) p f = cut-formed t (named R (removal g r)) (c
 accepted-formed t R (downgrade y g r w) p f = cut-formed t (named R (lowering g r w)) (changed-formed t R (downgrade y g r w) (cutting (lowering g r w)) refl p f)
 accepted-formed t R (askReach g r) p f = f
 accepted-formed t R (askUse r) p f = f
+accepted-formed t R (setMarks y s m) p f = cut-formed t (changed R (marking s m)) (changed-formed t R (setMarks y s m) (marking s m) refl p f)
 
 -- ── supported under m, which lets a right fall no faster than the table t of the call ──
 enrol-supported : (m : List ℤ) (R : Register) (x : ℕ) → WellFormed R → Supported m R → Supported m (enrolled R x)
@@ -205,6 +225,7 @@ module _ (t m : List ℤ) (rule : TableRule t) (rule′ : TableRule m) (below : 
   accepted-under R (downgrade y g r w) p f s = cut-under (named R (lowering g r w))
   accepted-under R (askReach g r) p f s = s
   accepted-under R (askUse r) p f s = s
+  accepted-under R (setMarks y x n) p f s = cut-under (changed R (marking x n))
 
 -- ── a call, refused or not ──
 cut-refusal : (t : List ℤ) (C : Register) → cut t C .refusal ≡ 0
@@ -220,6 +241,7 @@ accepted-refusal t R (revoke y g r) = cut-refusal t (named R (removal g r))
 accepted-refusal t R (downgrade y g r w) = cut-refusal t (named R (lowering g r w))
 accepted-refusal t R (askReach g r) = refl
 accepted-refusal t R (askUse r) = refl
+accepted-refusal t R (setMarks y s m) = cut-refusal t (changed R (marking s m))
 
 -- what a call that is not refused does, where it passed every test; what a refused call does
 pub callStep-cases : (t : List ℤ) (R : Register) (c : Call) (P : Outcome → Type 0) → (refusalOf t R c ≡ 0 → Passes (passed c ++ held t R c) → P (accepted t R c))

@@ -8,10 +8,10 @@ use Rattle.rules.specs.Table.{TableRule, steps}
 use Rattle.rules.specs.Register.{Register}
 use Rattle.rules.specs.Support.{Supported}
 use Rattle.rules.specs.Round.{settle}
-use Rattle.rules.specs.Cut.{Change, cutting, removal, lowering, changed}
+use Rattle.rules.specs.Cut.{Change, cutting, marking, removal, lowering, changed}
 use Rattle.rules.specs.Remainder.{LiftsNothing}
 use Rattle.rules.specs.WellFormed.{WellFormed}
-use Rattle.rules.specs.Call.{Call, enrol, grant, revoke, downgrade, askReach, askUse, fresh, Makes}
+use Rattle.rules.specs.Call.{Call, revoke, downgrade, setMarks, fresh, Makes}
 use Rattle.rules.specs.Refusal.{passed, held}
 use Rattle.rules.specs.CallStep.{Outcome, cut, accepted, callStep}
 use Rattle.rules.specs.History.{leftBy, CutRight, CutsRight, Demand3}
@@ -22,12 +22,15 @@ use Rattle.rules.proofs.Calls.{fresh-formed, accepted-change, callStep-
 use Rattle.rules.proofs.Lifting.{lifts-trans, changed-lifts}
 use Rattle.rules.proofs.Trace.{stays, places}
 
--- each of the two cuts makes its change, so that what is claimed of a change is claimed of them
+-- each of the calls that rounds follow makes its change, so that what is claimed of a change is claimed of them
 pub revoke-makes : (y g r : ℕ) → Makes (revoke y g r) (cutting (removal g r))
 revoke-makes y g r = refl
 
 pub downgrade-makes : (y g r w : ℕ) → Makes (downgrade y g r w) (cutting (lowering g r w))
 downgrade-makes y g r w = refl
+
+pub marks-makes : (y s m : ℕ) → Makes (setMarks y s m) (marking s m)
+marks-makes y s m = refl
 
 module _ (t : List ℤ) (rule : TableRule t) where
   cut-right : (C : Register) → CutRight t C (cut t C)

@@ -15,6 +15,7 @@ pub mod OwnPair
 pub mod Granting
 pub mod Calls
 pub mod Lifting
+pub mod Still
 pub mod Firm
 pub mod Bound
 pub mod Ranges
@@ -25,6 +26,8 @@ pub mod Search
 pub mod Links
 pub mod Order
 pub mod Answers
+pub mod Wrong
 pub mod BadOutcomes
 pub mod BadGrants
+pub mod BadMarks
 pub mod BadOrders

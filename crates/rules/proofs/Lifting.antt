@@ -10,10 +10,10 @@ use Rattle.rules.specs.List.{_∈_}
 use Rattle.rules.specs.Limit.{code}
 use Rattle.rules.specs.Register.{Delegation, Register, reweigh}
 use Rattle.rules.specs.Pair.{isPair, weightAt, setFor}
-use Rattle.rules.specs.Cut.{Change, cutting, removal, lowering, named, changed}
+use Rattle.rules.specs.Cut.{Change, cutting, marking, removal, lowering, named, changed}
 use Rattle.rules.specs.Remainder.{AtMost, LiftsNothing}
 use Rattle.rules.specs.WellFormed.{Rising, WellFormed}
-use Rattle.rules.specs.Call.{Call, enrol, grant, revoke, downgrade, askReach, askUse, Makes}
+use Rattle.rules.specs.Call.{Call, enrol, grant, revoke, downgrade, askReach, askUse, setMarks, Makes}
 use Rattle.rules.specs.Refusal.{passed, held}
 use Rattle.rules.proofs.Lists.{filter-mem, map-mem}
 use Rattle.rules.proofs.AtMost.{AtMost-refl, AtMost-reweigh, AtMost-trans}
@@ -54,3 +54,4 @@ changed-lifts t R (downgrade y g r w) k i p f =
     subst (λ (x : Change). LiftsNothing R (changed R x)) (sym i) (lowered-lifts R g r w (f .rising) (nleb→lt (code (weightAt (R .delegations) g r)) (suc w) (p 15)))
 changed-lifts t R (askReach g r) k i p f = absurd i
 changed-lifts t R (askUse r) k i p f = absurd i
+changed-lifts t R (setMarks y s m) k i p f = subst (λ (x : Change). LiftsNothing R (changed R x)) (sym i) (λ d n. (d, n, AtMost-refl d))

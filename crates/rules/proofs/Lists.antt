@@ -117,6 +117,11 @@ module _ {A : Type 0} where
     mem-filter h (List·Memᴰ·head {x = y} {xs = ys} e) = mem-keep-head (f y) (filter f ys) e (subst (λ (z : A). T (f z)) e h)
     mem-filter h (List·Memᴰ·tail {x = y} {xs = ys} m) = mem-keep-tail (f y) y (mem-filter h m)
 
+    -- none passes
+    pub filter-none : (xs : List A) → ((x : A) → x ∈ xs → f x ≡ false) → filter f xs ≡ []
+    filter-none [] h = refl
+    filter-none (x ∷ xs) h = (λ j. keep (h x (List·Memᴰ·head refl) j) x (filter f xs)) ∙ filter-none xs (λ y m. h y (List·Memᴰ·tail m))
+
     pub filter-mem : {x : A} (xs : List A) → x ∈ filter f xs → (x ∈ xs) × T (f x)
     filter-mem [] m = absurd (List·Memᴰ·not-nil m)
     filter-mem {x} (y ∷ ys) m = go (filter-mem ys) (keep-mem (f y) m)
@@ -169,6 +174,18 @@ module _ {A B : Type 0} where
   map-mem f (x ∷ xs) (List·Memᴰ·tail m) = let r = map-mem f xs m in (r .0, List·Memᴰ·tail (r .1), r .2)
 
 -- ── equal or not, in a list or not ──
+-- an element of a list with one place set
+pub set-mem : {A : Type 0} (xs : List A) (k : ℕ) (v : A) {x : A} → x ∈ set xs k v → (x ≡ v) ⊎ (x ∈ xs)
+set-mem [] k v m = inr m
+set-mem (y ∷ ys) zero v (List·Memᴰ·head e) = inl e
+set-mem (y ∷ ys) zero v (List·Memᴰ·tail m) = inr (List·Memᴰ·tail m)
+set-mem (y ∷ ys) (suc k) v (List·Memᴰ·head e) = inr (List·Memᴰ·head e)
+set-mem {A} (y ∷ ys) (suc k) v {x} (List·Memᴰ·tail m) = go (set-mem ys k v m)
+  where
+    go : (x ≡ v) ⊎ (x ∈ ys) → (x ≡ v) ⊎ (x ∈ (y ∷ ys))
+    go (inl e) = inl e
+    go (inr i) = inr (List·Memᴰ·tail i)
+
 pub eqOr : (x y : ℕ) → (x ≡ y) ⊎ (x ≢ y)
 eqOr x y = go (either (eqb x y))
   where

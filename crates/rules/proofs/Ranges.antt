@@ -17,9 +17,9 @@ use Rattle.rules.specs.Chain.{limit, IsChain}
 use Rattle.rules.specs.Reach.{reach}
 use Rattle.rules.specs.Pair.{weightAt, stands, receives}
 use Rattle.rules.specs.Round.{total, settle, rounds}
-use Rattle.rules.specs.Cut.{removal, lowering, named, isDropped, isLowered, dropped, lowered}
+use Rattle.rules.specs.Cut.{cutting, marking, removal, lowering, named, changed, isDropped, isLowered, dropped, lowered}
 use Rattle.rules.specs.WellFormed.{WellFormed}
-use Rattle.rules.specs.Call.{Call, enrol, grant, revoke, downgrade, askReach, askUse}
+use Rattle.rules.specs.Call.{Call, enrol, grant, revoke, downgrade, askReach, askUse, setMarks}
 use Rattle.rules.specs.Refusal.{passed, held}
 use Rattle.rules.specs.CallStep.{Outcome, afterGrant, cut, accepted, callStep}
 use Rattle.rules.specs.Ranges.{FromTo, CutInRange, InRange}
@@ -27,8 +27,8 @@ use Rattle.rules.proofs.Chains.{limitFrom-top}
 use Rattle.rules.proofs.Reach.{reach-attained}
 use Rattle.rules.proofs.Refusals.{Passes}
 use Rattle.rules.proofs.Granting.{grant-leaves}
-use Rattle.rules.proofs.Calls.{removed-formed, lowered-formed, accepted-formed, callStep-cases}
-use Rattle.rules.proofs.Bound.{rounds-below}
+use Rattle.rules.proofs.Calls.{changed-formed, accepted-formed, callStep-cases}
+use Rattle.rules.proofs.Bound.{rounds-most, rounds-below}
 use Rattle.rules.proofs.Lists.{mem-length, not-not}
 
 -- ── two tests that no element passes together ──
@@ -64,9 +64,9 @@ pub total-most : (R : Register) → WellFormed R → total (R .delegations) ≤ 
 total-most R f = omega (arith, weights-most (R .delegations) (λ d m. f .each d m .weight), f .few)
 
 -- ── each call ──
-cut-range : (t : List ℤ) (C : Register) → WellFormed C → rounds (settle t C) < 512 → let o = cut t C in CutInRange (o .first) (o .second) (o .third)
+cut-range : (t : List ℤ) (C : Register) (most : ℕ) → WellFormed C → rounds (settle t C) ≤ most → let o = cut t C in CutInRange most (o .first) (o .second) (o .third)
 unfolding cut
-cut-range t C f h =
+cut-range t C most f h =
     let s = settle t C in
     ((dropped C (s .left), lowered C (s .left), refl, refl, omega (arith, both-few C (s .left), f .few)), (suc (s .changed), refl, omega arith, omega arith))
 
@@ -90,11 +90,18 @@ accepted-range : (t : List ℤ) → TableRule t → (R : Register) (c : Call) �
 unfolding accepted passed held
 accepted-range t rule R (enrol m) p f = ((R .subjects, refl, f .some, omega (arith, nleb→lt 64 (R .subjects) (p 10))), refl, refl)
 accepted-range t rule R (grant d) p f = ((length (afterGrant R d .delegations), refl, mem-length (grant-leaves R d (f .rising) (p 11) .standing), accepted-formed t R (grant d) p f .few), refl, refl)
-accepted-range t rule R (revoke y g r) p f = cut-range t (named R (removal g r)) (removed-formed R g r f) (rounds-below t rule R (removal g r) f (not-not (stands R g r) (p 13)))
+accepted-range t rule R (revoke y g r) p f =
+    let l = rounds-below t rule R (removal g r) f (not-not (stands R g r) (p 13)) in
+    cut-range t (named R (removal g r)) 511 (changed-formed t R (revoke y g r) (cutting (removal g r)) refl p f) (omega arith)
 accepted-range t rule R (downgrade y g r w) p f =
-    cut-range t (named R (lowering g r w)) (lowered-formed R g r w (nltb→le 255 w (p 3)) f) (rounds-below t rule R (lowering g r w) f (nleb→lt (code (weightAt (R .delegations) g r)) (suc w) (p 15)))
+    let l = rounds-below t rule R (lowering g r w) f (nleb→lt (code (weightAt (R .delegations) g r)) (suc w) (p 15)) in
+    cut-range t (named R (lowering g r w)) 511 (changed-formed t R (downgrade y g r w) (cutting (lowering g r w)) refl p f) (omega arith)
 accepted-range t rule R (askReach g r) p f = let (a, b) = reach-range t rule R g r in (a, b, refl, refl)
 accepted-range t rule R (askUse r) p f = (use-range (eqb r 0 || receives r (R .delegations)), refl, refl)
+accepted-range t rule R (setMarks y s m) p f =
+    let C = changed R (marking s m) in
+    let k = changed-formed t R (setMarks y s m) (marking s m) refl p f in
+    cut-range t C 512 k (rounds-most t rule C k .1)
 
 pub callStep-range : (t : List ℤ) → TableRule t → (R : Register) (c : Call) → WellFormed R → callStep t R c .refusal ≡ 0 → let o = callStep t R c in InRange c (o .first) (o .second) (o .third)
 callStep-range t rule R c f = callStep-cases t R c (λ (o : Outcome). o .refusal ≡ 0 → InRange c (o .first) (o .second) (o .third)) (λ z p q. accepted-range t rule R c p f) (λ n q. absurd (n q))

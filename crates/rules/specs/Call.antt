@@ -1,9 +1,9 @@
--- The calls of a list (document 01, 'Calls'). Every number is what the caller passed, whatever it is. Assumes nothing.
+-- The calls of a list (document 01, 'Calls'; document 02, C-15). Every number is what the caller passed, whatever it is. Assumes nothing.
 use mathlib.Core.Path.{_≡_}
 use mathlib.Core.List.{[], _∷_, _++_}
 use Prim.Native.Nat.{ℕ, suc}
 use Rattle.rules.specs.Register.{Delegation, Register}
-use Rattle.rules.specs.Cut.{Change, cutting, removal, lowering}
+use Rattle.rules.specs.Cut.{Change, cutting, marking, removal, lowering}
 
 pub data Call : Type 0 where
   enrol : (marks : ℕ) → Call
@@ -12,6 +12,7 @@ pub data Call : Type 0 where
   downgrade : (by giver receiver weight : ℕ) → Call
   askReach : (giver receiver : ℕ) → Call
   askUse : (receiver : ℕ) → Call
+  setMarks : (by subject marks : ℕ) → Call
 
 -- what open writes: one subject, no delegation
 abbrev pub fresh : Register
@@ -29,3 +30,4 @@ Makes (revoke y g r) k = k ≡ cutting (removal g r)
 Makes (downgrade y g r w) k = k ≡ cutting (lowering g r w)
 Makes (askReach g r) k = ⊥
 Makes (askUse r) k = ⊥
+Makes (setMarks y s m) k = k ≡ marking s m

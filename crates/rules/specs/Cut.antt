@@ -1,11 +1,11 @@
--- Cuts (document 01, 'Calls'): the named change, what rounds follow, and the counts that compare the register C after it with the register F left. Assumes nothing.
+-- Cuts (document 01, 'Calls'; document 02, C-15): the named change, what rounds follow, and the counts that compare the register C after it with the register F left. Assumes nothing.
 use mathlib.Core.Bool.{Bool, not, _&&_}
 use Prim.Native.Nat.{ℕ}
 use lib.Dec.{leb}
-use lib.ListN.{length}
+use lib.ListN.{length, set}
 use Rattle.rules.specs.List.{filter}
 use Rattle.rules.specs.Limit.{code}
-use Rattle.rules.specs.Register.{Delegation, Register, withDelegations}
+use Rattle.rules.specs.Register.{Delegation, Register, withDelegations, withMarks}
 use Rattle.rules.specs.Pair.{isPair, weightAt, stands, reweighed}
 
 -- what a cut names: a pair whose delegation is removed, or set to a new weight
@@ -18,12 +18,14 @@ unfoldable pub named : Register → Cut → Register
 named R (removal g r) = withDelegations R (filter (λ d. not (isPair g r d)) (R .delegations))
 named R (lowering g r w) = reweighed R g r w
 
--- what a call changes before its rounds: a cut, its named change
+-- what a call changes before its rounds: a cut, its named change; or all marks of a subject
 pub data Change : Type 0 where
   cutting : Cut → Change
+  marking : (subject marks : ℕ) → Change
 
 abbrev pub changed : Register → Change → Register
 changed R (cutting k) = named R k
+changed R (marking s m) = withMarks R (set (R .marks) s m)
 
 abbrev pub isDropped : Register → Delegation → Bool
 isDropped F d = not (stands F (d .giver) (d .receiver))

@@ -9,7 +9,7 @@ use Rattle.rules.specs.List.{tabulate}
 use Rattle.rules.specs.Limit.{none}
 use Rattle.rules.specs.Table.{steps}
 use Rattle.rules.specs.Register.{Delegation, Register, granted}
-use Rattle.rules.specs.Call.{Call, enrol, grant, revoke, downgrade, askReach, askUse, fresh}
+use Rattle.rules.specs.Call.{Call, enrol, grant, revoke, downgrade, askReach, askUse, fresh, setMarks}
 use Rattle.rules.specs.CallStep.{Outcome, callStep}
 use Rattle.rules.specs.Trace.{traceFrom}
 use Rattle.rules.specs.History.{leftBy, trace}
@@ -136,8 +136,25 @@ raising = record {
   standing = entry 0 1 4 ∷ entry 1 2 3 ∷ entry 2 3 2 ∷ [];
 }
 
+-- document 02, C-15: subjects 2 and 3 have the mark that 0-1 needs
+abbrev pub lapse-given : List Call
+lapse-given = enrol 0 ∷ enrol 1 ∷ enrol 1 ∷ grant (needing 0 1 6 1) ∷ plain 1 2 5 ∷ plain 2 3 4 ∷ []
+
+-- 2 loses it: 1-2 is dropped, then 2-3 lowered to what 0-2 carries; 2 has it again, and nothing comes back. The marks of 1, who only passes on, lower nothing
+abbrev pub lapse : Example
+lapse = record {
+  given = lapse-given ++ (plain 0 2 2 ∷ []);
+  calls = setMarks 0 1 65535 ∷ setMarks 0 2 0 ∷ setMarks 0 2 1 ∷ setMarks 2 2 1 ∷ setMarks 1 0 1 ∷ [];
+  printed = line 0 (pos 0) (pos 0) (pos 1) ∷ line 0 (pos 1) (pos 1) (pos 3) ∷ line 0 (pos 0) (pos 0) (pos 1) ∷ line 14 (pos 0) (pos 0) (pos 0) ∷ line 6 (pos 0) (pos 0) (pos 0) ∷ [];
+  standing = needing 0 1 6 1 ∷ entry 0 2 2 ∷ entry 2 3 1 ∷ [];
+}
+
+-- without 0-2 both fall
+abbrev pub lapse-alone : Example
+lapse-alone = record { given = lapse-given; calls = setMarks 0 2 0 ∷ []; printed = line 0 (pos 2) (pos 0) (pos 3) ∷ []; standing = needing 0 1 6 1 ∷ [] }
+
 abbrev pub examples : List Example
-examples = P1 ∷ P2 ∷ P3-with ∷ P3-without ∷ P4 ∷ P5 ∷ P6 ∷ P7 ∷ P8 ∷ raising ∷ []
+examples = P1 ∷ P2 ∷ P3-with ∷ P3-without ∷ P4 ∷ P5 ∷ P6 ∷ P7 ∷ P8 ∷ raising ∷ lapse ∷ lapse-alone ∷ []
 
 -- ── several refusals at once: the first in the order of the call's lists is returned ──
 
@@ -175,6 +192,13 @@ orders =
     ∷ (askUse 64, 2)
     ∷ (askUse 5, 9)
     ∷ (enrol 65536, 4)
+    ∷ (setMarks 64 0 65536, 2)
+    ∷ (setMarks 1 0 65536, 4)
+    ∷ (setMarks 7 0 1, 6)
+    ∷ (setMarks 5 1 1, 9)
+    ∷ (setMarks 1 5 1, 9)
+    ∷ (setMarks 1 1 1, 14)
+    ∷ (setMarks 0 1 65535, 0)
     ∷ []
 
 -- ── another step table: each call goes by the one lent to it ──

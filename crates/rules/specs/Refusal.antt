@@ -1,4 +1,4 @@
--- Refusals (document 01, 'Turned back by what was passed' and 'Turned back by what the register holds'; document 02, C-12 to C-14): each number with the test under which it applies, and for each call
+-- Refusals (document 01, 'Turned back by what was passed' and 'Turned back by what the register holds'; document 02, C-12 to C-15): each number with the test under which it applies, and for each call
 -- two ordered lists of them. The refusal is the first that applies of 1, `passed`, 8 and `held`; 1 and 8 speak of bytes and have no place in a register. Assumes nothing.
 use mathlib.Core.Bool.{Bool, cond, not, _&&_, _||_}
 use mathlib.Core.List.{List, [], _∷_, _++_}
@@ -12,7 +12,7 @@ use Rattle.rules.specs.Limit.{code}
 use Rattle.rules.specs.Register.{Delegation, Register}
 use Rattle.rules.specs.Support.{allowed}
 use Rattle.rules.specs.Pair.{isPair, weightAt, stands, raises}
-use Rattle.rules.specs.Call.{Call, enrol, grant, revoke, downgrade, askReach, askUse}
+use Rattle.rules.specs.Call.{Call, enrol, grant, revoke, downgrade, askReach, askUse, setMarks}
 
 -- the number of the first that applies, or 0
 abbrev pub firstOf : List (ℕ × Bool) → ℕ
@@ -41,7 +41,7 @@ noCondition n b = (4, ltb 65535 n || ltb 65535 b || not (eqb (bitAnd n b) 0))
 abbrev pub equalPair : ℕ → ℕ → ℕ × Bool
 equalPair g r = (5, eqb g r)
 
--- 6: the receiver is the owner
+-- 6: the receiver, or the subject whose marks are set, is the owner
 abbrev pub toOwner : ℕ → ℕ × Bool
 toOwner r = (6, eqb r 0)
 
@@ -71,6 +71,10 @@ noPair R g r = (13, not (stands R g r))
 abbrev pub mayNot : ℕ → ℕ → ℕ × Bool
 mayNot by g = (14, not (eqb by g || eqb by 0))
 
+-- 14: by is not the owner, and only the owner may
+abbrev pub ownerOnly : ℕ → ℕ × Bool
+ownerOnly by = mayNot by 0
+
 -- 15: the new weight is not below the present
 abbrev pub notBelow : Register → ℕ → ℕ → ℕ → ℕ × Bool
 notBelow R g r w = (15, leb (code (weightAt (R .delegations) g r)) (suc w))
@@ -96,6 +100,7 @@ passed (revoke y g r) = noSubject (y ∷ g ∷ r ∷ []) ∷ equalPair g r ∷ t
 passed (downgrade y g r w) = noSubject (y ∷ g ∷ r ∷ []) ∷ noWeight w ∷ equalPair g r ∷ toOwner r ∷ []
 passed (askReach g r) = noSubject (g ∷ r ∷ []) ∷ equalPair g r ∷ toOwner r ∷ []
 passed (askUse r) = noSubject (r ∷ []) ∷ []
+passed (setMarks y s m) = noSubject (y ∷ s ∷ []) ∷ noMarks m ∷ toOwner s ∷ []
 
 unfoldable pub held : List ℤ → Register → Call → List (ℕ × Bool)
 held t R (enrol m) = allEnrolled R ∷ []
@@ -104,6 +109,7 @@ held t R (revoke y g r) = notEnrolled R (y ∷ g ∷ r ∷ []) ∷ noPair R g r 
 held t R (downgrade y g r w) = notEnrolled R (y ∷ g ∷ r ∷ []) ∷ noPair R g r ∷ mayNot y g ∷ notBelow R g r w ∷ []
 held t R (askReach g r) = notEnrolled R (g ∷ r ∷ []) ∷ []
 held t R (askUse r) = notEnrolled R (r ∷ []) ∷ []
+held t R (setMarks y s m) = notEnrolled R (y ∷ s ∷ []) ∷ ownerOnly y ∷ []
 
 -- the refusal of a call on a register, or 0
 unfoldable pub refusalOf : List ℤ → Register → Call → ℕ

@@ -36,6 +36,10 @@ reweigh d w = record { giver = d .giver; receiver = d .receiver; weight = w; nee
 abbrev pub withDelegations : Register → List Delegation → Register
 withDelegations R ds = record { subjects = R .subjects; marks = R .marks; delegations = ds }
 
+-- the register with other marks
+abbrev pub withMarks : Register → List ℕ → Register
+withMarks R ms = record { subjects = R .subjects; marks = ms; delegations = R .delegations }
+
 -- what is read where no delegation is
 abbrev pub noDelegation : Delegation
 noDelegation = granted 0 0 0 0 0

@@ -12,7 +12,7 @@ use lib.Seq.{drop-at}
 use lib.IntN.{ℤ, pos, negsuc}
 use Rattle.rules.specs.Limit.{code, _≼_, fromNone}
 use Rattle.rules.specs.Table.{TableRule}
-use Rattle.rules.specs.Call.{Call, enrol, grant, revoke, downgrade, askReach, askUse, fresh}
+use Rattle.rules.specs.Call.{Call, enrol, grant, revoke, downgrade, askReach, askUse, setMarks, fresh}
 use Rattle.rules.specs.Ranges.{FromTo, Unused, CutInRange, InRange}
 use Rattle.rules.proofs.Table.{steps-rule}
 use Rattle.rules.proofs.Calls.{fresh-formed}
@@ -47,7 +47,7 @@ use Rattle.seatreg.proofs.AnswerBytes.{Fits32, length-answers, bytes-an
 
 -- ── answers in range have 32 bits ──
 module _ {a : ℤ} where
-  range-fits : {low high : ℕ} → high < 512 → FromTo low high a → Fits32 a
+  range-fits : {low high : ℕ} → high ≤ 512 → FromTo low high a → Fits32 a
   range-fits m (n, e, l, h) = rw e (omega arith)
 
   unused-fits : Unused a → Fits32 a
@@ -65,16 +65,17 @@ AllFit32 a b c = Fits32 a × Fits32 b × Fits32 c
 unused-fit : (a b c : ℤ) → AllUnused a b c → AllFit32 a b c
 unused-fit a b c (x, y, z) = (unused-fits x, unused-fits y, unused-fits z)
 
-cut-fits : (a b c : ℤ) → CutInRange a b c → AllFit32 a b c
-cut-fits a b c ((m, n, x, y, h), r) = (rw x (omega arith), rw y (omega arith), range-fits (omega arith) r)
+cut-fits : (most : ℕ) → most ≤ 512 → (a b c : ℤ) → CutInRange most a b c → AllFit32 a b c
+cut-fits most few a b c ((m, n, x, y, h), r) = (rw x (omega arith), rw y (omega arith), range-fits (omega arith) r)
 
 all-fit : (d : Call) (a b c : ℤ) → InRange d a b c → AllFit32 a b c
 all-fit (enrol m) a b c (r, y, z) = (range-fits (omega arith) r, unused-fits y, unused-fits z)
 all-fit (grant d) a b c (k, y, z) = (range-fits (omega arith) k, unused-fits y, unused-fits z)
-all-fit (revoke y g r) a b c h = cut-fits a b c h
-all-fit (downgrade y g r w) a b c h = cut-fits a b c h
+all-fit (revoke y g r) a b c h = cut-fits 511 (omega arith) a b c h
+all-fit (downgrade y g r w) a b c h = cut-fits 511 (omega arith) a b c h
 all-fit (askReach g r) a b c (f, h, y, z) = (reach-fits a f h, unused-fits y, unused-fits z)
 all-fit (askUse r) a b c (k, y, z) = (range-fits (omega arith) k, unused-fits y, unused-fits z)
+all-fit (setMarks y s m) a b c h = cut-fits 512 (omega arith) a b c h
 
 -- ── what is handed out, of a library call's result r that is kept ──
 apart : (n : ℕ) → eqb n 0 ≡ false → n ≢ 0

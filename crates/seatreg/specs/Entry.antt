@@ -1,5 +1,5 @@
 -- What every C entry point promises: one relation of what is given with the step table's text, the call, both buffers before, the number returned and both buffers after (document 01, 'Calls'; document 02,
--- C-11, C-13 and C-14). Assumes nothing.
+-- C-11 and C-13 to C-15). Assumes nothing.
 use mathlib.Core.Path.{_≡_}
 use mathlib.Core.Logic.{_≢_}
 use mathlib.Core.Bool.{cond}

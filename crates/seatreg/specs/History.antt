@@ -1,5 +1,5 @@
 -- Demand 3 for the entry points: one claim about a whole list of calls, each with a step table's text and an answers buffer of any length and content, reads of a register's text among them
--- (document 01, 'Calls'; document 02, C-11 and C-13).
+-- (document 01, 'Calls'; document 02, C-11, C-13 and C-15).
 -- Assumes nothing.
 use mathlib.Core.Path.{_≡_}
 use mathlib.Core.Bool.{true}
@@ -28,7 +28,7 @@ pub record EntryAsked : Type 0 where
 abbrev pub entryAskedOn : List ℕ → EntryAsked → Returned
 entryAskedOn b e = entryOf (askedOn b (e .asked)) b (e .answers)
 
--- where a call makes a change and is accepted, both buffers are right for that change by the table that its own text gives; an accepted read leaves the register that has its text, supported by the
+-- where a call makes a change and is accepted, both buffers are right for that change by the table that its own text gives, and nothing is lifted; an accepted read leaves the register that has its text, supported by the
 -- table that it was given, and answers 0, 0 and 0
 abbrev pub BuffersRight : List ℕ → Asked → Returned → Type 0
 BuffersRight b (asks text c) r = EntryCutsRight (given text .steps) b c r

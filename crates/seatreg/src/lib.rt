@@ -2,7 +2,7 @@
 mod answers;
 
 ghost use Rattle.rules.specs.Register.{granted};
-ghost use Rattle.rules.specs.Call.{enrol, grant, revoke, downgrade, askReach, askUse};
+ghost use Rattle.rules.specs.Call.{enrol, grant, revoke, downgrade, askReach, askUse, setMarks};
 ghost use Rattle.steptable.specs.TableText.{ours, given};
 ghost use Rattle.seatreg.specs.Entry.{EntryMade, EntryOpened, EntryCutMade, EntryReadMade, EntryWriteMade, EntryOrderMade};
 use rules::refusal;
@@ -187,6 +187,25 @@ pub extern "C" fn seatreg_downgrade_table(
         return refusal::WRONG_LENGTH;
     }
     let o = register::downgrade_table(block, by, giver, receiver, weight, table);
+    answers::hand_out(o, answers)
+}
+
+// Sets all marks of an enrolled subject, then as revoke by such a table, chains judged by the new marks.
+#[no_mangle]
+pub extern "C" fn seatreg_set_marks(
+    block: &mut [u8],
+    by: u32,
+    subject: u32,
+    marks: u32,
+    table: &[u8],
+    answers: &mut [u8],
+) -> u32
+    ensures { λ r. ⌜ EntryCutMade (given (now (table .entry))) (setMarks by subject marks) (now (block .entry)) (now (answers .entry)) r (now (block .exit)) (now (answers .exit)) ⌝ }
+{
+    if answers.len() != answers::ANSWERS_SIZE {
+        return refusal::WRONG_LENGTH;
+    }
+    let o = register::set_marks(block, by, subject, marks, table);
     answers::hand_out(o, answers)
 }
 

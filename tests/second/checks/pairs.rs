@@ -1,7 +1,7 @@
 //! The generated cases realise every refusal of every call, and every two
 //! that can apply at once.
 
-use generate::{cases, orders, KINDS};
+use generate::{cases, marks, orders, KINDS};
 use second::casefile::answer_table;
 use second::engine::FAST;
 use second::refusal::{applying, tests, Call, ALL_CALLS};
@@ -21,6 +21,7 @@ fn refusals(call: Call) -> &'static [u32] {
         Call::Downgrade => &[1, 2, 3, 5, 6, 7, 17, 8, 9, 13, 14, 15],
         Call::Chain => &[1, 2, 5, 6, 7, 17, 8, 9, 13, 16],
         Call::Order => &[1, 2, 6, 7, 17, 8, 9],
+        Call::SetMarks => &[1, 2, 4, 6, 7, 17, 8, 9, 14],
     }
 }
 
@@ -66,7 +67,7 @@ fn never_alone(call: Call) -> &'static [u32] {
         // 2 with 9: a subject above 63 is never enrolled; or with 1 or 8.
         // 3 with 16: no reach is above 255.
         Call::Grant => &[2, 3],
-        Call::Reach | Call::Use | Call::Order => &[2],
+        Call::Reach | Call::Use | Call::Order | Call::SetMarks => &[2],
         // 5, 6 with 13: such a pair never stands. 9 with 13, or with 14 if it
         // is by that isn't enrolled.
         Call::Revoke => &[2, 5, 6, 9],
@@ -99,7 +100,7 @@ impl Realised {
 
 fn realised() -> BTreeMap<Call, Realised> {
     let mut all: BTreeMap<Call, Realised> = BTreeMap::new();
-    for kind in KINDS.iter().chain([&orders::KIND]) {
+    for kind in KINDS.iter().chain([&orders::KIND, &marks::KIND]) {
         let mut block = Vec::new();
         for case in cases(kind) {
             block = case.block.clone().unwrap_or(block);

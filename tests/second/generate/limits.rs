@@ -47,6 +47,7 @@ fn base(call: Call) -> Passed {
         Call::Use => use_right(2),
         Call::Chain => chain(1, 2, 126),
         Call::Order => order(2, 128),
+        Call::SetMarks => set_marks(0, 2, 7),
     }
 }
 
@@ -62,6 +63,7 @@ fn on_all(call: Call) -> Passed {
         Call::Use => use_right(63),
         Call::Chain => chain(63, 62, 126),
         Call::Order => order(63, 128),
+        Call::SetMarks => set_marks(0, 63, 7),
     }
 }
 
@@ -85,10 +87,12 @@ fn columns(register: &Register, n: Passed) -> Vec<Case> {
 
 /// The accepted call on a block that is cut off or continued with zeros.
 fn lengths(call: Call) -> Vec<Case> {
-    let with = |length| {
-        let mut block = encode(&few());
-        block.resize(length, 0);
-        on(&block, base(call))
-    };
-    LENGTHS.map(with).to_vec()
+    LENGTHS.map(|length| of_length(&few(), length, base(call))).to_vec()
+}
+
+/// A call on a register's block that has another length.
+pub fn of_length(register: &Register, length: usize, n: Passed) -> Case {
+    let mut block = encode(register);
+    block.resize(length, 0);
+    on(&block, n)
 }

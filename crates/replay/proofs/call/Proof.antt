@@ -84,11 +84,23 @@ returns-6 c =
     let s = c .before .before .before .before .before .before .before .before .before .before in
     call-named (s .args .number) (named s) (s .args .table .now) (s .args .block .now) _ _ 5 (c .before .before .if6 .taken) tt (c .use-right .ensures)
 
+set-marks-requires : tie.Need-set-marks-requires
+set-marks-requires c κs = search needs
+
+same-length-7 : tie.Need-same-length-7
+same-length-7 c = search needs
+
 returns-7 : tie.Need-returns-7
+unfolding callOf
 returns-7 c =
-    let s = c .before .before .before .before .before .before .before .before in
+    let s = c .before .before .before .before .before .before .before .before .before .before .before .before .before in
+    call-named (s .args .number) (named s) (s .args .table .now) (s .args .block .now) _ _ 6 (c .before .before .before .before .if7 .taken) tt (c .before .before .set-marks .ensures .outcome)
+
+returns-8 : tie.Need-returns-8
+returns-8 c =
+    let s = c .before .before .before .before .before .before .before .before .before in
     call-other (s .args .number) (named s) (s .args .table .now) (s .args .block .now) _ _
-    (no-call (s .args .number) (c .before .before .before .before .before .if1 .left) (c .before .before .before .before .if2 .left) (c .before .before .before .if3 .left) (c .before .before .if4 .left) (c .before .if5 .left) (c .if6 .left)) refl refl
+    (no-call (s .args .number) (c .before .before .before .before .before .before .if1 .left) (c .before .before .before .before .before .if2 .left) (c .before .before .before .before .if3 .left) (c .before .before .before .if4 .left) (c .before .before .if5 .left) (c .before .if6 .left) (c .if7 .left)) refl refl
 
 pub call-spec : {M : Type 1} → statement M
 call-spec =
@@ -112,4 +124,7 @@ call-spec =
     use-right-requires
     same-length-6
     returns-6
-    returns-7)
+    set-marks-requires
+    same-length-7
+    returns-7
+    returns-8)
