@@ -1,4 +1,4 @@
--- P1 to P8 of document 01, and the example of raises, on bytes: the calls on bytes followed down a list from the block that open writes. Assumes nothing.
+-- P1 to P8 of document 01, and the examples of raises and of marks, on bytes: the calls on bytes followed down a list from the block that open writes. Assumes nothing.
 use mathlib.Core.List.{[], _++_, map}
 use lib.ListN.{length, take, drop}
 use Rattle.rules.specs.Examples.{Line, line, Example, Shown}

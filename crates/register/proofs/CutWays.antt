@@ -1,4 +1,4 @@
--- The ways of a cut: what the rounds after the named change leave, and that it is the best remainder. Assumes nothing.
+-- The ways of a call that makes a change: what the rounds after it leave, and that it is the best remainder. Assumes nothing.
 use mathlib.Core.Path.{_≡_, refl, sym, ap, subst, _∙_}
 use mathlib.Core.Logic.{_≢_}
 use mathlib.Core.Bool.{true}

@@ -1,5 +1,5 @@
--- Demand 3 in its register form: at every place of every list of calls the outcome is that of the definitions followed down the list, and each accepted cut leaves the best
--- remainder. Assumes nothing.
+-- Demand 3 in its register form: at every place of every list of calls the outcome is that of the definitions followed down the list, and each accepted call that makes a change leaves
+-- the best remainder and lifts nothing. Assumes nothing.
 use mathlib.Core.Path.{_≡_, refl, sym, subst}
 use mathlib.Core.List.{List, _++_, List·Memᴰ·not-nil}
 use Prim.Native.Nat.{ℕ}
@@ -42,7 +42,7 @@ module _ (t : List ℤ) (rule : TableRule t) where
     rounds = (settle t C .changed, refl, settle-right t C);
   }
 
-  -- one call, on any well-formed register, supported or not: an accepted cut leaves the best remainder, and lifts nothing
+  -- one call, on any well-formed register, supported or not: where it makes a change and is accepted it leaves the best remainder, and lifts nothing
   pub callStep-cut : (R : Register) → WellFormed R → (c : Call) → CutsRight t R c (callStep t R c)
   callStep-cut R f c k i = callStep-cases t R c (λ (o : Outcome). o .refusal ≡ 0 → CutRight t C o × LiftsNothing R (o .left)) (λ z p e. right p) (λ n e. absurd (n e))
     where

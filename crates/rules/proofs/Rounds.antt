@@ -1,4 +1,4 @@
--- The rounds of a cut end, in one way, and what they leave is the best remainder: for every register after a named change. Assumes nothing.
+-- Rounds end, in one way, and what they leave is the best remainder: for every register after a change. Assumes nothing.
 use mathlib.Core.Path.{_≡_, refl, sym, ap, subst, _∙_}
 use mathlib.Core.Logic.{_≢_, _⊎_, inl, inr}
 use mathlib.Core.Bool.{Bool, true, false, not}
@@ -222,6 +222,6 @@ module _ (t : List ℤ) where
           best = λ G r. b .best G record { within = round-keeps C G r; supported = r .supported };
         }
 
-    -- THE THEOREM: whatever the register after the named change, what the rounds leave is its best remainder
+    -- THE THEOREM: whatever the register after the change, what the rounds leave is its best remainder
     pub settle-best : (C : Register) → Best t C (settle t C .left)
     settle-best C = settles-best (settle t C .changed) C (settle t C .left) (settle-right C)

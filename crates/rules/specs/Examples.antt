@@ -1,4 +1,4 @@
--- P1 to P8 of document 01 ('Register examples'), as lists of calls with what document 01 says comes out; one of document 02's C-12; a list in which the step table changes from call to call; and an order of C-14. Assumes nothing.
+-- P1 to P8 of document 01 ('Register examples'), as lists of calls with what document 01 says comes out; those of document 02's C-12 and C-15; a list in which the step table changes from call to call; and an order of C-14. Assumes nothing.
 use mathlib.Core.Bool.{cond}
 use mathlib.Core.List.{List, [], _∷_, _++_, map}
 use Prim.Native.Nat.{ℕ, zero, suc}
@@ -9,7 +9,7 @@ use Rattle.rules.specs.List.{tabulate}
 use Rattle.rules.specs.Limit.{none}
 use Rattle.rules.specs.Table.{steps}
 use Rattle.rules.specs.Register.{Delegation, Register, granted}
-use Rattle.rules.specs.Call.{Call, enrol, grant, revoke, downgrade, askReach, askUse, fresh, setMarks}
+use Rattle.rules.specs.Call.{Call, enrol, grant, revoke, downgrade, askReach, askUse, setMarks, fresh}
 use Rattle.rules.specs.CallStep.{Outcome, callStep}
 use Rattle.rules.specs.Trace.{traceFrom}
 use Rattle.rules.specs.History.{leftBy, trace}

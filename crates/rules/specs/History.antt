@@ -27,7 +27,7 @@ registerAt t cs i = stateFrom (callStep t) leftBy fresh cs i
 
 -- ── the demand ──
 
--- what an accepted cut answers and leaves, from the register C after its named change: the best remainder; dropped and lowered, counted against it; the rounds, as many as change
+-- what an accepted call that makes a change answers and leaves, from the register C after that change: the best remainder; dropped and lowered, counted against it; the rounds, as many as change
 -- something and the one that changes nothing
 pub record CutRight (t : List ℤ) (C : Register) (o : Outcome) : Type 0 where
   pub best : Best t C (o .left)

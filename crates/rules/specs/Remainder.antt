@@ -1,4 +1,4 @@
--- Remainders of a cut, and the best one (document 01, 'Calls'; both are its terms). C is the register after the named change. Assumes nothing.
+-- Remainders, and the best one (document 01, 'Calls'; both are its terms; document 02, C-15). C is the register after the change that rounds follow: competitors have its marks. Assumes nothing.
 use mathlib.Core.Path.{_≡_}
 use mathlib.Core.List.{List}
 use Prim.Native.Nat.{_≤_}

@@ -38,5 +38,5 @@ module _ {S A O : Type 0} (step : S → A → O) (left : O → S) where
 pub record PlaceRight {S A O : Type 0} (step : S → A → O) (Leaves : S → A → O → Type 0) (s : S) (c : A) (o : O) : Type 0 where
   -- (a) the refusal, the answers and what is left are those of the definitions
   pub outcome : o ≡ step s c
-  -- (b) what else is claimed of what is left: an accepted cut leaves the best remainder
+  -- (b) what else is claimed of what is left: where rounds follow, that it is the best remainder
   pub leaves : Leaves s c o

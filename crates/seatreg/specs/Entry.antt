@@ -82,7 +82,7 @@ EntryWriteMade b t a n t' a' = EntryFilled (writeRefusal b t) (λ s. s ≡ fileT
 abbrev pub EntryOrderMade : Given → (b : List ℕ) → ℕ → (t a : List ℕ) → ℕ → List ℕ → List ℕ → Type 0
 EntryOrderMade g b v t a n t' a' = EntryFilled (orderRefusalOn g b v t) (IsOrderBytes g b v) t a n t' a'
 
--- what an accepted cut leaves in both buffers: C is the register after its named change, and the bytes are those of three answers that are right for it
+-- what an accepted call that makes a change leaves in both buffers: C is the register after that change, and the bytes are those of three answers that are right for it
 pub record EntryCutRight (t : List ℤ) (C : Register) (r : Returned) : Type 0 where
   pub first : ℤ
   pub second : ℤ
