@@ -47,6 +47,11 @@ pub fn downgrade(block: &mut [u8], by: u32, giver: u32, receiver: u32, weight: u
     run(&FAST, &Passed { by, giver, receiver, weight, ..blank(Call::Downgrade) }, block)
 }
 
+/// Marks replaces all marks of the subject.
+pub fn set_marks(block: &mut [u8], by: u32, subject: u32, marks: u32) -> Outcome {
+    run(&FAST, &Passed { by, receiver: subject, need: marks, ..blank(Call::SetMarks) }, block)
+}
+
 pub fn reach(block: &[u8], giver: u32, receiver: u32) -> Outcome {
     answer(&FAST, &Passed { giver, receiver, ..blank(Call::Reach) }, b"", block)
 }
@@ -110,7 +115,9 @@ pub fn run_table(engine: &Engine, n: &Passed, text: &[u8], block: &mut [u8]) -> 
     match n.call {
         Call::Open => open(block),
         Call::Reach | Call::Use | Call::Chain | Call::Order => answer(engine, n, text, block),
-        Call::Enrol | Call::Grant | Call::Revoke | Call::Downgrade => change(engine, n, text, block),
+        Call::Enrol | Call::Grant | Call::Revoke | Call::Downgrade | Call::SetMarks => {
+            change(engine, n, text, block)
+        }
     }
 }
 
@@ -122,7 +129,7 @@ fn change(engine: &Engine, n: &Passed, text: &[u8], block: &mut [u8]) -> Outcome
     let answers = match n.call {
         Call::Enrol => add_subject(n, &mut register),
         Call::Grant => set_delegation(n, &mut register),
-        _ => cut(engine, &table, n, &mut register),
+        _ => change_and_settle(engine, &table, n, &mut register),
     };
     block.copy_from_slice(&encode(&register));
     accepted(answers)
@@ -162,13 +169,13 @@ fn set_delegation(n: &Passed, register: &mut Register) -> [i32; 3] {
     [register.delegations.len() as i32, 0, 0]
 }
 
-/// The named change, then the rounds.
-fn cut(engine: &Engine, table: &Table, n: &Passed, register: &mut Register) -> [i32; 3] {
-    if let Ok(at) = register.place(n.giver, n.receiver) {
-        match n.call {
-            Call::Revoke => drop(register.delegations.remove(at)),
-            _ => register.delegations[at].weight = n.weight as u8,
-        }
+/// The named change of a cut, or the subject's new marks, then the rounds.
+fn change_and_settle(engine: &Engine, table: &Table, n: &Passed, register: &mut Register) -> [i32; 3] {
+    match (n.call, register.place(n.giver, n.receiver)) {
+        (Call::SetMarks, _) => register.marks[n.receiver as usize] = n.need as u16,
+        (Call::Revoke, Ok(at)) => drop(register.delegations.remove(at)),
+        (Call::Downgrade, Ok(at)) => register.delegations[at].weight = n.weight as u8,
+        _ => {}
     }
     let counts = settle(engine, table, register);
     [counts.dropped as i32, counts.lowered as i32, counts.rounds as i32]

@@ -95,6 +95,7 @@ pub fn used_columns(call: Call) -> [bool; 6] {
         // The length of the buffer is passed as the weight in case files.
         Call::Chain => [0, 1, 1, 1, 0, 0],
         Call::Order => [0, 0, 1, 1, 0, 0],
+        Call::SetMarks => [1, 0, 1, 0, 1, 0],
     };
     columns.map(|used| used == 1)
 }

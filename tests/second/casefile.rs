@@ -18,6 +18,8 @@
 //! back its part, which gives the second of the whole buffer afterwards and the third
 //! of the part. Accepted, these two are 1 if the bytes are those that were counted,
 //! and the rest is kept; refused, 0 if nothing was written.
+//! In a file of the kind `marks`, whose lines are those of the kind `table`, 11 is
+//! set_marks: the subject is under receiver and the marks are under need.
 
 use crate::call::{chain_table, order_table, run_table, Outcome, Written};
 use crate::callfile::{from_values, joined, lines, read_values, used_only, values_of};

@@ -17,7 +17,7 @@ use crate::call::Outcome;
 use crate::callfile::{from_values, joined, lines, read_values, values_of};
 use crate::casefile::{answer_table, block_text, left_line, read_sized, MOST_BYTES};
 use crate::engine::Engine;
-use crate::refusal::{Call, Passed};
+use crate::refusal::{Passed, CALLS};
 use crate::regfile;
 
 /// A file, and the buffer of a write, has at most so many bytes.
@@ -103,7 +103,7 @@ fn asked(values: [u32; 7]) -> Option<Asked> {
     let asked = match values[0] {
         WRITE => Asked::Write(values[4]),
         READ => Asked::Read,
-        _ => Asked::Call(from_values(values).filter(|n| n.call != Call::Order)?),
+        _ => Asked::Call(from_values(values).filter(|n| CALLS.contains(&n.call))?),
     };
     (numbers(&asked) == values).then_some(asked)
 }

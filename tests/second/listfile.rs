@@ -3,26 +3,31 @@
 //! texts of the list's tables, `=` for those of the line before or `LENGTH:BYTES`,
 //! the list's numbers, nine for each call, and a full stop. The nine are the seven
 //! of the call file and, for a call that takes a table, where its text begins in
-//! the texts and how long it is.
+//! the texts and how long it is. Call 6, which is none of the call file's, is
+//! set_marks: the subject is under receiver and the marks are under need.
 //! A list is refused with 1 if its numbers are no whole calls, or a buffer has
 //! not the length of a block more than calls, a refusal a call, three answers a
 //! call, or a call's text is not within the texts; then with 7 if a call's number
-//! is none of the call file's. A refused list writes nothing. Else block 0 is
-//! open's, and each call is made on a copy of the block before; columns that it
-//! does not use are not looked at.
+//! is above 6. A refused list writes nothing. Else block 0 is open's, and each call
+//! is made on a copy of the block before; columns that it does not use are not
+//! looked at.
 //! Expected is a line `refusal BLOCK` with block 0, `=` if it is not written,
 //! and for each whole call what its refusal, answers and block hold, the line
 //! of a case file.
 
 use crate::block::{encode, Register, BLOCK_LEN};
 use crate::call::{run_table, Outcome};
-use crate::callfile::{from_values, used_only, CALLS_IN_FILE};
+use crate::callfile::{from_values, used_only, values_of};
 use crate::casefile::{block_text, left_line};
 use crate::engine::Engine;
-use crate::refusal::{takes_table, Passed, MALFORMED, WRONG_LENGTH};
+use crate::refusal::{takes_table, Call, Passed, MALFORMED, WRONG_LENGTH};
 
 /// Numbers of a call.
 pub const NUMBERS: usize = 9;
+
+/// The calls of a list, in the order of their numbers there.
+pub const CALLS_IN_LIST: [Call; 7] =
+    [Call::Enrol, Call::Grant, Call::Revoke, Call::Downgrade, Call::Reach, Call::Use, Call::SetMarks];
 
 /// Texts have at most so many bytes.
 pub const MOST_TEXTS: usize = 8192;
@@ -57,7 +62,7 @@ impl List {
         if !sized || calls.clone().any(|call| self.text(call).is_none()) {
             return WRONG_LENGTH;
         }
-        if calls.any(|call| call[0] as usize >= CALLS_IN_FILE) {
+        if calls.any(|call| passed(call).is_none()) {
             return MALFORMED;
         }
         0
@@ -104,9 +109,16 @@ fn made(engine: &Engine, list: &List) -> String {
     text
 }
 
-/// The call of nine numbers, if the first is a call's of the call file.
+/// The call of nine numbers, if the first is a call's.
 pub fn passed(numbers: &[u32]) -> Option<Passed> {
-    let values = numbers[..NUMBERS - 2].try_into().ok()?;
-    let n = from_values(values).filter(|n| (n.call as usize) < CALLS_IN_FILE)?;
-    Some(used_only(&n))
+    let mut values: [u32; 7] = numbers[..NUMBERS - 2].try_into().ok()?;
+    values[0] = *CALLS_IN_LIST.get(values[0] as usize)? as u32;
+    Some(used_only(&from_values(values)?))
+}
+
+/// The nine numbers of a call of lists whose text has this place.
+pub fn numbers_of(n: &Passed, (begin, length): (u32, u32)) -> [u32; NUMBERS] {
+    let [_, by, giver, receiver, weight, need, bar] = values_of(n);
+    let call = CALLS_IN_LIST.iter().position(|&call| call == n.call).unwrap_or(CALLS_IN_LIST.len());
+    [call as u32, by, giver, receiver, weight, need, bar, begin, length]
 }

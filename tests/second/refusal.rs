@@ -32,6 +32,8 @@ pub enum Call {
     Chain,
     /// Document 02, C-14. Numbers 8 and 9 are the write and the read of the kind `file`.
     Order = 10,
+    /// Document 02, C-15. The subject is the receiver.
+    SetMarks,
 }
 
 /// Document 01's calls, in the order of their numbers.
@@ -39,10 +41,10 @@ pub const CALLS: [Call; 8] = [
     Call::Enrol, Call::Grant, Call::Revoke, Call::Downgrade, Call::Reach, Call::Use, Call::Open, Call::Chain,
 ];
 
-/// Those and document 02's order.
-pub const ALL_CALLS: [Call; 9] = [
+/// Those and document 02's.
+pub const ALL_CALLS: [Call; 10] = [
     Call::Enrol, Call::Grant, Call::Revoke, Call::Downgrade, Call::Reach, Call::Use, Call::Open, Call::Chain,
-    Call::Order,
+    Call::Order, Call::SetMarks,
 ];
 
 /// A call and the numbers passed. Numbers that the call does not use are 0,
@@ -54,7 +56,7 @@ pub struct Passed {
     pub giver: u32,
     pub receiver: u32,
     pub weight: u32,
-    /// Enrol's marks are here.
+    /// The marks of enrol and set_marks are here.
     pub need: u32,
     pub bar: u32,
 }
@@ -81,9 +83,9 @@ pub struct Tests {
 
 use HeldTest::{Numbers as N, Reach, Register as R};
 
-/// The calls that reckon reach take a table.
+/// The calls that reckon reach take a table: all but these.
 pub fn takes_table(call: Call) -> bool {
-    matches!(call, Call::Grant | Call::Reach | Call::Revoke | Call::Downgrade | Call::Chain | Call::Order)
+    !matches!(call, Call::Open | Call::Enrol | Call::Use)
 }
 
 pub fn tests(call: Call) -> Tests {
@@ -110,6 +112,9 @@ pub fn tests(call: Call) -> Tests {
             &[(9, R(not_enrolled)), (13, R(stands_not)), (16, Reach(unsupported))],
         ),
         Call::Order => (&[(2, subjects), (6, to_owner)], &[(9, R(not_enrolled))]),
+        Call::SetMarks => {
+            (&[(2, subjects), (4, masks), (6, to_owner)], &[(9, R(not_enrolled)), (14, N(not_owner))])
+        }
     };
     Tests { passed, table, held }
 }
@@ -200,7 +205,7 @@ fn equal(n: &Passed) -> bool {
     n.giver == n.receiver
 }
 
-/// 6: receiver is the owner.
+/// 6: receiver is the owner, or the subject whose marks are set.
 fn to_owner(n: &Passed) -> bool {
     n.receiver == 0
 }
@@ -235,9 +240,14 @@ fn stands_not(n: &Passed, register: &Register) -> bool {
     register.standing(n.giver, n.receiver).is_none()
 }
 
-/// 14: by is neither giver nor owner.
+/// 14 for a cut: by is neither giver nor owner.
 fn not_entitled(n: &Passed) -> bool {
-    n.by != n.giver && n.by != 0
+    n.by != n.giver && not_owner(n)
+}
+
+/// 14 for set_marks: by is not the owner.
+fn not_owner(n: &Passed) -> bool {
+    n.by != 0
 }
 
 /// 15: new weight not below the present; a pair that doesn't stand has none.

@@ -105,11 +105,11 @@ fn every_text_of_a_list_is_read() {
     }
 }
 
-/// The texts of calls 1 to 4 are within the texts.
+/// The texts of calls 1 to 4 and 6 are within the texts.
 fn texts_fit(list: &List) -> bool {
     let end = |call: &[u32]| call[7] as u64 + call[8] as u64;
     let mut calls = list.numbers.chunks_exact(NUMBERS);
-    calls.all(|call| !(1..=4).contains(&call[0]) || end(call) <= list.texts.len() as u64)
+    calls.all(|call| ![1, 2, 3, 4, 6].contains(&call[0]) || end(call) <= list.texts.len() as u64)
 }
 
 /// The refusals are 1 and 7, 1 where both apply; nothing is written.

@@ -21,6 +21,7 @@ fn refusals(call: Call) -> &'static [u32] {
         Call::Downgrade => &[1, 2, 3, 5, 6, 7, 17, 8, 9, 13, 14, 15],
         Call::Chain => &[1, 2, 5, 6, 7, 17, 8, 9, 13, 16],
         Call::Order => &[1, 2, 6, 7, 17, 8, 9],
+        Call::SetMarks => &[1, 2, 4, 6, 7, 17, 8, 9, 14],
     }
 }
 
@@ -66,7 +67,7 @@ fn never_alone(call: Call) -> &'static [u32] {
         // 2 with 9: a subject above 63 is never enrolled; or with 1 or 8.
         // 3 with 16: no reach is above 255.
         Call::Grant => &[2, 3],
-        Call::Reach | Call::Use | Call::Order => &[2],
+        Call::Reach | Call::Use | Call::Order | Call::SetMarks => &[2],
         // 5, 6 with 13: such a pair never stands. 9 with 13, or with 14 if it
         // is by that isn't enrolled.
         Call::Revoke => &[2, 5, 6, 9],

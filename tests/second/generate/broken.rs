@@ -39,6 +39,7 @@ pub fn calls(call: Call) -> Vec<Passed> {
         Call::Use => vec![use_right(0), use_right(2)],
         Call::Chain => vec![chain(0, 1, 126), chain(2, 4, 126)],
         Call::Order => vec![order(1, 128), order(4, 128)],
+        Call::SetMarks => vec![set_marks(0, 2, 0)],
     }
 }
 

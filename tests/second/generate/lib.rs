@@ -143,6 +143,11 @@ pub fn order(receiver: u32, buffer: u32) -> Passed {
     Passed { receiver, weight: buffer, ..blank(Call::Order) }
 }
 
+/// The subject is passed as the receiver, the marks as the need.
+pub fn set_marks(by: u32, subject: u32, marks: u32) -> Passed {
+    Passed { by, receiver: subject, need: marks, ..blank(Call::SetMarks) }
+}
+
 /// The grant call of a listed delegation.
 pub fn grant_of(&(giver, receiver, weight, need, bar): &Grant) -> Passed {
     grant(giver as u32, receiver as u32, weight as u32, need as u32, bar as u32)

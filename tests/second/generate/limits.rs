@@ -47,6 +47,7 @@ fn base(call: Call) -> Passed {
         Call::Use => use_right(2),
         Call::Chain => chain(1, 2, 126),
         Call::Order => order(2, 128),
+        Call::SetMarks => set_marks(0, 2, 7),
     }
 }
 
@@ -62,6 +63,7 @@ fn on_all(call: Call) -> Passed {
         Call::Use => use_right(63),
         Call::Chain => chain(63, 62, 126),
         Call::Order => order(63, 128),
+        Call::SetMarks => set_marks(0, 63, 7),
     }
 }
 

@@ -89,7 +89,7 @@ fn wrong_lengths() -> Vec<List> {
 /// wrong.
 fn no_calls() -> Vec<List> {
     let mut lists = Vec::new();
-    for (at, number) in [(0, 6), (3, 7), (6, 6), (0, 256), (6, MOST)] {
+    for (at, number) in [(0, 7), (3, 7), (6, 7), (0, 256), (6, MOST)] {
         let mut list = list(&few());
         list.numbers[NUMBERS * at] = number;
         lists.push(list.clone());

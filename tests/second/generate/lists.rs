@@ -102,6 +102,7 @@ fn plausible(random: &mut Random, call: Call, table: &Table, register: &Register
         Call::Use => use_right(receiver),
         Call::Chain => chain(giver, receiver, random.pick(&[126, 126, 126, 127, 512, 125])),
         Call::Order => order(receiver, random.pick(&[128, 128, 128, 128, 128, 128, 127, 129])),
+        Call::SetMarks => plausible_marks(random, register, by, receiver),
     }
 }
 
@@ -144,6 +145,13 @@ fn plausible_grant(random: &mut Random, table: &Table, register: &Register, give
     };
     let (need, bar) = if random.chance(50) { random_masks(random, 7) } else { (0, 0) };
     grant(giver, receiver, weight, need as u32, bar as u32)
+}
+
+/// One of the lowest three marks gained or lost, or other marks; most by the owner.
+fn plausible_marks(random: &mut Random, register: &Register, by: u32, subject: u32) -> Passed {
+    let (changed, any) = (register.marks_of(subject) as u32 ^ 1 << random.below(3), random.below(8));
+    let marks = random.pick(&[changed, changed, changed, any, 65_535]);
+    set_marks(random.pick(&[0, 0, 0, 0, 0, 0, by]), subject, marks)
 }
 
 /// The call with some number in one of the columns that it uses.

@@ -2,8 +2,7 @@
 
 use super::*;
 use second::block::encode;
-use second::callfile::values_of;
-use second::listfile::{lengths, List, MOST_TEXTS, NUMBERS};
+use second::listfile::{lengths, numbers_of, List, MOST_TEXTS, NUMBERS};
 use second::random::{random_table, Random};
 
 const MOST: u32 = 4_294_967_295;
@@ -30,8 +29,8 @@ pub fn all() -> Vec<List> {
 
 /// A list of calls, each with the place of its text, and the lengths that they need.
 pub fn under(texts: &[u8], calls: &[(Passed, Place)]) -> List {
-    let numbers = |(n, (begin, length)): &(Passed, Place)| [&values_of(n)[..], &[*begin, *length]].concat();
-    List { lengths: lengths(calls.len()), texts: texts.to_vec(), numbers: calls.iter().flat_map(numbers).collect() }
+    let numbers = calls.iter().flat_map(|(n, place)| numbers_of(n, *place)).collect();
+    List { lengths: lengths(calls.len()), texts: texts.to_vec(), numbers }
 }
 
 /// Two texts that pass, one of another form and one that breaks a rule.
@@ -149,7 +148,7 @@ fn outside(texts: &[u8], places: &[Place]) -> Vec<List> {
 /// outside too.
 fn no_calls() -> Vec<List> {
     let mut lists = Vec::new();
-    for (number, place) in [(6, (0, MOST)), (7, (MOST, 1)), (MOST, (MOST, MOST))] {
+    for (number, place) in [(7, (0, MOST)), (7, (MOST, 1)), (MOST, (MOST, MOST))] {
         let mut list = under(&texts(), &few());
         list.numbers[4 * NUMBERS] = number;
         list.numbers[4 * NUMBERS + 7] = place.0;
