@@ -69,6 +69,7 @@ fn rows() -> Vec<Row> {
         row("  64 delegations, distinct marks", &encode(&ring()), passed(Call::Revoke, 0, 63, 1, 0), 1),
         row("  a star of 63 delegations", &encode(&star()), passed(Call::Revoke, 0, 0, 63, 0), 1),
         row("  8 subjects, weights 9 and 5", &small, passed(Call::Revoke, 0, 0, 7, 0), 2),
+        row("marks set, full register, one round", &block, Passed { need: 64, ..passed(Call::SetMarks, 0, 0, 63, 0) }, 1),
         row("downgrade of the example P5", &encode(&p5()), passed(Call::Downgrade, 0, 0, 2, 2), 3),
         row("revoke of 256 rounds, 6 delegations", &encode(&countdown()), passed(Call::Revoke, 0, 0, 3, 0), 256),
         row("revoke of 485 rounds", &deep, rounds::FIRST_CUT, 485),
