@@ -44,7 +44,7 @@ generate() {
 }
 
 # The kinds of cases, in the order in which the program crates/cases runs them.
-kinds="base reach chain cut table raise file order"
+kinds="base reach chain cut table raise file order marks"
 
 # take FILES EXPECTED: generated files as they are committed.
 # shellcheck disable=SC2086

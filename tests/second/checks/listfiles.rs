@@ -4,15 +4,14 @@ use generate::callfiles::file;
 use crate::faults::TEXT_LEFT_OUT;
 use generate::{list_files, listfiles, textlists};
 use second::block::decode;
-use second::callfile::{from_values, print, used_only, MOST_INPUT};
+use second::callfile::{print, MOST_INPUT};
 use second::casefile::read_block;
 use second::engine::{FAST, LITERAL};
-use second::listfile::{expected_lines, lengths, List, MOST_TEXTS, NUMBERS};
-use second::refusal::Passed;
+use second::listfile::{expected_lines, lengths, passed, List, MOST_TEXTS, NUMBERS};
+use second::refusal::{Call, Passed};
 
 fn calls(list: &List) -> Vec<Passed> {
-    let of = |numbers: &[u32]| used_only(&from_values(numbers[..7].try_into().unwrap()).unwrap());
-    list.numbers.chunks_exact(NUMBERS).map(of).collect()
+    list.numbers.chunks_exact(NUMBERS).map(|numbers| passed(numbers).unwrap()).collect()
 }
 
 fn accepted() -> Vec<List> {
@@ -24,12 +23,17 @@ fn answers(expected: &str) -> Vec<&str> {
     expected.lines().skip(1).map(|line| line.rsplit_once(' ').unwrap().0).collect()
 }
 
-/// Those that are lent no texts, as call files are.
+fn sets_marks(list: &List) -> bool {
+    calls(list).iter().any(|n| n.call == Call::SetMarks)
+}
+
+/// Those that are lent no texts, as call files are, and set no marks.
 #[test]
 fn a_list_answers_as_its_call_file() {
-    let without_texts: Vec<List> = accepted().into_iter().filter(|list| list.texts.is_empty()).collect();
-    assert!(without_texts.len() > 15);
-    for list in without_texts {
+    let of_calls = |list: &List| list.texts.is_empty() && !sets_marks(list);
+    let of_calls: Vec<List> = accepted().into_iter().filter(of_calls).collect();
+    assert!(of_calls.len() > 15);
+    for list in of_calls {
         let printed = String::from_utf8(print(&FAST, &file("", &calls(&list)).input)).unwrap();
         let printed: Vec<&str> = printed.lines().skip(1).collect();
         assert_eq!(answers(&expected_lines(&FAST, &list)), printed);
@@ -128,11 +132,11 @@ fn refused_lists_write_nothing() {
         assert!(expected.lines().skip(1).all(|line| line == "77 -7 -7 -7 ="));
         assert_eq!(expected.lines().count(), 1 + list.calls());
     }
-    // 36 parts of calls, 13 lengths and 5 of both, 6 beside texts; 10 and 4 places
-    // for each of four calls and 3 beside a number that is no call's; 5 and 3 such
-    // numbers.
-    assert_eq!(outside, 4 * (10 + 4) + 3);
-    assert_eq!((wrong, malformed), (36 + 13 + 5 + 6 + outside, 5 + 3));
+    // 36 parts of calls, 13 lengths and 5 of both, 6 beside texts and 3 beside marks; 10
+    // and 4 places for each of five calls and 3 beside a number that is no call's; 5, 3
+    // and 4 such numbers.
+    assert_eq!(outside, 5 * (10 + 4) + 3);
+    assert_eq!((wrong, malformed), (36 + 13 + 5 + 6 + 3 + outside, 5 + 3 + 4));
 }
 
 #[test]

@@ -1,7 +1,7 @@
 //! The generated cases realise every refusal of every call, and every two
 //! that can apply at once.
 
-use generate::{cases, orders, KINDS};
+use generate::{cases, marks, orders, KINDS};
 use second::casefile::answer_table;
 use second::engine::FAST;
 use second::refusal::{applying, tests, Call, ALL_CALLS};
@@ -100,7 +100,7 @@ impl Realised {
 
 fn realised() -> BTreeMap<Call, Realised> {
     let mut all: BTreeMap<Call, Realised> = BTreeMap::new();
-    for kind in KINDS.iter().chain([&orders::KIND]) {
+    for kind in KINDS.iter().chain([&orders::KIND, &marks::KIND]) {
         let mut block = Vec::new();
         for case in cases(kind) {
             block = case.block.clone().unwrap_or(block);

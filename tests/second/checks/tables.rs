@@ -2,7 +2,7 @@
 
 use super::same;
 use crate::faults::{ONE_ROUND, TEXT_LEFT_OUT};
-use generate::{broken, enrol, open, orders, reach, register, tables, texts, use_right};
+use generate::{broken, enrol, marks, open, orders, reach, register, tables, texts, use_right};
 use second::block::{decode, encode, Register};
 use second::call::{run, run_table};
 use second::casefile::answer_table;
@@ -199,7 +199,7 @@ fn calls_are_accepted_under_every_table() {
 #[test]
 fn other_calls_take_no_table() {
     let taking: Vec<Call> = ALL_CALLS.into_iter().filter(|&call| takes_table(call)).collect();
-    assert_eq!(taking.iter().collect::<BTreeSet<_>>(), orders::CALLS.iter().collect());
+    assert_eq!(taking.iter().collect::<BTreeSet<_>>(), orders::CALLS.iter().chain(&marks::CALLS).collect());
     for (n, text) in [open(), enrol(3), use_right(2)].iter().zip([&b"\n"[..], b"0", &[0; 4096]]) {
         let (mut with, mut without) = (encode(&broken::valid()), encode(&broken::valid()));
         assert_eq!(run_table(&FAST, n, text, &mut with), run(&FAST, n, &mut without));

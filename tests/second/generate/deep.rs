@@ -89,23 +89,28 @@ fn long_cuts() -> Vec<Case> {
     cases
 }
 
-/// Cuts of at least four rounds on random registers, supported or not, and
-/// of at least seven.
+/// A random register on which changes often take several rounds, supported or not.
+pub fn random_start(random: &mut Random) -> Register {
+    let shape = Shape {
+        subjects: random.range(5, 12),
+        delegations: random.range(10, 40),
+        weights: random.pick(&[&[255, 255, 254][..], &[255][..], &[255, 255, 255, 40, 7][..]]),
+        marks: 7,
+        conditions: random.pick(&[50, 80]),
+    };
+    let mut start = random_register(random, &shape);
+    if random.chance(60) {
+        settle(&FAST, &OURS, &mut start);
+    }
+    start
+}
+
+/// Cuts of at least four rounds on random registers, and of at least seven.
 fn random_rounds() -> Vec<Case> {
     let mut random = Random::new(0x40D5);
     let mut cases = Vec::new();
     while cases.len() < 60 {
-        let shape = Shape {
-            subjects: random.range(5, 12),
-            delegations: random.range(10, 40),
-            weights: random.pick(&[&[255, 255, 254][..], &[255][..], &[255, 255, 255, 40, 7][..]]),
-            marks: 7,
-            conditions: random.pick(&[50, 80]),
-        };
-        let mut start = random_register(&mut random, &shape);
-        if random.chance(60) {
-            settle(&FAST, &OURS, &mut start);
-        }
+        let start = random_start(&mut random);
         let least = if cases.len() < 30 { 4 } else { 7 };
         cases.extend(cut_of_rounds(&mut random, &start, least));
     }

@@ -18,6 +18,11 @@ impl Example {
         let grants = self.grants.iter().map(grant_of);
         enrolments.chain(grants).chain(self.then.iter().copied()).collect()
     }
+
+    /// The register after its enrolments and grants.
+    pub fn built(&self) -> Register {
+        register(&[&[0], self.marks].concat(), &self.grants)
+    }
 }
 
 /// A grant without a condition.

@@ -1,5 +1,5 @@
 //! The cases that every implementation is compared on: block-level ones in
-//! five kinds, those of register files, orders, lists of calls, and call files.
+//! five kinds, those of register files, orders, marks, lists of calls, and call files.
 
 pub mod broken;
 pub mod callfiles;
@@ -11,6 +11,9 @@ pub mod limits;
 pub mod listfiles;
 pub mod lists;
 pub mod malformed;
+pub mod marklists;
+pub mod markregisters;
+pub mod marks;
 pub mod orderregisters;
 pub mod orders;
 pub mod raises;
@@ -66,6 +69,7 @@ pub fn cases(kind: &Kind) -> Vec<Case> {
         "table" => return tables::cases(),
         "raise" => return raises::cases(),
         "order" => return orders::cases(),
+        "marks" => return marks::cases(),
         _ => {}
     }
     let mut cases = Vec::new();

@@ -87,10 +87,12 @@ fn columns(register: &Register, n: Passed) -> Vec<Case> {
 
 /// The accepted call on a block that is cut off or continued with zeros.
 fn lengths(call: Call) -> Vec<Case> {
-    let with = |length| {
-        let mut block = encode(&few());
-        block.resize(length, 0);
-        on(&block, base(call))
-    };
-    LENGTHS.map(with).to_vec()
+    LENGTHS.map(|length| of_length(&few(), length, base(call))).to_vec()
+}
+
+/// A call on a register's block that has another length.
+pub fn of_length(register: &Register, length: usize, n: Passed) -> Case {
+    let mut block = encode(register);
+    block.resize(length, 0);
+    on(&block, n)
 }

@@ -14,14 +14,15 @@ const MOST: u32 = 4_294_967_295;
 pub fn all() -> Vec<List> {
     let mut all = vec![list(&[]), list(&few())];
     all.extend(examples());
-    all.push(unused_columns());
+    all.push(unused_columns(&few()));
     all.extend(parts_of_calls());
     all.extend(wrong_lengths());
     all.extend(no_calls());
-    all.extend(random_lists(0x4E91, lists::likely));
+    all.extend(random_lists(0x4E91, lists::likely, &lists::FILE));
     all.extend(textlists::all());
     all.extend(raises::examples().iter().map(|example| list(&example.calls())));
-    all.extend(random_lists(0x4E92, raises::likely));
+    all.extend(random_lists(0x4E92, raises::likely, &lists::FILE));
+    all.extend(marklists::all());
     all
 }
 
@@ -43,9 +44,9 @@ fn examples() -> Vec<List> {
 }
 
 /// A number in every column that a call does not use.
-fn unused_columns() -> List {
-    let mut list = list(&few());
-    for (call, n) in list.numbers.chunks_exact_mut(NUMBERS).zip(few()) {
+pub fn unused_columns(calls: &[Passed]) -> List {
+    let mut list = list(calls);
+    for (call, n) in list.numbers.chunks_exact_mut(NUMBERS).zip(calls) {
         for (number, used) in call[1..].iter_mut().zip(used_columns(n.call)) {
             if !used {
                 *number = MOST;
@@ -99,8 +100,8 @@ fn no_calls() -> Vec<List> {
     lists
 }
 
-fn random_lists(seed: u64, draw: lists::Draw) -> Vec<List> {
+pub fn random_lists(seed: u64, draw: lists::Draw, calls: &[Call]) -> Vec<List> {
     let mut random = Random::new(seed);
-    let mut drawn = |length| list(&lists::list(draw, &mut random, &lists::FILE, length));
+    let mut drawn = |length| list(&lists::list(draw, &mut random, calls, length));
     [30, 30, 30, 30, MOST_CALLS].map(|length| drawn(length)).to_vec()
 }

@@ -4,6 +4,7 @@ use super::*;
 use second::block::{decode, encode};
 use second::callfile::{from_values, used_columns, values_of};
 use second::casefile::answer_table;
+use second::cut::settle;
 use second::engine::FAST;
 use second::random::{random_masks, Random};
 use second::search::reach_table;
@@ -48,6 +49,12 @@ fn any_bytes(random: &mut Random) -> Vec<u8> {
         block[place] = random.next() as u8;
     }
     block
+}
+
+/// A block of a few subjects with some marks, and no delegation.
+pub fn without_delegations(random: &mut Random) -> Vec<u8> {
+    let marks: Vec<u16> = (1..random.range(5, 8)).map(|_| random.below(8) as u16).collect();
+    encode(&register(&[&[0], &marks[..]].concat(), &[]))
 }
 
 /// Draws a call on a register under a table.
@@ -102,7 +109,7 @@ fn plausible(random: &mut Random, call: Call, table: &Table, register: &Register
         Call::Use => use_right(receiver),
         Call::Chain => chain(giver, receiver, random.pick(&[126, 126, 126, 127, 512, 125])),
         Call::Order => order(receiver, random.pick(&[128, 128, 128, 128, 128, 128, 127, 129])),
-        Call::SetMarks => plausible_marks(random, register, by, receiver),
+        Call::SetMarks => plausible_marks(random, table, register, set_marks(by, receiver, 0)),
     }
 }
 
@@ -147,11 +154,26 @@ fn plausible_grant(random: &mut Random, table: &Table, register: &Register, give
     grant(giver, receiver, weight, need as u32, bar as u32)
 }
 
-/// One of the lowest three marks gained or lost, or other marks; most by the owner.
-fn plausible_marks(random: &mut Random, register: &Register, by: u32, subject: u32) -> Passed {
-    let (changed, any) = (register.marks_of(subject) as u32 ^ 1 << random.below(3), random.below(8));
-    let marks = random.pick(&[changed, changed, changed, any, 65_535]);
-    set_marks(random.pick(&[0, 0, 0, 0, 0, 0, by]), subject, marks)
+/// One of the lowest three marks gained or lost, or other marks; most by the owner, and
+/// with a change in the rounds if one is found in a few tries.
+fn plausible_marks(random: &mut Random, table: &Table, register: &Register, mut n: Passed) -> Passed {
+    n.by = random.pick(&[0, 0, 0, 0, 0, 0, n.by]);
+    for _ in 0..random.pick(&[1, 8]) {
+        let (changed, any) = (register.marks_of(n.receiver) as u32 ^ 1 << random.below(3), random.below(8));
+        n.need = random.pick(&[changed, changed, changed, any, 65_535]);
+        if rounds_after(table, register, &n) > 1 {
+            break;
+        }
+        n.receiver = random.range(1, register.marks.len().max(2) as u32 - 1);
+    }
+    n
+}
+
+/// How many rounds there are after the marks of a subject are set.
+pub fn rounds_after(table: &Table, register: &Register, n: &Passed) -> u32 {
+    let mut changed = register.clone();
+    changed.marks.iter_mut().skip(n.receiver as usize).take(1).for_each(|marks| *marks = n.need as u16);
+    settle(&FAST, table, &mut changed).rounds
 }
 
 /// The call with some number in one of the columns that it uses.

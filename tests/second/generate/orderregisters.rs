@@ -108,9 +108,8 @@ pub fn every_mark(barred: bool) -> Register {
 
 /// The registers of other kinds that are asked for every receiver.
 pub fn known() -> Vec<Register> {
-    let of_example = |example: &examples::Example| register(&[&[0], example.marks].concat(), &example.grants);
-    let mut all: Vec<Register> = examples::proved().iter().map(of_example).collect();
-    all.push(of_example(&examples::counting(0)));
+    let mut all: Vec<Register> = examples::proved().iter().map(|example| example.built()).collect();
+    all.push(examples::counting(0).built());
     all.extend([tables::ends(), tables::two_ways(252), raises::with_room(), raises::above_reach()]);
     all.extend([refusals::unsupported(), broken::valid()]);
     all

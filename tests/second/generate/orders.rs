@@ -29,7 +29,7 @@ pub fn cases() -> Vec<Case> {
     cases.extend(lent(b"", limits::cases(&KIND)));
     cases.extend(lent(b"", broken::cases(&KIND)));
     cases.extend(lent(b"", refusals::cases(&KIND)));
-    cases.extend(refused_texts());
+    cases.extend(tables::some_refused(&encode(&example()), [order(5, BUFFER), order(1, BUFFER)]));
     cases.extend(under_tables());
     cases.extend(under_drawn_tables());
     cases.extend(lent(b"", after_changes()));
@@ -80,22 +80,6 @@ fn buffers() -> Vec<Case> {
     let mut cases: Vec<Case> = BUFFERS.map(|buffer| on(&few, order(5, buffer))).to_vec();
     cases.extend(BUFFERS.map(|buffer| on(&all, order(63, buffer))));
     cases.extend(BUFFERS.map(|buffer| on(&encode(&register(&[0; 2], &[])), order(1, buffer))));
-    cases
-}
-
-/// Texts of another form, texts whose entries break a rule, and every set of refusals
-/// that apply at once with 7 or 17.
-fn refused_texts() -> Vec<Case> {
-    let block = encode(&example());
-    let short = texts::malformed().into_iter().map(|text| text.bytes).filter(|bytes| bytes.len() < 64);
-    let broken = texts::broken().into_iter().map(|text| text.bytes).step_by(9);
-    let mut cases = Vec::new();
-    for text in short.chain(broken) {
-        cases.extend(lent(&text, [order(5, BUFFER), order(1, BUFFER)].map(|n| on(&block, n))));
-    }
-    for text in texts::refused_at_the_end() {
-        cases.extend(lent(&text, tables::at_once(Call::Order, &text)));
-    }
     cases
 }
 
@@ -158,8 +142,7 @@ fn lists_of_calls() -> Vec<Case> {
 
 /// A list under one table: an order after each call.
 fn list(random: &mut Random, text: &[u8], calls: usize) -> Vec<Case> {
-    let marks: Vec<u16> = (1..random.range(5, 8)).map(|_| random.below(8) as u16).collect();
-    let mut block = encode(&register(&[&[0], &marks[..]].concat(), &[]));
+    let mut block = lists::without_delegations(random);
     let mut cases = vec![on(&block, reach(0, 1))];
     for _ in 0..calls {
         let drawn = [random.pick(&DRAWN), Call::Order];

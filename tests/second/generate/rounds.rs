@@ -35,6 +35,12 @@ const LAST: u16 = 256;
 pub const FIRST_CUT: Passed =
     Passed { call: Call::Revoke, by: 0, giver: 1, receiver: 12, weight: 0, need: 0, bar: 0 };
 
+/// Subject 12 loses the mark START, so that the first link has no chain: round 1 drops
+/// it, and all else goes a round later than after the first cut.
+pub const FIRST_MARKS: Passed = Passed {
+    call: Call::SetMarks, by: 0, giver: 0, receiver: 12, weight: 0, need: 12 | SECOND_SIDE as u32, bar: 0,
+};
+
 /// The marks of subjects 1 to 23.
 pub fn marks() -> Vec<u16> {
     let mut marks: Vec<u16> = (1..=11).map(|subject| subject | FIRST_SIDE | START).collect();

@@ -83,6 +83,21 @@ fn refusals() -> Vec<Case> {
     cases
 }
 
+/// Some texts of another form and some whose entries break a rule, with these calls of
+/// one kind, and every set of refusals that apply at once with 7 or 17.
+pub fn some_refused(block: &[u8], calls: [Passed; 2]) -> Vec<Case> {
+    let short = texts::malformed().into_iter().map(|text| text.bytes).filter(|bytes| bytes.len() < 64);
+    let broken = texts::broken().into_iter().map(|text| text.bytes).step_by(9);
+    let mut cases = Vec::new();
+    for text in short.chain(broken) {
+        cases.extend(lent(&text, calls.map(|n| on(block, n))));
+    }
+    for text in texts::refused_at_the_end() {
+        cases.extend(lent(&text, at_once(calls[0].call, &text)));
+    }
+    cases
+}
+
 /// One case for each that `told` tells from the others.
 pub fn at_once(call: Call, text: &[u8]) -> Vec<Case> {
     let mut seen = BTreeSet::new();

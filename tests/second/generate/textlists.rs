@@ -16,14 +16,14 @@ const TAKING: [Call; 4] = [Call::Grant, Call::Revoke, Call::Downgrade, Call::Rea
 pub fn all() -> Vec<List> {
     let texts = texts();
     let mut all = vec![under(&texts, &[]), example(), every_text(), ignored()];
-    all.extend(outside(&texts, &not_within(texts.len() as u32)));
+    all.extend(outside(&texts, &few(), &TAKING, &not_within(texts.len() as u32)));
     all.extend(no_calls());
     all.extend(wrong_lengths());
     all.push(longest_texts());
-    all.extend(outside(b"", &[(0, 1), (1, 0), (1, MOST), (MOST, MOST)]));
-    all.extend(random_lists(0x4E97, lists::likely));
+    all.extend(outside(b"", &few(), &TAKING, &NOT_WITHIN_NONE));
+    all.extend(random_lists(0x4E97, lists::likely, &lists::FILE));
     all.push(raised());
-    all.extend(random_lists(0x4E98, raises::likely));
+    all.extend(random_lists(0x4E98, raises::likely, &lists::FILE));
     all
 }
 
@@ -34,17 +34,17 @@ pub fn under(texts: &[u8], calls: &[(Passed, Place)]) -> List {
 }
 
 /// Two texts that pass, one of another form and one that breaks a rule.
-fn four() -> [Vec<u8>; 4] {
+pub fn four() -> [Vec<u8>; 4] {
     let [malformed, broken] = texts::refused_at_the_end();
     [texts::by_two().text(), malformed, broken, texts::level().text()]
 }
 
-fn texts() -> Vec<u8> {
+pub fn texts() -> Vec<u8> {
     four().concat()
 }
 
 /// The place of each of some texts that stand one after another.
-fn places(texts: &[Vec<u8>]) -> Vec<Place> {
+pub fn places(texts: &[Vec<u8>]) -> Vec<Place> {
     let mut begin = 0;
     let mut places = Vec::new();
     for text in texts {
@@ -83,16 +83,21 @@ pub fn raised() -> List {
     under(&texts(), &calls)
 }
 
-/// Every call under every text: the four, ours as an empty text at every end, and
-/// texts that overlap others, the last of them the first of the four again.
-pub fn every_text() -> List {
+/// The places of the four, of ours as an empty text at every end, and of texts that
+/// overlap others, the last of them the first of the four again.
+pub fn every_place() -> Vec<Place> {
     let whole = texts().len() as u32;
     let mut places = places(&four());
     let (second, length) = places[1];
     places.extend([(0, 0), (second, 0), (whole, 0), (0, whole), (second - 1, length), (second, length + 1)]);
     places.extend([(0, second - 1), (12, second - 12), (whole - 1, 1), (0, second)]);
+    places
+}
+
+/// Every call under the text of every place.
+pub fn every_text() -> List {
     let mut calls: Vec<(Passed, Place)> = [0, 1, 2, 3].map(|marks| (enrol(marks), (0, 0))).to_vec();
-    for place in places {
+    for place in every_place() {
         calls.push((grant(0, 3, 255, 0, 0), place));
         calls.extend([reach(3, 4), downgrade(3, 0, 3, 7), downgrade(0, 0, 3, 7)].map(|n| (n, place)));
         calls.extend([reach(3, 4), revoke(0, 0, 3), use_right(3)].map(|n| (n, place)));
@@ -110,8 +115,11 @@ fn longest_texts() -> List {
     under(&[0; MOST_TEXTS], &calls)
 }
 
+/// Places that are not within an empty text.
+pub const NOT_WITHIN_NONE: [Place; 4] = [(0, 1), (1, 0), (1, MOST), (MOST, MOST)];
+
 /// Places that are not within so many bytes, by one byte and by many.
-fn not_within(whole: u32) -> Vec<Place> {
+pub fn not_within(whole: u32) -> Vec<Place> {
     vec![
         (whole, 1), (whole + 1, 0), (0, whole + 1), (whole - 5, 6),
         (MOST, 0), (0, MOST), (MOST, MOST), (MOST, 1), (1, MOST), (MOST - whole, whole + 1),
@@ -133,11 +141,11 @@ fn ignored() -> List {
     under(&texts(), &calls)
 }
 
-/// Each place that is not within the texts, for each call that takes a table.
-fn outside(texts: &[u8], places: &[Place]) -> Vec<List> {
+/// Some calls with each place that is not within the texts, for each that takes a table.
+pub fn outside(texts: &[u8], few: &[(Passed, Place)], taking: &[Call], places: &[Place]) -> Vec<List> {
     let mut lists = Vec::new();
-    for (call, &place) in TAKING.iter().flat_map(|call| places.iter().map(move |place| (call, place))) {
-        let mut calls = few();
+    for (call, &place) in taking.iter().flat_map(|call| places.iter().map(move |place| (call, place))) {
+        let mut calls = few.to_vec();
         calls.iter_mut().filter(|(n, _)| n.call == *call).for_each(|(_, of_call)| *of_call = place);
         lists.push(under(texts, &calls));
     }
@@ -176,26 +184,26 @@ fn wrong_lengths() -> Vec<List> {
 }
 
 /// Lists in which the table changes from call to call.
-fn random_lists(seed: u64, draw: lists::Draw) -> Vec<List> {
+pub fn random_lists(seed: u64, draw: lists::Draw, calls: &[Call]) -> Vec<List> {
     let mut random = Random::new(seed);
     let mut lists = Vec::new();
     for _ in 0..2 {
         let [malformed, _] = texts::refused_at_the_end();
         let mut texts: Vec<Vec<u8>> = (0..3).map(|_| random_table(&mut random).text()).collect();
         texts.extend([malformed, Vec::new()]);
-        lists.extend([30, 30, 60].map(|length| drawn(&mut random, draw, &texts, length)));
+        lists.extend([30, 30, 60].map(|length| drawn(&mut random, draw, calls, &texts, length)));
     }
     lists
 }
 
-fn drawn(random: &mut Random, draw: lists::Draw, texts: &[Vec<u8>], length: usize) -> List {
+fn drawn(random: &mut Random, draw: lists::Draw, calls: &[Call], texts: &[Vec<u8>], length: usize) -> List {
     let places = places(texts);
     let mut block = encode(&Register::fresh());
-    let mut calls = Vec::new();
-    while calls.len() < length {
+    let mut list = Vec::new();
+    while list.len() < length {
         let at = random.below(texts.len() as u32) as usize;
-        let call = if calls.len() < 5 { Call::Enrol } else { random.pick(&lists::FILE) };
-        calls.push((lists::drawn(draw, random, call, &texts[at], &mut block), places[at]));
+        let call = if list.len() < 5 { Call::Enrol } else { random.pick(calls) };
+        list.push((lists::drawn(draw, random, call, &texts[at], &mut block), places[at]));
     }
-    under(&texts.concat(), &calls)
+    under(&texts.concat(), &list)
 }
