@@ -73,6 +73,7 @@ fn rows() -> Vec<Row> {
         row("downgrade of the example P5", &encode(&p5()), passed(Call::Downgrade, 0, 0, 2, 2), 3),
         row("revoke of 256 rounds, 6 delegations", &encode(&countdown()), passed(Call::Revoke, 0, 0, 3, 0), 256),
         row("revoke of 485 rounds", &deep, rounds::FIRST_CUT, 485),
+        row("marks set, 486 rounds", &deep, rounds::FIRST_MARKS, 486),
         row("the slowest cut recorded", slow::SLOW[0].block(), slow::SLOW[0].cut(), slow::SLOW[0].rounds),
         with_text(row("reach, full register, our text", &block, passed(Call::Reach, 0, 63, 62, 0), 0)),
         with_text(row("reach, 8 subjects, our text", &small, passed(Call::Reach, 0, 7, 6, 0), 0)),
