@@ -92,11 +92,21 @@ impl List {
             33..=44 => List::on_marks(random),
             45..=52 => List::on_orders(random),
             53..=61 => List::on_files(random),
-            62..=67 => List { left: random.range(10, 20), raises: true, ..List::on_full(random, conditions) },
+            62..=67 => List::on_raises(random),
             68..=83 => List { left: random.range(2, 10), cuts: true, ..List::on_dense(random) },
             84..=96 => List { left: random.range(10, 40), ..List::on_register(random, conditions, Kind::Spoiled) },
             _ => List { kind: Kind::Noise, opens: false, ..List::fresh(random, conditions, (0, 0), (5, 20)) },
         }
+    }
+
+    /// Most calls are grants for a standing pair, on well-formed registers, most of them full.
+    pub fn on_raises(random: &mut Random) -> List {
+        let (left, conditions) = (random.range(10, 20), random.pick(&[0, 20, 50, 80]));
+        let list = match random.below(10) {
+            0 | 1 => List::on_register(random, conditions, Kind::Formed),
+            _ => List::on_full(random, conditions),
+        };
+        List { left, raises: true, ..list }
     }
 
     /// Most calls set marks, on blocks of any content, in many of which all is supported, most of it under
