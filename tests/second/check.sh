@@ -29,7 +29,7 @@ build_tests() {
 }
 
 # Fewer tests than are written down here have not all been run.
-least_tests=146
+least_tests=176
 
 tests() {
     "$out/tests" --test-threads 1 >"$out/tests.log" 2>&1 || { cat "$out/tests.log"; return 1; }

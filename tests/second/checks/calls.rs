@@ -4,7 +4,7 @@
 
 use super::same;
 use crate::faults::{ONE_ROUND, TEXT_LEFT_OUT, VISITED_ONCE};
-use generate::{lists, raises, texts, unsupported};
+use generate::{drawnmarks, lists, marklists, raises, texts, unsupported};
 use second::block::{decode, encode, well_formed, Register, BLOCK_LEN};
 use second::call::{self, Outcome};
 use second::casefile::{answer, answer_table};
@@ -42,13 +42,19 @@ fn first_applying(n: &Passed, text: &[u8], block: &[u8]) -> u32 {
     order.into_iter().find(|number| all.contains(number)).unwrap_or(0)
 }
 
+/// What random lists are made of: how a call is drawn, and which calls there are.
+type Mix = (lists::Draw, &'static [Call]);
+
+const MIXES: [Mix; 3] =
+    [(lists::likely, &lists::CUT), (raises::likely, &lists::CUT), (drawnmarks::likely, &marklists::DRAWN)];
+
 /// Random lists of calls with an engine and with the definition.
-fn same_lists(engine: &Engine, draw: lists::Draw) -> Result<usize, String> {
+fn same_lists(engine: &Engine, (draw, calls): Mix) -> Result<usize, String> {
     let mut random = Random::new(0x1157);
     let mut accepted = 0;
     for _ in 0..250 {
         let mut block = encode(&Register::fresh());
-        for n in lists::list(draw, &mut random, &lists::CUT, 60) {
+        for n in lists::list(draw, &mut random, calls, 60) {
             let mut literal = block.clone();
             let due = first_applying(&n, b"", &block);
             let found = checked(engine, &n, b"", &mut block)?;
@@ -63,10 +69,10 @@ fn same_lists(engine: &Engine, draw: lists::Draw) -> Result<usize, String> {
 
 #[test]
 fn lists_are_literal() {
-    for draw in [lists::likely, raises::likely as lists::Draw] {
-        assert!(same_lists(&FAST, draw).unwrap() > 5000);
-        assert!(same_lists(&VISITED_ONCE, draw).is_err());
-        assert!(same_lists(&ONE_ROUND, draw).is_err());
+    for mix in MIXES {
+        assert!(same_lists(&FAST, mix).unwrap() > 5000);
+        assert!(same_lists(&VISITED_ONCE, mix).is_err());
+        assert!(same_lists(&ONE_ROUND, mix).is_err());
     }
 }
 
@@ -81,7 +87,7 @@ fn any_text(random: &mut Random, refused: &[Vec<u8>]) -> Vec<u8> {
 
 /// Lists of calls from blocks that are not supported, each call lent another
 /// text, with an engine and with the definition.
-fn same_lists_under_tables(engine: &Engine, draw: lists::Draw) -> Result<usize, String> {
+fn same_lists_under_tables(engine: &Engine, (draw, calls): Mix) -> Result<usize, String> {
     let mut random = Random::new(0x7AB5);
     let refused = texts::refused_at_the_end();
     let mut accepted = 0;
@@ -89,7 +95,7 @@ fn same_lists_under_tables(engine: &Engine, draw: lists::Draw) -> Result<usize, 
         let mut block = encode(&unsupported::random_unsupported(&mut random));
         for _ in 0..20 {
             let text = any_text(&mut random, &refused);
-            let call = random.pick(&lists::CUT);
+            let call = random.pick(calls);
             let register = decode(&block).ok_or("not well formed")?;
             let n = draw(&mut random, call, &Table::read(&text).unwrap_or(OURS), &register);
             let mut literal = block.clone();
@@ -106,11 +112,11 @@ fn same_lists_under_tables(engine: &Engine, draw: lists::Draw) -> Result<usize, 
 
 #[test]
 fn lists_under_tables_are_literal() {
-    for draw in [lists::likely, raises::likely as lists::Draw] {
-        assert!(same_lists_under_tables(&FAST, draw).unwrap() > 2000);
-        assert!(same_lists_under_tables(&VISITED_ONCE, draw).is_err());
-        assert!(same_lists_under_tables(&ONE_ROUND, draw).is_err());
-        assert!(same_lists_under_tables(&TEXT_LEFT_OUT, draw).is_err());
+    for mix in MIXES {
+        assert!(same_lists_under_tables(&FAST, mix).unwrap() > 2000);
+        assert!(same_lists_under_tables(&VISITED_ONCE, mix).is_err());
+        assert!(same_lists_under_tables(&ONE_ROUND, mix).is_err());
+        assert!(same_lists_under_tables(&TEXT_LEFT_OUT, mix).is_err());
     }
 }
 
@@ -124,7 +130,7 @@ fn calls_on_unsupported_blocks() {
         let start = encode(&register);
         for d in &register.delegations {
             let (giver, receiver) = (d.giver as u32, d.receiver as u32);
-            for call in [Call::Revoke, Call::Downgrade, Call::Chain, Call::Reach, Call::Use] {
+            for call in [Call::Revoke, Call::Downgrade, Call::Chain, Call::Reach, Call::Use, Call::SetMarks] {
                 let n = Passed { giver, receiver, weight: 126, ..call::blank(call) };
                 let mut block = start.clone();
                 let found = checked(&FAST, &n, b"", &mut block).unwrap();
@@ -190,4 +196,7 @@ fn public_calls() {
     assert_eq!((written.refusal, written.filled, &buffer[..7]), (0, 6, &[0, 255, 2, 6, 1, 5, 7][..]));
     assert_eq!(call::downgrade(&mut block, 0, 0, 2, 3), accepted([0, 1, 2]));
     assert_eq!(call::revoke(&mut block, 2, 2, 1), accepted([0, 0, 1]));
+    assert_eq!(call::set_marks(&mut block, 0, 2, 3), accepted([0, 0, 1]));
+    assert_eq!(decode(&block).map(|register| register.marks), Some(vec![0, 1, 3]));
+    assert_eq!(call::set_marks(&mut block, 2, 1, 3), Outcome { refusal: 14, answers: [0, 0, 0] });
 }

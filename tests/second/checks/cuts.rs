@@ -30,7 +30,7 @@ fn tiny(random: &mut Random, weights: &[u8], most: u64) -> Register {
     }
 }
 
-fn tiny_registers() -> Vec<Register> {
+pub fn tiny_registers() -> Vec<Register> {
     let mut random = Random::new(0x4E3A);
     let mut registers = Vec::new();
     registers.extend((0..1500).map(|_| tiny(&mut random, &[0, 1, 2, 3], 3000)));

@@ -2,6 +2,7 @@
 //! notice.
 
 use crate::faults::{TEXT_LEFT_OUT, VISITED_ONCE};
+use crate::generated::is_small;
 use crate::pairs::Realised;
 use crate::relaxed::RELAXED;
 use generate::registerfiles::BUFFERS;
@@ -111,18 +112,17 @@ fn compared(engine: &Engine, of: fn(&Bytes) -> bool) -> (u32, u32) {
     (all, differing)
 }
 
-fn is_small(on: &Bytes) -> bool {
-    let few = |register: Register| register.delegations.len() <= 16;
-    decode(&on.block).is_none_or(few) && Rows::read(&on.file).is_none_or(|rows| rows.delegations.len() <= 16)
+fn both_small(on: &Bytes) -> bool {
+    is_small(&on.block) && Rows::read(&on.file).is_none_or(|rows| rows.delegations.len() <= 16)
 }
 
 /// Small registers are run with the literal search, all with the relaxed one.
 #[test]
 fn expected_lines_follow_from_the_definition() {
-    let (small, differing) = compared(&LITERAL, is_small);
+    let (small, differing) = compared(&LITERAL, both_small);
     assert!(small > 1000 && differing == 0, "{small}");
     assert_eq!(compared(&RELAXED, |_| true).1, 0);
-    assert!(compared(&VISITED_ONCE, is_small).1 > 2);
+    assert!(compared(&VISITED_ONCE, both_small).1 > 2);
     assert!(compared(&TEXT_LEFT_OUT, |_| true).1 > 10);
 }
 

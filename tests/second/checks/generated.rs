@@ -7,7 +7,7 @@ use generate::{callfiles, cases, files, limits, Kind, KINDS};
 use second::block::{decode, BLOCK_LEN};
 use second::call::Outcome;
 use second::callfile::{print, used_columns, values_of, MOST_INPUT};
-use second::casefile::{answer_table, case_line, expected_text, read_case, Case, MOST_BYTES};
+use second::casefile::{answer_table, case_line, expected_line, expected_text, read_case, Case, MOST_BYTES};
 use second::engine::{Engine, FAST, LITERAL};
 use second::refusal::{Call, CALLS};
 use std::collections::BTreeSet;
@@ -25,27 +25,44 @@ pub fn with_blocks(kind: &Kind) -> Vec<Case> {
     all
 }
 
+/// The block of a case.
+pub fn block_of(case: &Case) -> &[u8] {
+    case.block.as_deref().unwrap_or_default()
+}
+
+/// The line that is expected of a case.
+pub fn recorded(engine: &Engine, case: &Case) -> String {
+    expected_line(engine, case, &mut Vec::new())
+}
+
 /// The outcome of a case on this block.
 fn answered(engine: &Engine, case: &Case, block: &mut [u8]) -> Outcome {
     answer_table(engine, &case.passed, case.lent(), block)
+}
+
+/// The files of some cases are small and read back. Answers the bytes of the cases and of
+/// what is expected of them.
+pub fn read_back(cases: &[Case]) -> (usize, usize) {
+    let (mut lines, mut bytes, mut expected) = (0, 0, 0);
+    for file in files(cases) {
+        assert!(file.cases.len() <= MOST_INPUT && file.expected.len() <= MOST_INPUT);
+        assert_eq!(expected_text(&FAST, file.cases.as_bytes()), Ok(file.expected.clone()));
+        assert!(file.cases.lines().next().is_some_and(|line| !line.contains('=')));
+        lines += file.cases.lines().count();
+        bytes += file.cases.len();
+        expected += file.expected.len();
+    }
+    assert_eq!(lines, cases.len());
+    (bytes, expected)
 }
 
 #[test]
 fn files_are_small_and_read_back() {
     let mut bytes = 0;
     for kind in &KINDS {
-        let cases = with_blocks(kind);
-        let files = files(&cases);
-        let mut lines = 0;
-        assert!(files.iter().map(|file| file.cases.len()).sum::<usize>() <= 550_000);
-        for file in &files {
-            assert!(file.cases.len() <= MOST_INPUT && file.expected.len() <= MOST_INPUT);
-            assert_eq!(expected_text(&FAST, file.cases.as_bytes()), Ok(file.expected.clone()));
-            assert!(file.cases.lines().next().is_some_and(|line| !line.contains('=')));
-            lines += file.cases.lines().count();
-            bytes += file.cases.len() + file.expected.len();
-        }
-        assert_eq!(lines, cases.len());
+        let (of_cases, of_expected) = read_back(&with_blocks(kind));
+        assert!(of_cases <= 550_000);
+        bytes += of_cases + of_expected;
     }
     bytes += callfiles::all().iter().map(|file| file.input.len() + print(&FAST, &file.input).len()).sum::<usize>();
     assert!(bytes < 4_000_000);
@@ -60,22 +77,28 @@ fn kinds_use_their_calls_only() {
     }
 }
 
-/// Columns that a call does not use are 0, and lengths are at most 4,096. A text
-/// is there in the kind `table`, and only there.
+/// Columns that a call does not use are 0, lengths are at most 4,096, and the line of the
+/// case reads back.
+pub fn keeps_the_form(case: &Case) {
+    let values = values_of(&case.passed);
+    let used = used_columns(case.passed.call);
+    assert!(values[1..].iter().zip(used).all(|(&value, used)| used || value == 0));
+    assert!(case.lent().len() <= MOST_BYTES && block_of(case).len() <= MOST_BYTES);
+    let has_buffer = matches!(case.passed.call, Call::Chain | Call::Order);
+    assert!(!has_buffer || case.passed.weight as usize <= MOST_BYTES);
+    for before in [None, case.text.as_deref()] {
+        let line = case_line(case, before);
+        assert_eq!(line.contains('='), before.is_some());
+        assert_eq!(read_case(line.trim_end().as_bytes(), case.lent()).as_ref(), Some(case));
+    }
+}
+
+/// A text is there in the kind `table`, and only there.
 #[test]
 fn lines_keep_the_form() {
     for (kind, case) in KINDS.iter().flat_map(|kind| with_blocks(kind).into_iter().map(move |case| (kind, case))) {
-        let values = values_of(&case.passed);
-        let used = used_columns(case.passed.call);
-        assert!(values[1..].iter().zip(used).all(|(&value, used)| used || value == 0));
-        assert!(case.block.as_ref().is_some_and(|block| block.len() <= MOST_BYTES));
-        assert!(case.passed.call != Call::Chain || case.passed.weight as usize <= MOST_BYTES);
-        assert!(case.text.is_some() == (kind.name == "table") && case.lent().len() <= MOST_BYTES);
-        for before in [None, case.text.as_deref()] {
-            let line = case_line(&case, before);
-            assert_eq!(line.contains('='), before.is_some());
-            assert_eq!(read_case(line.trim_end().as_bytes(), case.lent()).as_ref(), Some(&case));
-        }
+        keeps_the_form(&case);
+        assert_eq!(case.text.is_some(), kind.name == "table");
     }
 }
 
@@ -104,41 +127,41 @@ fn limits_are_covered() {
     assert!(limits::BUFFERS.iter().all(|buffer| buffers.contains(buffer)));
 }
 
-/// How many cases were run with an engine too, and how many had another result.
+/// How many cases were run with an engine too, and how many had another line.
 /// Chain is left out, since it has one search only.
-fn compared(engine: &Engine, of: fn(&[u8]) -> bool) -> (u32, u32) {
+pub fn compared(cases: &[Case], engine: &Engine, of: fn(&[u8]) -> bool) -> (u32, u32) {
     let (mut all, mut differing) = (0, 0);
-    for case in KINDS.iter().flat_map(with_blocks).filter(|case| case.passed.call != Call::Chain) {
-        let mut due = case.block.clone().unwrap_or_default();
-        if !of(&due) {
-            continue;
-        }
-        let mut found = due.clone();
-        let same = answered(&FAST, &case, &mut due) == answered(engine, &case, &mut found);
+    for case in cases.iter().filter(|case| case.passed.call != Call::Chain && of(block_of(case))) {
         all += 1;
-        differing += !(same && due == found) as u32;
+        differing += (recorded(&FAST, case) != recorded(engine, case)) as u32;
     }
     (all, differing)
 }
 
-fn is_small(block: &[u8]) -> bool {
+/// The literal search can be made on the block.
+pub fn is_small(block: &[u8]) -> bool {
     decode(block).is_none_or(|register| register.delegations.len() <= 16)
+}
+
+/// The cases of all kinds.
+fn all_cases() -> Vec<Case> {
+    KINDS.iter().flat_map(with_blocks).collect()
 }
 
 /// Small registers are run with the literal search, all with the relaxed one.
 #[test]
 fn expected_lines_follow_from_the_definition() {
-    let (small, differing) = compared(&LITERAL, is_small);
+    let (small, differing) = compared(&all_cases(), &LITERAL, is_small);
     assert!(small > 3000 && differing == 0);
-    let (all, differing) = compared(&RELAXED, |_| true);
+    let (all, differing) = compared(&all_cases(), &RELAXED, |_| true);
     assert!(all > 4500 && differing == 0);
 }
 
 #[test]
 fn faults_are_noticed_by_the_cases() {
-    assert!(compared(&ONE_ROUND, |_| true).1 > 50);
-    assert!(compared(&VISITED_ONCE, is_small).1 > 50);
-    assert!(compared(&TEXT_LEFT_OUT, |_| true).1 > 50);
+    assert!(compared(&all_cases(), &ONE_ROUND, |_| true).1 > 50);
+    assert!(compared(&all_cases(), &VISITED_ONCE, is_small).1 > 50);
+    assert!(compared(&all_cases(), &TEXT_LEFT_OUT, |_| true).1 > 50);
 }
 
 /// Every accepted chain is right.

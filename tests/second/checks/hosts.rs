@@ -1,9 +1,9 @@
 //! The calls of a host: what is in the 12 bytes, and when.
 
-use generate::{enrol, grant, open, orderregisters, reach, register, revoke, texts};
+use generate::{enrol, grant, markregisters, open, orderregisters, reach, register, revoke, rounds, set_marks, texts};
 use second::block::{encode, BLOCK_LEN};
 use second::engine::FAST;
-use second::host::{host_call, host_order, ANSWERS_LEN};
+use second::host::{host_call, host_call_table, host_order, ANSWERS_LEN};
 use second::refusal::Passed;
 
 /// What the bytes hold before a call.
@@ -56,7 +56,7 @@ fn refused_calls_write_nothing() {
 #[test]
 fn other_lengths_are_refused() {
     for length in (0..=20).filter(|&length| length != ANSWERS_LEN) {
-        for n in [open(), enrol(65_536), reach(0, 1), revoke(0, 0, 1)] {
+        for n in [open(), enrol(65_536), reach(0, 1), revoke(0, 0, 1), set_marks(0, 1, 7), set_marks(64, 0, 65_536)] {
             let mut block = example();
             let mut answers = vec![UNWRITTEN; length];
             assert_eq!(host_call(&FAST, &n, &mut block, &mut answers), 1);
@@ -64,6 +64,26 @@ fn other_lengths_are_refused() {
         }
     }
     assert_eq!(example().len(), BLOCK_LEN);
+}
+
+/// The three answers are those of a cut, rounds above 255 in two bytes; a table's text may be
+/// lent.
+#[test]
+fn marks_are_answered_as_cuts_are() {
+    let block = encode(&markregisters::example());
+    assert_eq!(called(&set_marks(0, 2, 0), &block, 12), (0, vec![1, 0, 0, 0, 1, 0, 0, 0, 3, 0, 0, 0]));
+    let many = called(&rounds::FIRST_MARKS, &encode(&rounds::built()), 12);
+    assert_eq!(many, (0, vec![233, 0, 0, 0, 0, 0, 0, 0, 230, 1, 0, 0]));
+    for (n, number) in [set_marks(1, 2, 0), set_marks(1, 0, 0), set_marks(1, 4, 0)].iter().zip([14, 6, 9]) {
+        assert_eq!(called(n, &block, 12), (number, vec![UNWRITTEN; 12]));
+    }
+    let lent = |text: &[u8]| {
+        let (mut left, mut answers) = (block.clone(), vec![UNWRITTEN; 12]);
+        let number = host_call_table(&FAST, &set_marks(0, 2, 0), text, &mut left, &mut answers);
+        (number, left == block, answers)
+    };
+    assert_eq!(lent(b"\n"), (7, true, vec![UNWRITTEN; 12]));
+    assert_eq!(lent(&texts::level().text()), (0, false, vec![1, 0, 0, 0, 1, 0, 0, 0, 2, 0, 0, 0]));
 }
 
 /// What an order leaves for a host: the number, the buffer and the answers.

@@ -2,7 +2,7 @@
 
 use generate::callfiles::file;
 use crate::faults::TEXT_LEFT_OUT;
-use generate::{list_files, listfiles, textlists};
+use generate::{list_files, listfiles, marklists, textlists};
 use second::block::decode;
 use second::callfile::{print, MOST_INPUT};
 use second::casefile::read_block;
@@ -92,6 +92,35 @@ fn the_raises_of_a_list_are_judged_by_their_tables() {
     let due = [&first[..], &["0 2 0 0", "11 0 0 0", "16 0 0 0", "0 2 0 0", "0 0 1 2"]].concat();
     assert_eq!(answers(&expected)[6..], due);
     assert_ne!(expected_lines(&TEXT_LEFT_OUT, &list), expected);
+}
+
+/// 5 loses its mark, and has it set to the same again: under the table that falls by two, the
+/// two texts that are refused, the level one and ours.
+#[test]
+fn the_marks_of_a_list_are_judged_by_their_tables() {
+    let list = marklists::example();
+    let expected = expected_lines(&FAST, &list);
+    let all = answers(&expected);
+    let two: Vec<&[&str]> = all[6..].chunks_exact(8).map(|calls| &calls[6..]).collect();
+    let due = [["0 0 1 2", "0 0 0 1"], ["7 0 0 0", "7 0 0 0"], ["17 0 0 0", "17 0 0 0"], ["0 1 2 2", "0 0 0 1"]];
+    assert_eq!(two, [&due[..], &[["0 0 1 2", "0 0 0 1"]]].concat());
+    assert_ne!(expected_lines(&TEXT_LEFT_OUT, &list), expected);
+}
+
+/// Marks are lost at every place of a text that passes, and accepted lists hold them at
+/// every place, refused calls among them.
+#[test]
+fn lists_set_marks() {
+    let expected = expected_lines(&FAST, &marklists::every_text());
+    let refusals: Vec<&str> = answers(&expected)[3..].iter().map(|line| line.split(' ').next().unwrap()).collect();
+    let of_marks: Vec<&str> = refusals.chunks_exact(7).map(|calls| calls[4]).collect();
+    assert_eq!(of_marks, ["0", "7", "17", "0", "0", "0", "0", "7", "7", "7", "7", "7", "7", "0"]);
+    let setting: Vec<List> = accepted().into_iter().filter(sets_marks).collect();
+    let is_marks = |n: Option<&Passed>| n.is_some_and(|n| n.call == Call::SetMarks);
+    assert!(setting.len() > 15);
+    assert!(setting.iter().any(|list| is_marks(calls(list).first())));
+    assert!(setting.iter().any(|list| is_marks(calls(list).last())));
+    assert!(setting.iter().any(|list| list.texts.is_empty()) && setting.iter().any(|list| !list.texts.is_empty()));
 }
 
 /// Seven calls for each place of a text: 0 where it passes, 7 or 17 where it does

@@ -2,17 +2,17 @@
 //! notice.
 
 use crate::faults::{TEXT_LEFT_OUT, VISITED_ONCE};
-use crate::generated::with_blocks;
+use crate::generated::{block_of, compared, is_small, keeps_the_form, read_back, recorded, with_blocks};
 use crate::relaxed::RELAXED;
 use generate::orders::{self, BUFFER, BUFFERS};
-use generate::{files, limits};
+use generate::limits;
 use second::block::{broken_rules, decode, Delegation, Register, BLOCK_LEN, RULES};
 use second::call::Written;
-use second::callfile::{read_call, used_columns, values_of, MOST_INPUT};
-use second::casefile::{case_line, expected_line, expected_text, order_line, read_case, Case, MOST_BYTES, UNWRITTEN};
+use second::callfile::read_call;
+use second::casefile::{order_line, Case, UNWRITTEN};
 use second::chain::meets;
 use second::cut::settle;
-use second::engine::{Engine, FAST, LITERAL};
+use second::engine::{FAST, LITERAL};
 use second::filecase::{self, Bytes};
 use second::listfile::{lengths, List};
 use second::order::popped;
@@ -35,60 +35,35 @@ fn asked() -> impl Iterator<Item = &'static Case> {
     cases().iter().filter(|case| case.passed.call == Call::Order)
 }
 
-/// The block of a case.
-fn block(case: &Case) -> &[u8] {
-    case.block.as_deref().unwrap_or_default()
-}
-
-/// The line that is expected of a case.
-fn recorded(engine: &Engine, case: &Case) -> String {
-    expected_line(engine, case, &mut Vec::new())
-}
-
 #[test]
 fn files_are_small_and_read_back() {
-    let (mut lines, mut bytes) = (0, 0);
-    for file in files(cases()) {
-        assert!(file.cases.len() <= MOST_INPUT && file.expected.len() <= MOST_INPUT);
-        assert_eq!(expected_text(&FAST, file.cases.as_bytes()), Ok(file.expected.clone()));
-        assert!(file.cases.lines().next().is_some_and(|line| !line.contains('=')));
-        lines += file.cases.lines().count();
-        bytes += file.cases.len() + file.expected.len();
-    }
-    assert_eq!(lines, cases().len());
-    assert!((600..=1200).contains(&lines) && bytes < 300_000, "{lines} {bytes}");
+    let (bytes, expected) = read_back(cases());
+    assert!((600..=1200).contains(&cases().len()) && bytes + expected < 300_000, "{bytes} {expected}");
 }
 
-/// Columns that a call does not use are 0, every call takes a table and is lent a text,
-/// and lengths are within those of the program.
+/// Every call takes a table and is lent a text.
 #[test]
 fn lines_keep_the_form() {
+    assert_eq!(Call::Order as u32, 10);
     for case in cases() {
-        let values = values_of(&case.passed);
-        assert!(orders::CALLS.contains(&case.passed.call));
-        assert!(values[1..].iter().zip(used_columns(case.passed.call)).all(|(&value, used)| used || value == 0));
-        assert!(case.text.is_some() && case.lent().len() <= MOST_BYTES && block(case).len() <= MOST_BYTES);
-        assert!(case.passed.call != Call::Order || (values[0] == 10 && values[4] as usize <= MOST_BYTES));
-        for before in [None, case.text.as_deref()] {
-            let line = case_line(case, before);
-            assert_eq!(line.contains('='), before.is_some());
-            assert_eq!(read_case(line.trim_end().as_bytes(), case.lent()).as_ref(), Some(case));
-        }
+        keeps_the_form(case);
+        assert!(orders::CALLS.contains(&case.passed.call) && case.text.is_some());
     }
 }
 
-/// Call files, lists and the kind `file` know no order: 10 is no call's number there.
+/// Call files, lists and the kind `file` know no order, and only lists set marks, as call 6:
+/// 10 and 11 are no call's number there.
 #[test]
 fn other_files_have_no_orders() {
     let of_file = |call: u32| filecase::read_case(format!("{call} 0 0 0 0 0 0 0: 0: 0:").as_bytes(), &Bytes::default());
-    assert!(of_file(9).is_some() && of_file(10).is_none());
+    assert_eq!([9, 10, 11].map(|call| of_file(call).is_some()), [true, false, false]);
     let of_calls = |call: u32| read_call(format!("{call} 0 0 1 0 0 0\n").as_bytes());
-    assert!(of_calls(5).is_some() && of_calls(10).is_none());
+    assert_eq!([5, 6, 10, 11].map(|call| of_calls(call).is_some()), [true, false, false, false]);
     let of_list = |call: u32| {
         let numbers = vec![call, 0, 0, 1, 0, 0, 0, 0, 0];
         List { lengths: lengths(1), texts: Vec::new(), numbers }.refusal()
     };
-    assert_eq!([5, 10].map(of_list), [0, 7]);
+    assert_eq!([5, 6, 7, 10, 11].map(of_list), [0, 0, 7, 7, 7]);
 }
 
 /// The front is shown at its full length, a refusal with nothing.
@@ -116,10 +91,10 @@ fn limits_are_covered() {
     let (mut buffers, mut rules) = (BTreeSet::new(), BTreeSet::new());
     for case in asked() {
         receivers.insert(case.passed.receiver);
-        lengths.insert(block(case).len());
+        lengths.insert(block_of(case).len());
         buffers.insert(case.passed.weight);
-        if let (BLOCK_LEN, BUFFER) = (block(case).len(), case.passed.weight) {
-            rules.insert(broken_rules(block(case)));
+        if let (BLOCK_LEN, BUFFER) = (block_of(case).len(), case.passed.weight) {
+            rules.insert(broken_rules(block_of(case)));
         }
     }
     assert!(limits::NUMBERS.iter().chain(&[65, 257, 65_537]).all(|number| receivers.contains(number)));
@@ -128,29 +103,15 @@ fn limits_are_covered() {
     assert!((0..RULES.len()).all(|rule| rules.contains(&vec![rule])));
 }
 
-/// How many cases were run with an engine too, and how many had another line.
-fn compared(engine: &Engine, of: fn(&[u8]) -> bool) -> (u32, u32) {
-    let (mut all, mut differing) = (0, 0);
-    for case in cases().iter().filter(|case| case.passed.call != Call::Chain && of(block(case))) {
-        all += 1;
-        differing += (recorded(&FAST, case) != recorded(engine, case)) as u32;
-    }
-    (all, differing)
-}
-
-fn is_small(block: &[u8]) -> bool {
-    decode(block).is_none_or(|register| register.delegations.len() <= 16)
-}
-
 /// Small registers are run with the literal search, all with the relaxed one.
 #[test]
 fn expected_lines_follow_from_the_definition() {
-    let (small, differing) = compared(&LITERAL, is_small);
+    let (small, differing) = compared(cases(), &LITERAL, is_small);
     assert!(small > 900 && differing == 0, "{small} {differing}");
-    let (all, differing) = compared(&RELAXED, |_| true);
+    let (all, differing) = compared(cases(), &RELAXED, |_| true);
     assert!(all > 1000 && differing == 0, "{all} {differing}");
-    assert!(compared(&VISITED_ONCE, is_small).1 > 20);
-    assert!(compared(&TEXT_LEFT_OUT, |_| true).1 > 50);
+    assert!(compared(cases(), &VISITED_ONCE, is_small).1 > 20);
+    assert!(compared(cases(), &TEXT_LEFT_OUT, |_| true).1 > 50);
 }
 
 /// What a program answers: a list or a refusal.
@@ -188,7 +149,7 @@ fn noticed(program: impl Fn(&Case) -> String) -> usize {
 
 #[test]
 fn the_right_program_is_not_noticed() {
-    assert_eq!(noticed(|case| shown(case, right(&case.passed, case.lent(), block(case)))), 0);
+    assert_eq!(noticed(|case| shown(case, right(&case.passed, case.lent(), block_of(case)))), 0);
     assert!(asked().count() > 900);
 }
 
@@ -419,7 +380,7 @@ const WRONG_LIMITS: [(&str, Lister); 20] = [
 fn wrong_lists_are_noticed() {
     for (shows, lister) in WRONG_ORDERS.iter().chain(&WRONG_SUBJECTS).chain(&WRONG_LIMITS) {
         let answer = |case: &Case| {
-            let (table, register) = admitted(&case.passed, case.lent(), block(case))?;
+            let (table, register) = admitted(&case.passed, case.lent(), block_of(case))?;
             Ok(lister(&table, &register, case.passed.receiver))
         };
         let count = noticed(|case| shown(case, answer(case)));
@@ -431,23 +392,23 @@ fn wrong_lists_are_noticed() {
 fn with_buffers(case: &Case, pass: fn(u32) -> bool) -> Answer {
     let n = case.passed;
     let weight = if pass(n.weight) { BUFFER } else { n.weight };
-    right(&Passed { weight, ..n }, case.lent(), block(case))
+    right(&Passed { weight, ..n }, case.lent(), block_of(case))
 }
 
 /// The right program for another receiver than was passed.
 fn for_another(case: &Case, receiver: u32) -> Answer {
-    right(&Passed { receiver, ..case.passed }, case.lent(), block(case))
+    right(&Passed { receiver, ..case.passed }, case.lent(), block_of(case))
 }
 
 /// Another answer in the place of a refusal.
 fn instead(case: &Case, number: u32, other: fn(&Case) -> Answer) -> Answer {
-    let answer = right(&case.passed, case.lent(), block(case));
+    let answer = right(&case.passed, case.lent(), block_of(case));
     if answer == Err(number) { other(case) } else { answer }
 }
 
 /// The list of a well-formed block, whatever receiver was passed.
 fn unasked(case: &Case) -> Answer {
-    let register = decode(block(case)).ok_or(8u32)?;
+    let register = decode(block_of(case)).ok_or(8u32)?;
     Ok(popped(&Table::read(case.lent())?, &register, case.passed.receiver))
 }
 
@@ -472,8 +433,8 @@ const WRONG_REFUSALS: [(&str, Program); 17] = [
     ("5 in the place of 6", |case| instead(case, 6, |_| Err(5))),
     ("a receiver that isn't enrolled is let pass", |case| instead(case, 9, unasked)),
     ("9 in the place of 2", |case| instead(case, 2, |_| Err(9))),
-    ("a text of another form is ours", |case| instead(case, 7, |case| right(&case.passed, b"", block(case)))),
-    ("a table that breaks a rule is ours", |case| instead(case, 17, |case| right(&case.passed, b"", block(case)))),
+    ("a text of another form is ours", |case| instead(case, 7, |case| right(&case.passed, b"", block_of(case)))),
+    ("a table that breaks a rule is ours", |case| instead(case, 17, |case| right(&case.passed, b"", block_of(case)))),
     ("17 in the place of 7", |case| instead(case, 7, |_| Err(17))),
     ("a block that is not well formed is a fresh one", |case| instead(case, 8, |_| Ok(vec![(0, 255)]))),
 ];
@@ -506,7 +467,7 @@ const SPOILT: [(&str, Spoil); 5] = [
 fn spoilt_buffers_are_noticed() {
     for (shows, spoil) in SPOILT {
         let program = |case: &Case| {
-            let (written, mut buffer) = filled(case, right(&case.passed, case.lent(), block(case)));
+            let (written, mut buffer) = filled(case, right(&case.passed, case.lent(), block_of(case)));
             spoil(&written, &mut buffer);
             order_line(&written, &buffer)
         };

@@ -4,6 +4,7 @@
 pub mod broken;
 pub mod callfiles;
 pub mod deep;
+pub mod drawnmarks;
 pub mod examples;
 pub mod filetexts;
 pub mod full;

@@ -6,7 +6,7 @@ use super::*;
 use second::listfile::{List, NUMBERS};
 
 /// The calls of lists.
-const DRAWN: [Call; 16] = [
+pub const DRAWN: [Call; 16] = [
     Call::Enrol, Call::Grant, Call::Grant, Call::Grant, Call::Grant, Call::Grant, Call::Grant, Call::Revoke,
     Call::Downgrade, Call::Downgrade, Call::Reach, Call::Use, Call::SetMarks, Call::SetMarks, Call::SetMarks,
     Call::SetMarks,
@@ -18,10 +18,10 @@ pub fn all() -> Vec<List> {
     all.extend(no_calls());
     all.extend(wrong_lengths());
     all.extend(outside(b"", &without_texts(), &[Call::SetMarks], &NOT_WITHIN_NONE));
-    all.extend(random_lists(0x4EA1, marks::likely, &DRAWN));
+    all.extend(random_lists(0x4EA1, drawnmarks::likely, &DRAWN));
     all.extend([example(), every_text()]);
     all.extend(outside(&texts(), &without_texts(), &[Call::SetMarks], &not_within(texts().len() as u32)));
-    all.extend(textlists::random_lists(0x4EAD, marks::likely, &DRAWN));
+    all.extend(textlists::random_lists(0x4EAD, drawnmarks::likely, &DRAWN));
     all
 }
 

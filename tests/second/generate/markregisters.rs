@@ -11,6 +11,11 @@ pub fn example() -> Register {
     register(&[&[0], &EXAMPLE_MARKS[..]].concat(), &EXAMPLE)
 }
 
+/// When 2 loses mark 1, 3-2 and 2-1 go, and 1-2 stands by 4-1. When 2 gains it again, 1-2
+/// goes too, since 4-1 bars it.
+const LOST_TWICE: [Grant; 6] =
+    [(0, 3, 9, 1, 0), (3, 2, 8, 0, 0), (2, 1, 7, 0, 0), (0, 4, 9, 0, 0), (4, 1, 8, 0, 1), (1, 2, 5, 0, 0)];
+
 /// Calls from a fresh register on.
 pub fn examples() -> Vec<Example> {
     let of = |name, grants: &[Grant], then| Example { name, marks: &EXAMPLE_MARKS, grants: grants.to_vec(), then };
@@ -39,6 +44,12 @@ pub fn examples() -> Vec<Example> {
             grants: vec![(0, 1, 6, 2, 1), (0, 2, 2, 0, 0), (1, 2, 5, 0, 0), (2, 3, 4, 0, 0)],
             then: barred,
         },
+        Example {
+            name: "lost, and lost again",
+            marks: &[1, 1, 0, 0],
+            grants: LOST_TWICE.to_vec(),
+            then: vec![set_marks(0, 2, 0), set_marks(0, 2, 1), reach(1, 2)],
+        },
         of("grants, cuts and marks", &EXAMPLE, mixed),
     ]
 }
@@ -55,11 +66,20 @@ pub fn rows() -> Vec<Register> {
     ]
 }
 
+/// When 2 loses mark 1, round 1 drops 1-2, round 2 drops 2-3, whose chain had 1-2, and round
+/// 3 drops 3-4, whose chain had 2-3 and not 1-2.
+pub fn round_by_round() -> Register {
+    let grants = [(0, 1, 3, 1, 0), (0, 2, 3, 2, 0), (1, 2, 2, 0, 0), (2, 3, 1, 0, 0), (3, 4, 0, 0, 0)];
+    register(&[0, 0, 1, 1, 2], &grants)
+}
+
 /// Two ways, the heavier under a mark; a way with the mark and a way without it; two
 /// ways of one weight.
 pub fn ways() -> Vec<Register> {
-    let heavier = [(0, 1, 9, 1, 0), (0, 2, 5, 0, 0), (1, 3, 8, 0, 0), (2, 3, 4, 0, 0), (3, 4, 7, 0, 0), (4, 5, 6, 0, 0)];
-    let either = [(0, 1, 9, 0, 0), (0, 2, 5, 0, 0), (1, 3, 8, 1, 0), (2, 3, 4, 0, 1), (3, 4, 7, 0, 0), (4, 5, 2, 0, 0)];
+    let heavier =
+        [(0, 1, 9, 1, 0), (0, 2, 5, 0, 0), (1, 3, 8, 0, 0), (2, 3, 4, 0, 0), (3, 4, 7, 0, 0), (4, 5, 6, 0, 0)];
+    let either =
+        [(0, 1, 9, 0, 0), (0, 2, 5, 0, 0), (1, 3, 8, 1, 0), (2, 3, 4, 0, 1), (3, 4, 7, 0, 0), (4, 5, 2, 0, 0)];
     let equal = [(0, 1, 9, 1, 0), (0, 2, 9, 0, 0), (1, 3, 8, 0, 0), (2, 3, 8, 0, 0), (3, 4, 7, 0, 0)];
     vec![
         register(&[0, 0, 0, 1, 1, 1], &heavier),
@@ -97,17 +117,21 @@ pub fn known() -> Vec<Register> {
 /// Each delegation to 17 stands by one of the 16 marks, which the owner's needs or bars.
 pub fn every_mark(barred: bool) -> Register {
     let owner = orderregisters::every_mark(barred);
-    let two = |d: &Delegation| [(0, d.receiver, d.weight, d.need, d.bar), (d.receiver, 17, 100 + d.receiver, 0, 0)];
+    let mut grants = Vec::new();
+    for d in &owner.delegations {
+        grants.extend([(0, d.receiver, d.weight, d.need, d.bar), (d.receiver, 17, 100 + d.receiver, 0, 0)]);
+    }
     let mut marks = [0; 18];
     marks[17] = if barred { 0 } else { 65_535 };
-    register(&marks, &owner.delegations.iter().flat_map(two).collect::<Vec<Grant>>())
+    register(&marks, &grants)
 }
 
 /// Two ways to 4 as under other tables, the heavier with a mark that 2, 4 and 5 have.
 pub fn by_table() -> Register {
-    let ways = tables::two_ways(252).delegations;
-    let grants: Vec<Grant> = ways.iter().map(|d| (d.giver, d.receiver, d.weight, (d.pair() == (0, 1)) as u16, 0)).collect();
-    register(&[0, 0, 1, 0, 1, 1, 0], &grants)
+    let mut ways = tables::two_ways(252);
+    ways.marks = vec![0, 0, 1, 0, 1, 1, 0];
+    ways.delegations[0].need = 1;
+    ways
 }
 
 /// A path through all subjects whose first delegation needs a mark that all have.

@@ -5,10 +5,7 @@ use super::markregisters::*;
 use super::tables::lent;
 use super::*;
 use second::block::encode;
-use second::cut::settle;
-use second::engine::FAST;
-use second::random::{random_table, Random};
-use second::table::{Table, OURS};
+use second::table::OURS;
 use std::collections::BTreeSet;
 
 /// The calls that take a table, but for order.
@@ -29,10 +26,11 @@ pub fn cases() -> Vec<Case> {
     let mut cases = lent(b"", examples().iter().flat_map(of_example));
     cases.extend(lent(b"", for_every_subject(&small())));
     cases.extend(lent(b"", for_every_mark()));
-    cases.extend(lent(b"", on_drawn()));
-    cases.extend(lent(b"", of_rounds()));
+    cases.extend(lent(b"", drawnmarks::on_small()));
+    cases.extend(lent(b"", drawnmarks::of_rounds()));
     cases.extend(lent(b"", on_large()));
     cases.extend(lent(b"", of_many_rounds()));
+    cases.extend(lent(b"", other_callers()));
     cases.extend(lent(b"", wrapped()));
     cases.extend(lent(b"", LENGTHS.map(|length| limits::of_length(&example(), length, set_marks(0, 2, 0)))));
     cases.extend(lent(b"", limits::cases(&KIND)));
@@ -40,8 +38,8 @@ pub fn cases() -> Vec<Case> {
     cases.extend(lent(b"", refusals::cases(&KIND)));
     cases.extend(tables::some_refused(&encode(&example()), [set_marks(0, 2, 0), set_marks(0, 1, 0)]));
     cases.extend(under_tables());
-    cases.extend(under_drawn_tables());
-    cases.extend(lists_of_calls());
+    cases.extend(drawnmarks::under_tables());
+    cases.extend(drawnmarks::lists_of_calls());
     cases
 }
 
@@ -55,17 +53,18 @@ fn of_example(example: &examples::Example) -> Vec<Case> {
 }
 
 /// The registers in which the marks of every subject are set.
-pub fn small() -> Vec<Register> {
-    [vec![example(), givers()], rows(), ways(), cycles(), known()].concat()
+fn small() -> Vec<Register> {
+    [vec![example(), round_by_round(), givers()], rows(), ways(), cycles(), known()].concat()
 }
 
-/// Every subject gets several marks; those that take something first are set back.
+/// Every subject gets several marks; after the first that take something, its own again.
 fn for_every_subject(registers: &[Register]) -> Vec<Case> {
     let mut cases = Vec::new();
     for register in registers {
         for subject in 1..register.marks.len() as u32 {
             let all = several(register, subject).into_iter().map(|marks| set_marks(0, subject, marks));
-            let (taking, others): (Vec<Passed>, Vec<Passed>) = all.partition(|n| rounds_after(&OURS, register, n) > 1);
+            let takes = |n: &Passed| rounds_after(&OURS, register, n) > 1;
+            let (taking, others): (Vec<Passed>, Vec<Passed>) = all.partition(takes);
             cases.extend(taking.iter().take(1).flat_map(|n| and_back(register, *n)));
             cases.extend(taking.into_iter().skip(1).chain(others).map(|n| on(&encode(register), n)));
         }
@@ -84,7 +83,7 @@ fn several(register: &Register, subject: u32) -> BTreeSet<u32> {
 }
 
 /// The call, and one that sets the marks back.
-fn and_back(register: &Register, n: Passed) -> [Case; 2] {
+pub fn and_back(register: &Register, n: Passed) -> [Case; 2] {
     let present = register.marks_of(n.receiver) as u32;
     [on(&encode(register), n), next(set_marks(0, n.receiver, present))]
 }
@@ -101,47 +100,7 @@ fn for_every_mark() -> Vec<Case> {
     cases
 }
 
-/// A drawn call that sets marks by the owner.
-fn drawn_marks(random: &mut Random, register: &Register) -> Passed {
-    Passed { by: 0, ..lists::likely(random, Call::SetMarks, &OURS, register) }
-}
-
-/// Registers that are not supported, also with the marks that stand; and what the rounds
-/// leave of them, with marks that change more.
-fn on_drawn() -> Vec<Case> {
-    let mut random = Random::new(0x3A4B5);
-    let mut cases = Vec::new();
-    for _ in 0..24 {
-        let mut register = unsupported::random_unsupported(&mut random);
-        let n = drawn_marks(&mut random, &register);
-        let same = set_marks(0, n.receiver, register.marks_of(n.receiver) as u32);
-        cases.extend([n, random.pick(&[n, same])].map(|n| on(&encode(&register), n)));
-        settle(&FAST, &OURS, &mut register);
-        cases.extend(with_loss(&mut random, &register, 2));
-    }
-    cases
-}
-
-/// Marks that take at least so many rounds, and their being set back.
-fn with_loss(random: &mut Random, register: &Register, least: u32) -> Vec<Case> {
-    let drawn: Vec<Passed> = (0..8).map(|_| drawn_marks(random, register)).collect();
-    let found = drawn.into_iter().find(|n| n.need <= 65_535 && rounds_after(&OURS, register, n) >= least);
-    found.into_iter().flat_map(|n| and_back(register, n)).collect()
-}
-
-/// Marks of at least four rounds on drawn registers, and of at least six.
-fn of_rounds() -> Vec<Case> {
-    let mut random = Random::new(0x3A4B6);
-    let mut cases = Vec::new();
-    while cases.len() < 40 {
-        let start = deep::random_start(&mut random);
-        let least = if cases.len() < 20 { 4 } else { 6 };
-        cases.extend(with_loss(&mut random, &start, least));
-    }
-    cases
-}
-
-/// Full registers and paths through all subjects: the first ones, the last and one between.
+/// A full register, and paths through all subjects: the first ones, one between and the last.
 fn on_large() -> Vec<Case> {
     let full = encode(&full_under_marks());
     let mut cases = Vec::new();
@@ -161,12 +120,19 @@ fn on_large() -> Vec<Case> {
 pub const SLOW: [(u32, u32, i32); 4] = [(2, 37_421, 307), (21, 0, 281), (21, 269, 447), (21, 0, 287)];
 
 /// Marks in the place of cuts of hundreds of rounds.
-pub fn of_many_rounds() -> Vec<Case> {
+fn of_many_rounds() -> Vec<Case> {
     let deep = encode(&rounds::built());
     let mut cases = vec![on(&deep, rounds::FIRST_MARKS)];
     let slow = slow::SLOW.iter().zip(SLOW);
     cases.extend(slow.map(|(slow, (subject, marks, _))| on(slow.block(), set_marks(0, subject, marks))));
     cases
+}
+
+/// Callers other than the owner, for every subject; 4 and 63 are not enrolled.
+fn other_callers() -> Vec<Case> {
+    let block = encode(&example());
+    let of = |by: u32| [0, 1, 2, 3, 4, 63].map(|subject| on(&block, set_marks(by, subject, 0)));
+    [1, 2, 3, 4, 63].map(of).concat()
 }
 
 /// Numbers whose lowest 6, 8 or 16 bits would be accepted.
@@ -191,55 +157,4 @@ fn under_tables() -> Vec<Case> {
         }
     }
     cases
-}
-
-/// Drawn tables, on drawn registers that need not be supported under them, and ours after
-/// each.
-fn under_drawn_tables() -> Vec<Case> {
-    let mut random = Random::new(0x3A4B7);
-    let mut cases = Vec::new();
-    for _ in 0..4 {
-        let text = random_table(&mut random).text();
-        let register = unsupported::random_unsupported(&mut random);
-        let calls = [(); 4].map(|_| on(&encode(&register), drawn_marks(&mut random, &register)));
-        cases.extend(lent(&text, calls));
-        cases.extend(lent(b"", [next(drawn_marks(&mut random, &register))]));
-    }
-    cases
-}
-
-const DRAWN: [Call; 10] = [
-    Call::Grant, Call::Grant, Call::Grant, Call::Grant, Call::Revoke, Call::Downgrade, Call::Chain, Call::SetMarks,
-    Call::SetMarks, Call::SetMarks,
-];
-
-/// Lists of calls from a register without delegations, some under a drawn table.
-fn lists_of_calls() -> Vec<Case> {
-    let mut random = Random::new(0x3A4B8);
-    let tables = [random_table(&mut random).text(), texts::by_two().text()];
-    let texts = [b"", b"", b"", &tables[0][..], &tables[1][..]];
-    texts.iter().flat_map(|text| list(&mut random, text, 26)).collect()
-}
-
-/// A plausible call, as of other lists; but most delegations of the owner need or bar one
-/// mark, so that the others stand by their receivers' marks.
-pub fn likely(random: &mut Random, call: Call, table: &Table, register: &Register) -> Passed {
-    let n = lists::likely(random, call, table, register);
-    if call != Call::Grant || n.giver != 0 || random.chance(15) {
-        return n;
-    }
-    let mark = 1 << random.below(3);
-    let (need, bar) = random.pick(&[(mark, 0), (mark, 0), (0, mark)]);
-    Passed { need, bar, ..n }
-}
-
-/// A list under one table: grants, then any calls.
-fn list(random: &mut Random, text: &[u8], calls: usize) -> Vec<Case> {
-    let mut block = lists::without_delegations(random);
-    let mut cases = vec![on(&block, reach(0, 1))];
-    for at in 0..calls {
-        let call = if at < 8 { Call::Grant } else { random.pick(&DRAWN) };
-        cases.push(next(lists::drawn(likely, random, call, text, &mut block)));
-    }
-    lent(text, cases)
 }

@@ -83,8 +83,8 @@ fn refusals() -> Vec<Case> {
     cases
 }
 
-/// Some texts of another form and some whose entries break a rule, with these calls of
-/// one kind, and every set of refusals that apply at once with 7 or 17.
+/// Some texts of another form and some whose entries break a rule, with two calls of one
+/// kind, and every set of refusals that apply at once with 7 or 17.
 pub fn some_refused(block: &[u8], calls: [Passed; 2]) -> Vec<Case> {
     let short = texts::malformed().into_iter().map(|text| text.bytes).filter(|bytes| bytes.len() < 64);
     let broken = texts::broken().into_iter().map(|text| text.bytes).step_by(9);
