@@ -1,7 +1,7 @@
 /* A host of the seat register: a maker passes a right to two distributors, both pass it to a dealer,
  * the dealer to a firm. Then one distributor is cut off, and the dealer keeps what the other gives.
- * After each cut the host says which delegations fell or were lowered. Then the dealer is raised, and
- * at last the register goes to another machine, as text. */
+ * After each cut the host says which delegations fell or were lowered. Then the dealer is raised, his
+ * certificate lapses and is renewed, and at last the register goes to another machine, as text. */
 #include <inttypes.h>
 #include <stdio.h>
 #include <stdlib.h>
@@ -15,10 +15,14 @@ enum { MAKER = SEATREG_OWNER, NORTH, SOUTH, DEALER, FIRM, VISITOR };
 #define TRAINED 1u
 
 static uint8_t block[SEATREG_BLOCK_SIZE];     /* the register */
-static uint8_t before[SEATREG_BLOCK_SIZE];    /* the register before a cut */
+static uint8_t before[SEATREG_BLOCK_SIZE];    /* the register before a cut or a change of marks */
 static uint8_t answers[SEATREG_ANSWERS_SIZE]; /* of the last call that was accepted */
 static uint8_t text[SEATREG_TEXT_SIZE];       /* the register as text, a register file */
 static uint8_t other[SEATREG_BLOCK_SIZE];     /* the register on the other machine */
+
+/* This register is kept under our step table, so the text that a call is lent is empty; its pointer is
+ * not null even so. */
+#define OUR_TABLE (const uint8_t *)"", 0
 
 /* Ends the program if a call didn't return what this host expects. */
 static void check(const char *call, uint32_t returned, uint32_t expected)
@@ -73,8 +77,8 @@ static int weight_of(uint32_t giver, uint32_t receiver)
 }
 
 /* The answers count what else was dropped or lowered; which delegations these are, the register as it
- * was before the cut tells, and so does it of the one that was cut. */
-static void print_cut(void)
+ * was before tells, and so does it of one that was cut. */
+static void print_fallen(void)
 {
     printf("  dropped %" PRId32 ", lowered %" PRId32 ", rounds %" PRId32 "\n",
            seatreg_answer(answers, 0), seatreg_answer(answers, 1), seatreg_answer(answers, 2));
@@ -86,6 +90,59 @@ static void print_cut(void)
         else if (weight < (int)d.weight)
             printf("  %" PRIu32 "-%" PRIu32 " lowered from %" PRIu32 " to %d\n", d.giver, d.receiver, d.weight, weight);
     }
+}
+
+/* What the maker gave NORTH is revoked; then what SOUTH gave the dealer is lowered to use alone. */
+static void cut(void)
+{
+    uint32_t r;
+
+    memcpy(before, block, sizeof block);
+    r = seatreg_revoke(block, sizeof block, MAKER, MAKER, NORTH, answers, sizeof answers);
+    check("revoke", r, SEATREG_ACCEPTED);
+    printf("revoke %d-%d\n", MAKER, NORTH);
+    print_fallen();
+    may_use(NORTH);
+    may_use(FIRM);
+    reach(DEALER, FIRM);
+    reach(DEALER, VISITOR); /* only SOUTH's chain is left, and the visitor isn't trained */
+
+    memcpy(before, block, sizeof block);
+    r = seatreg_downgrade(block, sizeof block, SOUTH, SOUTH, DEALER, SEATREG_USE_ONLY, answers, sizeof answers);
+    check("downgrade", r, SEATREG_ACCEPTED);
+    printf("downgrade %d-%d to %d\n", SOUTH, DEALER, SEATREG_USE_ONLY);
+    print_fallen();
+    may_use(DEALER);
+    may_use(FIRM);
+}
+
+/* The maker changes the marks of a subject: these in place of all that it had. */
+static void set_marks(uint32_t subject, uint32_t marks)
+{
+    uint32_t r;
+
+    memcpy(before, block, sizeof block);
+    r = seatreg_set_marks(block, sizeof block, MAKER, subject, marks, OUR_TABLE, answers, sizeof answers);
+    check("set marks", r, SEATREG_ACCEPTED);
+    printf("set the marks of %" PRIu32 " to %" PRIu32 "\n", subject, marks);
+    print_fallen();
+}
+
+/* The dealer's certificate lapses: SOUTH may pass the right on to the trained only, so what it gave the
+ * dealer falls. With the certificate renewed this doesn't come back by itself: SOUTH grants it again. */
+static void lapse(void)
+{
+    uint32_t r;
+
+    set_marks(DEALER, seatreg_marks(block, DEALER) & ~TRAINED);
+    may_use(DEALER);
+    r = seatreg_set_marks(block, sizeof block, DEALER, DEALER, TRAINED, OUR_TABLE, answers, sizeof answers);
+    check("set marks", r, SEATREG_MAY_NOT);
+    printf("set the marks of %d by itself: refused with %" PRIu32 "\n", DEALER, r);
+    set_marks(DEALER, seatreg_marks(block, DEALER) | TRAINED);
+    may_use(DEALER);
+    grant(SOUTH, DEALER, 2, 0);
+    may_use(DEALER);
 }
 
 /* Writes the register as text; answers the file's length. It is no string of C: no 0 byte ends it. */
@@ -100,13 +157,10 @@ static size_t write_file(void)
     return length;
 }
 
-/* Reads a file of this length into the other block. This register is kept under our step table, so the
- * table's text is empty; its pointer is not null even so. */
+/* Reads a file of this length into the other block. */
 static uint32_t read_file(size_t length)
 {
-    const uint8_t *ours = (const uint8_t *)"";
-
-    return seatreg_read(other, sizeof other, text, length, ours, 0, answers, sizeof answers);
+    return seatreg_read(other, sizeof other, text, length, OUR_TABLE, answers, sizeof answers);
 }
 
 /* The register leaves as text and comes back as the same bytes. Two mistakes are refused, and change no
@@ -149,24 +203,7 @@ int main(void)
     r = seatreg_grant(block, sizeof block, DEALER, VISITOR, SEATREG_UNLIMITED, 0, 0, answers, sizeof answers);
     check("grant", r, SEATREG_OVERWEIGHT);
     printf("grant %d-%d weight %d: refused with %" PRIu32 "\n", DEALER, VISITOR, SEATREG_UNLIMITED, r);
-
-    memcpy(before, block, sizeof block);
-    r = seatreg_revoke(block, sizeof block, MAKER, MAKER, NORTH, answers, sizeof answers);
-    check("revoke", r, SEATREG_ACCEPTED);
-    printf("revoke %d-%d\n", MAKER, NORTH);
-    print_cut();
-    may_use(NORTH);
-    may_use(FIRM);
-    reach(DEALER, FIRM);
-    reach(DEALER, VISITOR); /* only SOUTH's chain is left, and the visitor isn't trained */
-
-    memcpy(before, block, sizeof block);
-    r = seatreg_downgrade(block, sizeof block, SOUTH, SOUTH, DEALER, SEATREG_USE_ONLY, answers, sizeof answers);
-    check("downgrade", r, SEATREG_ACCEPTED);
-    printf("downgrade %d-%d to %d\n", SOUTH, DEALER, SEATREG_USE_ONLY);
-    print_cut();
-    may_use(DEALER);
-    may_use(FIRM);
+    cut();
 
     /* A raise: the pair and the condition that stand, and more weight. Nothing else changes, so what
      * the firm had doesn't come back by itself; but the dealer can pass the right on again. */
@@ -174,6 +211,7 @@ int main(void)
     may_use(FIRM);
     reach(DEALER, FIRM);
 
+    lapse();
     move();
     return EXIT_SUCCESS;
 }

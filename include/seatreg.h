@@ -3,9 +3,9 @@
  * A register keeps who passed one right to whom. Subject 0 is the owner of the right; others are
  * enrolled and numbered from 1. A delegation has a giver, a receiver and a weight: how many further
  * steps the right may travel from the receiver. It may have a condition on marks. When a delegation
- * is cut, all that can still stand on another chain from the owner stays, as heavy as it can.
- * What every call does is defined in docs/01-scope.md and docs/02-change-requests.md; here is what a
- * host needs.
+ * is cut, or a subject's marks are changed, all that can still stand on a chain from the owner stays,
+ * as heavy as it can. What every call does is defined in docs/01-scope.md and
+ * docs/02-change-requests.md; here is what a host needs.
  *
  * THE BLOCK. A register is 2,180 bytes that the host owns. There is nothing else: no state between
  * calls, no allocation, no file opened, no clock. The bytes mean the same on every machine, so a block may
@@ -24,7 +24,7 @@
  *
  * THE STEP TABLE has a next for each weight: what a limit falls to at one step, -1 where nothing may
  * follow. In ours 0 gives -1, each other weight one less, and 255 keeps 255. The calls whose names end
- * in _table, order and read are lent one as text; all others that need a table use ours.
+ * in _table, set_marks, order and read are lent one as text; all others that need a table use ours.
  *   - Its form: the line "weight next", then a line of a weight and its next for each of the weights 0
  *     to 255, in order. Numbers are decimal and at most 4,294,967,295, one space between, no leading
  *     zero, no sign but that of -1, which only a next may be. Every line ends with byte 10, the last
@@ -35,7 +35,8 @@
  *   - The length is that of the text alone, without a 0 byte that ends a string. It has no limit.
  *   - The text is only read, and nothing of it is kept.
  * A register doesn't know its table: lend the same text with every call on it. A cut lowers or drops
- * all that its own table doesn't support, even what the named delegation didn't hold up.
+ * all that its own table doesn't support, even what the named delegation didn't hold up; so does
+ * set_marks.
  *
  * THE REGISTER FILE is a register as text, to be read by people and moved between machines:
  * seatreg_write writes it and seatreg_read reads it. With two subjects beside the owner it may be
@@ -97,8 +98,8 @@
 /* The version of this header and of the archive that comes with it, as text and as a number: 10,000
  * times the first part, plus 100 times the second, plus the third. README.md, 'Versions', says which
  * changes raise which part. */
-#define SEATREG_VERSION "1.4.0"
-#define SEATREG_VERSION_NUMBER 10400
+#define SEATREG_VERSION "1.5.0"
+#define SEATREG_VERSION_NUMBER 10500
 
 /* Where the compiler has such attributes, it warns of a host that doesn't look at what a call
  * returns, and of a pointer that it can see to be null. */
@@ -172,7 +173,7 @@ static inline const char *seatreg_refusal_text(uint32_t refusal)
         "the weight is above 255",
         "marks, need or bar above 65,535, or need and bar share a mark",
         "giver and receiver are equal",
-        "the receiver is the owner",
+        "the receiver is the owner, or the owner's own marks are to be set",
         "a table's text is of another form, or a line of a call file or a line of a register file is malformed",
         "the block is not well formed, or a register file's lines make no well-formed block",
         "a named subject, by included, isn't enrolled",
@@ -180,7 +181,7 @@ static inline const char *seatreg_refusal_text(uint32_t refusal)
         "a delegation for this pair stands, and this is no raise",
         "256 delegations stand and the pair is not among them",
         "no delegation for this pair stands",
-        "by is neither the giver nor the owner",
+        "by is neither the giver nor the owner, or, where only the owner may, by is not the owner",
         "the new weight isn't below the present one",
         "no chain from the owner carries the weight",
         "an entry of the step table breaks a rule",
@@ -196,7 +197,7 @@ static inline const char *seatreg_refusal_text(uint32_t refusal)
 SEATREG_CALL uint32_t seatreg_open(uint8_t *block, size_t block_len,
                                    uint8_t *answers, size_t answers_len);
 
-/* Enrols the next subject. A subject stays enrolled, and its marks stay as they are.
+/* Enrols the next subject. A subject stays enrolled; seatreg_set_marks changes its marks.
  *   marks: its 16 marks, read as bits.
  *   Refusals in order: 1, 4, 8, 10.
  *   Answers: the new subject's number, 0, 0.
@@ -304,6 +305,29 @@ SEATREG_CALL uint32_t seatreg_downgrade_table(uint8_t *block, size_t block_len,
                                               uint32_t by, uint32_t giver, uint32_t receiver, uint32_t weight,
                                               const uint8_t *table, size_t table_len,
                                               uint8_t *answers, size_t answers_len);
+
+/* Sets the marks of a subject, as when a course is passed or a certificate lapses; then lowers or drops
+ * what no longer stands under the new marks.
+ *   by: who asks; the owner alone may, not the subject itself.
+ *   subject: any enrolled subject but the owner.
+ *   marks: its 16 marks from now on, all of them. To give or take one, begin with what seatreg_marks reads.
+ *   table: as for the calls above: the text of the table that is lent with every other call on the
+ *     register, or table_len 0 for ours.
+ *   Refusals in order: 1, 2, 4, 6, 7, 17, 8, 9, 14.
+ *   Answers: dropped, lowered, rounds, as for a cut that names no delegation: how many were dropped, how
+ *     many were lowered and stay, together at most 256, and 1 to 512 rounds. Where the subject has these
+ *     marks already and the table supports the register, the answers are 0, 0, 1 and no byte changes.
+ *   Block: the subject has the new marks, and the delegations are the best remainder under them: each is
+ *     supported and as heavy as it can be, but none heavier than before.
+ *     A subject's marks count for what is given to it: it must meet the conditions of a chain to its giver.
+ *     The condition of a delegation to it binds those further on and not itself. What it gave to others is
+ *     judged by their marks, and is lowered or dropped only with what held it up.
+ *     Nothing is lifted and nothing comes back: the old marks, set again, undo nothing. What may be
+ *     heavier now its giver raises, and what may stand again its giver grants. */
+SEATREG_CALL uint32_t seatreg_set_marks(uint8_t *block, size_t block_len,
+                                        uint32_t by, uint32_t subject, uint32_t marks,
+                                        const uint8_t *table, size_t table_len,
+                                        uint8_t *answers, size_t answers_len);
 
 /* Order: from whom the right can come to one receiver, and how far, the heaviest giver first. It writes
  * precisely the subjects whose reach for this receiver isn't -1, each with that reach, its limit.

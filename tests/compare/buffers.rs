@@ -13,6 +13,7 @@ use crate::standing::{Left, Standing};
 use crate::tables::Text;
 use second::block::{encode, BLOCK_LEN};
 use second::random::Random;
+use second::refusal::Call;
 
 /// The buffers lent to the entry points; a buffer that an entry point doesn't take is empty and not lent.
 pub struct Buffers {
@@ -111,6 +112,7 @@ impl Buffers {
             return Some(self.leave(&(fault.does)(standing)));
         }
         let (number, left) = match asked {
+            Asked::Call(n) if n.call == Call::SetMarks => fault.set_marks?(lent, n),
             Asked::Call(_) => return None,
             Asked::Order(receiver) => fault.order?(lent, *receiver),
             Asked::File(FileCall::Write) => fault.write?(lent),

@@ -23,7 +23,7 @@ alone() {
     nm "$archive" >"$out/symbols" &&
         sed -nE 's/^SEATREG_CALL uint32_t (seatreg_[a-z_]+)\(.*/\1/p' include/seatreg.h | sort >"$out/functions" &&
         sed -nE 's/.* T (seatreg_.*)/\1/p' "$out/symbols" | sort | diff "$out/functions" - &&
-        test "$(wc -l <"$out/functions")" -eq 14 &&
+        test "$(wc -l <"$out/functions")" -eq 15 &&
         ! grep -E ' [bBdDsSgGcC] ' "$out/symbols" &&
         ! grep ' U ' "$out/symbols" | grep -vwE 'memcpy|memset'
 }
@@ -110,9 +110,12 @@ uint32_t USER(uint8_t *block, uint8_t *answers)
     sum += seatreg_grant_table(block, SEATREG_BLOCK_SIZE, SEATREG_OWNER, 1, 9, 1, 2, NO_TEXT, answers, SEATREG_ANSWERS_SIZE);
     sum += seatreg_reach_table(block, SEATREG_BLOCK_SIZE, SEATREG_OWNER, 1, NO_TEXT, answers, SEATREG_ANSWERS_SIZE);
     sum += seatreg_downgrade_table(block, SEATREG_BLOCK_SIZE, SEATREG_OWNER, SEATREG_OWNER, 1, 8, NO_TEXT, answers, SEATREG_ANSWERS_SIZE);
+    sum += seatreg_set_marks(block, SEATREG_BLOCK_SIZE, SEATREG_OWNER, 1, 5, NO_TEXT, answers, SEATREG_ANSWERS_SIZE);
+    if (seatreg_marks(block, 1) != 5 || seatreg_answer(answers, 0) != 0 || seatreg_answer(answers, 2) != 1)
+        return 3;
     sum += seatreg_order(block, SEATREG_BLOCK_SIZE, 1, NO_TEXT, order, sizeof order, answers, SEATREG_ANSWERS_SIZE);
     if (seatreg_answer(answers, 0) != 4 || order[0] != 0 || order[1] != 255 || order[2] != 1 || order[3] != 7)
-        return 3;
+        return 4;
     sum += seatreg_revoke_table(block, SEATREG_BLOCK_SIZE, SEATREG_OWNER, SEATREG_OWNER, 1, NO_TEXT, answers, SEATREG_ANSWERS_SIZE);
     sum += seatreg_write(block, SEATREG_BLOCK_SIZE, text, sizeof text, answers, SEATREG_ANSWERS_SIZE);
     sum += seatreg_read(block, SEATREG_BLOCK_SIZE, text, (size_t)seatreg_answer(answers, 0), NO_TEXT, answers, SEATREG_ANSWERS_SIZE);
@@ -169,6 +172,7 @@ uint32_t null(uint8_t *block, uint8_t *answers)
 {
     return seatreg_open(block, SEATREG_BLOCK_SIZE, 0, 0) +
            seatreg_reach_table(block, SEATREG_BLOCK_SIZE, 0, 1, 0, 0, answers, SEATREG_ANSWERS_SIZE) +
+           seatreg_set_marks(block, SEATREG_BLOCK_SIZE, 0, 1, 0, 0, 0, answers, SEATREG_ANSWERS_SIZE) +
            seatreg_order(block, SEATREG_BLOCK_SIZE, 1, 0, 0, 0, 0, answers, SEATREG_ANSWERS_SIZE) +
            seatreg_write(block, SEATREG_BLOCK_SIZE, 0, 0, answers, SEATREG_ANSWERS_SIZE) +
            seatreg_read(block, SEATREG_BLOCK_SIZE, 0, 0, 0, 0, answers, SEATREG_ANSWERS_SIZE);
@@ -177,7 +181,7 @@ END
         ! gcc -std=c99 "${strict[@]}" -Iinclude -c "$out/ignored.c" -o "$out/ignored.o" 2>"$out/ignored" &&
         grep -q 'unused-result' "$out/ignored" &&
         ! gcc -std=c99 "${strict[@]}" -Iinclude -c "$out/null.c" -o "$out/null.o" 2>"$out/null" &&
-        test "$(grep -c 'Werror=nonnull' "$out/null")" -eq 7 &&
+        test "$(grep -c 'Werror=nonnull' "$out/null")" -eq 8 &&
         gcc -std=c99 -U__GNUC__ -Iinclude -E "$out/ignored.c" >"$out/plain" &&
         ! grep -E '__attribute__|SEATREG_CALL' "$out/plain" &&
         gcc -std=c99 -U__GNUC__ "${strict[@]}" -Iinclude -c "$out/ignored.c" -o "$out/ignored.o"

@@ -6,7 +6,7 @@ use second::engine::FAST;
 use second::host::{host_call_table, host_order, host_read, host_write};
 use second::refusal::Passed;
 
-/// One of document 01's calls with its numbers, the order for a receiver, or a call on a register file.
+/// A call with its numbers, the order for a receiver, or a call on a register file.
 #[derive(Clone, Copy, Debug)]
 pub enum Asked {
     Call(Passed),
@@ -38,6 +38,27 @@ impl Contents {
         }
     }
 
+    /// What the second implementation returns and leaves of these.
+    pub fn right(&self, asked: &Asked) -> (u32, Contents) {
+        let mut left = self.clone();
+        let number = left.call(asked);
+        (number, left)
+    }
+
+    /// For the self test: the same, changed where it is accepted.
+    pub fn accepted(&self, asked: &Asked, change: impl Fn(&mut Contents)) -> (u32, Contents) {
+        let (number, mut left) = self.right(asked);
+        if number == 0 {
+            change(&mut left);
+        }
+        (number, left)
+    }
+
+    /// For the self test: other answers.
+    pub fn set_answers(&mut self, answers: [i32; 3]) {
+        self.answers = answers.map(i32::to_le_bytes).concat();
+    }
+
     /// After an accepted order, its subjects, each with its limit.
     pub fn items(&self) -> impl Iterator<Item = (u8, u8)> + '_ {
         self.file[..self.answer()].chunks_exact(2).map(|item| (item[0], item[1]))
@@ -45,6 +66,12 @@ impl Contents {
 
     /// The first answer.
     pub fn answer(&self) -> usize {
-        u32::from_le_bytes([self.answers[0], self.answers[1], self.answers[2], self.answers[3]]) as usize
+        self.three_answers()[0] as usize
+    }
+
+    /// All three answers of an accepted call.
+    pub fn three_answers(&self) -> [i32; 3] {
+        let bytes = &self.answers;
+        [0, 4, 8].map(|at| i32::from_le_bytes([bytes[at], bytes[at + 1], bytes[at + 2], bytes[at + 3]]))
     }
 }

@@ -5,8 +5,9 @@ use crate::entry::FileCall;
 use crate::filetexts::{buffer, Files};
 use crate::tables::{Tables, Text};
 use second::block::*;
-use second::call::blank;
+use second::call::{blank, run_table};
 use second::callfile::{from_values, used_columns, values_of};
+use second::engine::FAST;
 use second::random::{random_masks, random_register, Random, Shape};
 use second::refusal::{takes_table, Call, Passed, ORDER_BUFFER};
 use second::search::reach_table;
@@ -68,6 +69,8 @@ pub struct List {
     cuts: bool,
     /// Most calls are grants for a standing pair.
     raises: bool,
+    /// Most calls set marks.
+    marks: bool,
     /// Most calls are orders.
     orders: bool,
     /// Most calls are on a register file.
@@ -85,20 +88,45 @@ impl List {
             0..=12 => List::fresh(random, conditions, (2, 8), (20, 90)),
             13..=17 => List::fresh(random, conditions, (9, 30), (80, 250)),
             18..=19 => List { fills: true, ..List::fresh(random, conditions, (40, 66), (380, 480)) },
-            20..=36 => List { left: random.range(2, 10), ..List::on_register(random, conditions, Kind::Formed) },
-            37..=44 => List::on_orders(random),
-            45..=53 => List::on_files(random),
-            54..=59 => List { left: random.range(10, 20), raises: true, ..List::on_full(random, conditions) },
-            60..=79 => List { left: random.range(2, 10), cuts: true, ..List::on_dense(random) },
-            80..=96 => List { left: random.range(10, 40), ..List::on_register(random, conditions, Kind::Spoiled) },
+            20..=32 => List { left: random.range(2, 10), ..List::on_register(random, conditions, Kind::Formed) },
+            33..=44 => List::on_marks(random),
+            45..=52 => List::on_orders(random),
+            53..=61 => List::on_files(random),
+            62..=67 => List::on_raises(random),
+            68..=83 => List { left: random.range(2, 10), cuts: true, ..List::on_dense(random) },
+            84..=96 => List { left: random.range(10, 40), ..List::on_register(random, conditions, Kind::Spoiled) },
             _ => List { kind: Kind::Noise, opens: false, ..List::fresh(random, conditions, (0, 0), (5, 20)) },
         }
+    }
+
+    /// Most calls are grants for a standing pair, on well-formed registers, most of them full.
+    pub fn on_raises(random: &mut Random) -> List {
+        let (left, conditions) = (random.range(10, 20), random.pick(&[0, 20, 50, 80]));
+        let list = match random.below(10) {
+            0 | 1 => List::on_register(random, conditions, Kind::Formed),
+            _ => List::on_full(random, conditions),
+        };
+        List { left, raises: true, ..list }
+    }
+
+    /// Most calls set marks, on blocks of any content, in many of which all is supported, most of it under
+    /// conditions.
+    pub fn on_marks(random: &mut Random) -> List {
+        let (left, conditions) = (random.range(12, 30), random.pick(&[20, 50, 80]));
+        let kind = any_kind(random);
+        let list = match random.below(20) {
+            0 => List::on_full(random, conditions),
+            1..=3 => List::on_dense(random),
+            4..=14 => List::on_granted(random, kind),
+            _ => List::on_register(random, conditions, kind),
+        };
+        List { left, marks: true, ..list }
     }
 
     /// Most calls are orders, on blocks of any content, in many of which most delegations are unlimited.
     pub fn on_orders(random: &mut Random) -> List {
         let (left, conditions) = (random.range(8, 24), random.pick(&[0, 0, 20, 50, 80]));
-        let kind = random.pick(&[Kind::Formed, Kind::Formed, Kind::Formed, Kind::Spoiled, Kind::Noise]);
+        let kind = any_kind(random);
         let list = match random.below(20) {
             0 | 1 => List::on_full(random, conditions),
             2..=10 => List::on_unlimited(random, conditions, kind),
@@ -110,7 +138,7 @@ impl List {
     /// Most calls are writes and reads, on blocks of any content.
     pub fn on_files(random: &mut Random) -> List {
         let (left, conditions) = (random.range(30, 70), random.pick(&[0, 20, 50, 80]));
-        let kind = random.pick(&[Kind::Formed, Kind::Formed, Kind::Formed, Kind::Spoiled, Kind::Noise]);
+        let kind = any_kind(random);
         List { left, files: true, ..List::on_register(random, conditions, kind) }
     }
 
@@ -124,6 +152,7 @@ impl List {
             fills: false,
             cuts: false,
             raises: false,
+            marks: false,
             orders: false,
             files: false,
             conditions,
@@ -155,6 +184,20 @@ impl List {
             give_to_all(random, &mut register);
         }
         List::on_drawn(random, kind, register, conditions)
+    }
+
+    /// On a register that grants have made under the list's table, most of them conditional.
+    fn on_granted(random: &mut Random, kind: Kind) -> List {
+        let (subjects, conditions) = (random.pick(&[5, 8, 13, 24]), random.pick(&[80, 100]));
+        let shape = Shape { subjects, delegations: 0, weights: &WEIGHTS, marks: MARKS, conditions };
+        let mut list = List::on_shape(random, kind, &shape);
+        let Text { bytes, table, .. } = list.tables.usual(random).lent();
+        for _ in 0..8 * subjects {
+            let n = plausible(random, Call::Grant, &list.register, conditions, &table);
+            run_table(&FAST, &n, bytes.as_deref().unwrap_or_default(), &mut list.first);
+            list.register = decode(&list.first).expect("a grant leaves a well-formed block");
+        }
+        list
     }
 
     /// On a well-formed register in which 256 delegations stand.
@@ -216,7 +259,11 @@ impl List {
     }
 
     fn call(&self, random: &mut Random, call: Call) -> Drawn {
-        let text = if takes_table(call) { self.tables.next(random) } else { Text::without() };
+        let text = match call {
+            Call::SetMarks => self.tables.next(random).lent(),
+            _ if takes_table(call) => self.tables.next(random),
+            _ => Text::without(),
+        };
         let n = match call {
             Call::Grant if self.names_standing(random) => standing_grant(random, &self.register, &text.table),
             _ => plausible(random, call, &self.register, self.conditions, &text.table),
@@ -248,6 +295,9 @@ impl List {
         if self.raises && random.chance(70) {
             return What::Call(Call::Grant);
         }
+        if random.chance(if self.marks { 60 } else { 4 }) {
+            return What::Call(Call::SetMarks);
+        }
         if random.chance(if self.orders { 80 } else { 2 }) {
             return What::Order;
         }
@@ -278,6 +328,11 @@ impl List {
         };
         !self.register.delegations.is_empty() && random.chance(of_100)
     }
+}
+
+/// Most often a well-formed block.
+fn any_kind(random: &mut Random) -> Kind {
+    random.pick(&[Kind::Formed, Kind::Formed, Kind::Formed, Kind::Spoiled, Kind::Noise])
 }
 
 /// Each subject gets an unlimited delegation from one that has got one before, or from the owner.
@@ -358,6 +413,7 @@ fn plausible(random: &mut Random, call: Call, register: &Register, conditions: u
     let (giver, receiver) = match call {
         Call::Grant => open_pair(random, register),
         Call::Reach | Call::Order => any_pair(random, count),
+        Call::SetMarks => passed_on_pair(random, register),
         _ => standing_pair(random, register),
     };
     let n = blank(call);
@@ -375,6 +431,11 @@ fn plausible(random: &mut Random, call: Call, register: &Register, conditions: u
         Call::Downgrade => Passed { by, giver, receiver, weight: lower_weight(random, register, giver, receiver), ..n },
         Call::Reach => Passed { giver, receiver, ..n },
         Call::Use => Passed { receiver: random.pick(&[receiver, other]), ..n },
+        Call::SetMarks => {
+            let by = if random.chance(80) { 0 } else { random.pick(&[giver, receiver, other]) };
+            let subject = if random.chance(94) { receiver } else { random.pick(&[0, count]) };
+            Passed { by, receiver: subject, need: new_marks(random, register, table, giver, subject), ..n }
+        }
         Call::Order => Passed { receiver: if random.chance(3) { count } else { receiver }, ..n },
         Call::Open | Call::Chain => n,
     }
@@ -393,6 +454,12 @@ fn standing_pair(random: &mut Random, register: &Register) -> (u32, u32) {
     }
     let standing = random.pick(&register.delegations);
     (standing.giver as u32, standing.receiver as u32)
+}
+
+/// A pair that stands and whose giver isn't the owner, if one is found in a few tries.
+fn passed_on_pair(random: &mut Random, register: &Register) -> (u32, u32) {
+    let mut tries = (0..6).map(|_| standing_pair(random, register));
+    tries.find(|&(giver, _)| giver != 0).unwrap_or_else(|| standing_pair(random, register))
 }
 
 /// A pair that doesn't stand and whose giver is the owner or receives something,
@@ -457,6 +524,35 @@ fn near_condition(random: &mut Random, need: u32, bar: u32) -> (u32, u32) {
         2 => (bar, need),
         _ => (need, bar),
     }
+}
+
+/// Most often such that what the giver gave the subject can't stand as it does, or one mark more or less than
+/// now; some are those that stand.
+fn new_marks(random: &mut Random, register: &Register, table: &Table, giver: u32, subject: u32) -> u32 {
+    let present = register.marks_of(subject);
+    let marks = match random.below(10) {
+        0 => present,
+        1 => random.next() as u16,
+        2 | 3 => present ^ random.pick(&[1, 2, 4, 0x8000]),
+        _ => lowering_marks(random, register, table, giver, subject),
+    };
+    marks as u32
+}
+
+/// Marks by which the reach of a pair is below the weight that stands, if some are found in a few tries.
+fn lowering_marks(random: &mut Random, register: &Register, table: &Table, giver: u32, subject: u32) -> u16 {
+    let mut other = register.clone();
+    let weight = register.standing(giver, subject).map_or(0, |d| d.weight as i16);
+    for _ in 0..6 {
+        let marks = random.next() as u16 & MARKS;
+        if let Some(own) = other.marks.get_mut(subject as usize) {
+            *own = marks;
+        }
+        if reach_table(table, &other, giver, subject) < weight {
+            return marks;
+        }
+    }
+    register.marks_of(subject) ^ 1
 }
 
 /// Most downgrades are below what stands, some not.

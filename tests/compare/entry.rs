@@ -2,6 +2,7 @@
 
 use crate::lent::Lent;
 use second::refusal::{Call, Passed};
+use std::ptr::NonNull;
 
 extern "C" {
     fn seatreg_open(block: *mut u8, block_len: usize, answers: *mut u8, answers_len: usize) -> u32;
@@ -42,6 +43,10 @@ extern "C" {
         block: *mut u8, block_len: usize, by: u32, giver: u32, receiver: u32, weight: u32,
         table: *const u8, table_len: usize, answers: *mut u8, answers_len: usize,
     ) -> u32;
+    fn seatreg_set_marks(
+        block: *mut u8, block_len: usize, by: u32, subject: u32, marks: u32,
+        table: *const u8, table_len: usize, answers: *mut u8, answers_len: usize,
+    ) -> u32;
     fn seatreg_order(
         block: *const u8, block_len: usize, receiver: u32, table: *const u8, table_len: usize,
         out: *mut u8, out_len: usize, answers: *mut u8, answers_len: usize,
@@ -56,11 +61,14 @@ extern "C" {
     ) -> u32;
 }
 
-/// An entry point: a call, lent a table's text or not, the order, or a call on a register file.
+/// An entry point: a call, lent a table's text or not, the setting of marks, the order, or a call on a
+/// register file.
 #[derive(Clone, Copy, PartialEq, Eq)]
 pub enum Entry {
     Without(Call),
     WithTable(Call),
+    /// Always lent a table's text.
+    SetMarks,
     /// Lent a table's text, and a buffer that it writes into.
     Order,
     File(FileCall),
@@ -74,7 +82,7 @@ pub enum FileCall {
 }
 
 /// All of them, in the header's order.
-pub const ENTRIES: [Entry; 14] = [
+pub const ENTRIES: [Entry; 15] = [
     Entry::Without(Call::Open),
     Entry::Without(Call::Enrol),
     Entry::Without(Call::Grant),
@@ -86,12 +94,13 @@ pub const ENTRIES: [Entry; 14] = [
     Entry::WithTable(Call::Reach),
     Entry::WithTable(Call::Revoke),
     Entry::WithTable(Call::Downgrade),
+    Entry::SetMarks,
     Entry::Order,
     Entry::File(FileCall::Write),
     Entry::File(FileCall::Read),
 ];
 
-/// Makes a call on two lent buffers; answers the number returned.
+/// Makes a call on two lent buffers, the setting of marks with an empty text; answers the number returned.
 pub fn entry_call(n: &Passed, block: &mut Lent, answers: &mut Lent) -> u32 {
     let (b, b_len, a, a_len) = (block.pointer(), block.len(), answers.pointer(), answers.len());
     // Each pointer is valid for its length, and the two buffers lie apart.
@@ -104,6 +113,9 @@ pub fn entry_call(n: &Passed, block: &mut Lent, answers: &mut Lent) -> u32 {
             Call::Downgrade => seatreg_downgrade(b, b_len, n.by, n.giver, n.receiver, n.weight, a, a_len),
             Call::Reach => seatreg_reach(b, b_len, n.giver, n.receiver, a, a_len),
             Call::Use => seatreg_use(b, b_len, n.receiver, a, a_len),
+            Call::SetMarks => {
+                seatreg_set_marks(b, b_len, n.by, n.receiver, n.need, NonNull::dangling().as_ptr(), 0, a, a_len)
+            }
             Call::Chain => unreachable!("the chain call has no entry point"),
             Call::Order => unreachable!("the order has a function of its own"),
         }
@@ -125,6 +137,7 @@ pub fn entry_call_table(n: &Passed, block: &mut Lent, table: &mut Lent, answers:
             Call::Downgrade => {
                 seatreg_downgrade_table(b, b_len, n.by, n.giver, n.receiver, n.weight, t, t_len, a, a_len)
             }
+            Call::SetMarks => seatreg_set_marks(b, b_len, n.by, n.receiver, n.need, t, t_len, a, a_len),
             _ => unreachable!("the call takes no table"),
         }
     }

@@ -22,8 +22,9 @@ pub struct Fault {
     /// For which grants for a standing pair the entry point is not called, and what these do.
     pub when: fn(&Standing) -> bool,
     pub does: fn(&Standing) -> Left,
-    /// What is made in place of the entry point of an order, a write or a read, from what it is lent: the
-    /// number that it returns, and the buffers as it leaves them. An order is made for a receiver.
+    /// What is made in place of the entry point that sets marks, or of an order, a write or a read, from what it
+    /// is lent: the number that it returns, and the buffers as it leaves them. An order is made for a receiver.
+    pub set_marks: Option<fn(&Contents, &Passed) -> (u32, Contents)>,
     pub order: Option<fn(&Contents, u32) -> (u32, Contents)>,
     pub write: Option<fn(&Contents) -> (u32, Contents)>,
     pub read: Option<fn(&Contents) -> (u32, Contents)>,
@@ -45,6 +46,7 @@ pub const NONE: Fault = Fault {
     text: |text| Some(text),
     when: |_| false,
     does: Standing::raised,
+    set_marks: None,
     order: None,
     write: None,
     read: None,

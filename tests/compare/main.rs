@@ -18,6 +18,7 @@ mod fault;
 mod filetexts;
 mod header;
 mod lent;
+mod marks;
 mod orders;
 mod raises;
 mod readers;
@@ -30,6 +31,7 @@ mod writes;
 
 use buffers::Buffers;
 use fault::{Fault, FAULTS, NONE};
+use marks::MARKS;
 use orders::ORDERS;
 use raises::RAISES;
 use reads::READS;
@@ -73,7 +75,7 @@ fn finds_nothing(seed: u64, cases: u64) -> bool {
 /// Each fault is found, and only in the parts where it was put in.
 fn finds_faults(seed: u64, cases: u64) -> bool {
     let mut all_found = true;
-    for fault in FAULTS.iter().chain(&RAISES).chain(&ORDERS).chain(&WRITES).chain(&READS) {
+    for fault in FAULTS.iter().chain(&RAISES).chain(&MARKS).chain(&ORDERS).chain(&WRITES).chain(&READS) {
         let report = compare(seed, cases, fault, false);
         let found = fault.is_found(&report);
         let verdict = if found { "found" } else { "NOT FOUND" };

@@ -6,7 +6,6 @@ use crate::fault::{Fault, NONE};
 use crate::report::Part;
 use second::block::{decode, Delegation, Register, BLOCK_LEN};
 use second::chain::meets;
-use second::host::ANSWERS_LEN;
 use second::refusal::{MALFORMED, NOT_WELL_FORMED, ORDER_BUFFER, WRONG_LENGTH};
 use second::table::Table;
 use std::cmp::Reverse;
@@ -68,7 +67,7 @@ pub const ORDERS: [Fault; 26] = [
         left.file[length..].iter_mut().take(1).for_each(|byte| *byte = 0);
     })),
     wrong("subjects answered in place of bytes", ANSWERS, |lent, to| accepted(lent, to, |left| {
-        set_answer(left, left.answer() / 2);
+        left.set_answers([left.answer() as i32 / 2, 0, 0]);
     })),
     wrong("a buffer of 127 bytes accepted", ACCEPTED, |lent, to| {
         if lent.file.len() == ORDER_BUFFER - 1 { as_right_length(lent, to) } else { right(lent, to) }
@@ -118,18 +117,12 @@ const fn wrong(name: &'static str, parts: &'static [Part], order: fn(&Contents, 
 
 /// What the second implementation returns and leaves.
 fn right(lent: &Contents, receiver: u32) -> Left {
-    let mut left = lent.clone();
-    let number = left.call(&Asked::Order(receiver));
-    (number, left)
+    lent.right(&Asked::Order(receiver))
 }
 
 /// The same, changed where it is accepted.
 fn accepted(lent: &Contents, receiver: u32, change: impl Fn(&mut Contents)) -> Left {
-    let (number, mut left) = right(lent, receiver);
-    if number == 0 {
-        change(&mut left);
-    }
-    (number, left)
+    lent.accepted(&Asked::Order(receiver), change)
 }
 
 /// The same, with other items written.
@@ -140,7 +133,7 @@ fn rewritten(lent: &Contents, receiver: u32, change: impl Fn(&Order, &mut Vec<It
         let bytes: Vec<u8> = items.iter().flat_map(|&(subject, limit)| [subject, limit]).collect();
         left.file.clone_from(&lent.file);
         left.file[..bytes.len()].copy_from_slice(&bytes);
-        set_answer(left, bytes.len());
+        left.set_answers([bytes.len() as i32, 0, 0]);
     })
 }
 
@@ -153,11 +146,6 @@ fn as_right_length(lent: &Contents, receiver: u32) -> Left {
     left.file.truncate(kept);
     left.file.extend(&lent.file[kept..]);
     (number, left)
-}
-
-fn set_answer(left: &mut Contents, answer: usize) {
-    left.answers = vec![0; ANSWERS_LEN];
-    left.answers[..4].copy_from_slice(&(answer as u32).to_le_bytes());
 }
 
 /// The register of an accepted order.

@@ -1,5 +1,6 @@
 //! Wrong grants for a pair that stands, to see that the comparison finds them.
 
+use crate::draw::List;
 use crate::fault::{Fault, NONE};
 use crate::report::Part;
 use crate::standing::{Left, Standing, ALL_STAND, OVERWEIGHT, PAIR_STANDS};
@@ -37,7 +38,7 @@ pub const RAISES: [Fault; 18] = [
 const fn wrong(
     name: &'static str, parts: &'static [Part], when: fn(&Standing) -> bool, does: fn(&Standing) -> Left,
 ) -> Fault {
-    Fault { name, parts, when, does, ..NONE }
+    Fault { name, lists: List::on_raises, parts, when, does, ..NONE }
 }
 
 fn is_to_reach(s: &Standing) -> bool {

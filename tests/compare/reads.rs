@@ -96,9 +96,7 @@ const fn wrong(name: &'static str, parts: &'static [Part], read: fn(&Contents) -
 
 /// What the second implementation returns and leaves.
 fn right(lent: &Contents) -> Left {
-    let mut left = lent.clone();
-    let number = left.call(&Asked::File(FileCall::Read));
-    (number, left)
+    lent.right(&Asked::File(FileCall::Read))
 }
 
 /// The same, as if this file had been lent.

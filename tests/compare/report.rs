@@ -53,6 +53,7 @@ pub struct Case {
 impl Case {
     fn entry(&self) -> Entry {
         match self.asked {
+            Asked::Call(n) if n.call == Call::SetMarks => Entry::SetMarks,
             Asked::Call(n) if self.text.kind == TextKind::Without => Entry::Without(n.call),
             Asked::Call(n) => Entry::WithTable(n.call),
             Asked::Order(_) => Entry::Order,
@@ -68,8 +69,10 @@ impl Case {
         }
     }
 
-    fn is_accepted_cut(&self) -> bool {
-        matches!(self.asked, Asked::Call(n) if matches!(n.call, Call::Revoke | Call::Downgrade)) && self.due == 0
+    /// The call whose numbers were accepted, if it is one that is followed by rounds.
+    fn settled(&self) -> Option<Call> {
+        let Asked::Call(n) = self.asked else { return None };
+        (self.due == 0 && matches!(n.call, Call::Revoke | Call::Downgrade | Call::SetMarks)).then_some(n.call)
     }
 }
 
@@ -83,7 +86,8 @@ pub struct Report {
     /// What the calls that take a table were lent.
     of_text: [u64; TEXT_KINDS.len()],
     /// Under our table, and under others.
-    cuts: [Cuts; 2],
+    cuts: [Settled; 2],
+    marks: [Settled; 2],
     standing: [StandingGrants; 2],
     orders: [Orders; 2],
     files: [Files; 2],
@@ -92,24 +96,43 @@ pub struct Report {
     shows: bool,
 }
 
-/// What the accepted cuts did.
+/// What the rounds of accepted calls did.
 #[derive(Clone, Copy, Default)]
-struct Cuts {
-    /// How many dropped something, lowered something, had three rounds or more.
+struct Settled {
+    /// How many began with 256 delegations.
+    full: u64,
+    /// How many left all as it was, dropped something, lowered something, had three rounds or more.
+    nothing: u64,
     dropped: u64,
     lowered: u64,
     rounds: u64,
-    /// The most rounds of one cut.
+    /// The most rounds of one call.
     most: i32,
 }
 
-impl Cuts {
-    fn add(&mut self, answers: &[u8]) {
-        let answer = |at: usize| i32::from_le_bytes([answers[at], answers[at + 1], answers[at + 2], answers[at + 3]]);
-        self.dropped += (answer(0) > 0) as u64;
-        self.lowered += (answer(4) > 0) as u64;
-        self.rounds += (answer(8) >= 3) as u64;
-        self.most = self.most.max(answer(8));
+impl Settled {
+    fn add(&mut self, left: &Contents) {
+        let [dropped, lowered, rounds] = left.three_answers();
+        let standing = word(&left.block, DELEGATIONS_AT) as usize;
+        self.full += (standing + dropped as usize == MOST_DELEGATIONS) as u64;
+        self.nothing += (rounds == 1) as u64;
+        self.dropped += (dropped > 0) as u64;
+        self.lowered += (lowered > 0) as u64;
+        self.rounds += (rounds >= 3) as u64;
+        self.most = self.most.max(rounds);
+    }
+
+    /// What did not occur.
+    fn missing(&self) -> Vec<&'static str> {
+        let Settled { full, nothing, dropped, lowered, rounds, .. } = *self;
+        let counts = [
+            (full, "marks set in a full register"),
+            (nothing, "marks set with no other change"),
+            (dropped, "marks set and something dropped"),
+            (lowered, "marks set and something lowered"),
+            (rounds, "marks set with 3 rounds"),
+        ];
+        counts.into_iter().filter(|(count, _)| *count == 0).map(|(_, what)| what).collect()
     }
 }
 
@@ -224,7 +247,7 @@ impl StandingGrants {
     }
 }
 
-/// The tables by which cuts, grants for a standing pair, orders and register files are counted.
+/// The tables by which grants for a standing pair, cuts, settings of marks, orders and register files are counted.
 const TABLES: [&str; 2] = ["our table", "others"];
 
 impl Report {
@@ -238,7 +261,8 @@ impl Report {
             block_lengths: 0,
             answers_lengths: 0,
             of_text: [0; TEXT_KINDS.len()],
-            cuts: [Cuts::default(); 2],
+            cuts: [Settled::default(); 2],
+            marks: [Settled::default(); 2],
             standing: [StandingGrants::default(); 2],
             orders: [Orders::default(); 2],
             files: [Files::default(); 2],
@@ -259,8 +283,10 @@ impl Report {
         let table = (case.text.kind == TextKind::Other) as usize;
         self.orders[table].add(case);
         self.files[table].add(case);
-        if case.is_accepted_cut() {
-            self.cuts[table].add(&case.left.answers);
+        match case.settled() {
+            Some(Call::SetMarks) => self.marks[table].add(&case.left),
+            Some(_) => self.cuts[table].add(&case.left),
+            None => (),
         }
         if let Some(standing) = &case.standing {
             self.standing[table].add(standing, case.due);
@@ -320,10 +346,12 @@ impl Report {
             println!("grants for a standing pair under {table}: {}", texts(grants.returned));
             println!("        in a full register: {}", texts(grants.full));
         }
-        for (table, cuts) in TABLES.iter().zip(self.cuts) {
-            let Cuts { dropped, lowered, rounds, most } = cuts;
-            let counts = format!("{dropped} dropped, {lowered} lowered, {rounds} had 3 rounds or more, {most} the most");
-            println!("cuts under {table}: {counts}");
+        for (what, by_table) in [("cuts", self.cuts), ("marks set", self.marks)] {
+            for (table, settled) in TABLES.iter().zip(by_table) {
+                let Settled { full, nothing, dropped, lowered, rounds, most } = settled;
+                println!("{what} under {table}: {dropped} dropped, {lowered} lowered, {nothing} neither");
+                println!("        {rounds} had 3 rounds or more, {most} the most, {full} in a full register");
+            }
         }
         for (table, orders) in TABLES.iter().zip(self.orders) {
             let Orders { full, all, with_receiver, without, unsorted } = orders;
@@ -337,8 +365,8 @@ impl Report {
         }
     }
 
-    /// The numbers that a call can return and did not; of grants for a standing pair, orders and register files also
-    /// by table and register.
+    /// The numbers that a call can return and did not; of grants for a standing pair, settings of marks, orders and
+    /// register files also by table and register.
     pub fn missing(&self) -> Vec<String> {
         let mut missing = Vec::new();
         for (place, &entry) in ENTRIES.iter().enumerate() {
@@ -350,6 +378,9 @@ impl Report {
         for (table, grants) in TABLES.iter().zip(self.standing) {
             let absent = grants.missing().into_iter();
             missing.extend(absent.map(|(number, place)| format!("{number} for a standing pair, {table}, {place}")));
+        }
+        for (table, marks) in TABLES.iter().zip(self.marks) {
+            missing.extend(marks.missing().into_iter().map(|what| format!("{what}, {table}")));
         }
         if self.orders.iter().all(|orders| orders.all == 0) {
             missing.push("an order of 64 subjects".to_string());
@@ -368,6 +399,7 @@ pub fn name(entry: Entry) -> String {
     match entry {
         Entry::Without(call) => format!("{call:?}").to_lowercase(),
         Entry::WithTable(call) => format!("{call:?}").to_lowercase() + "_table",
+        Entry::SetMarks => "set_marks".to_string(),
         Entry::Order => "order".to_string(),
         Entry::File(call) => format!("{call:?}").to_lowercase(),
     }
@@ -380,6 +412,7 @@ pub fn refusals(entry: Entry) -> Vec<u32> {
         Entry::File(FileCall::Read) => return READ_REFUSALS.to_vec(),
         Entry::Without(call) => (call, false),
         Entry::WithTable(call) => (call, true),
+        Entry::SetMarks => (Call::SetMarks, true),
         Entry::Order => (Call::Order, true),
     };
     let tests = tests(call);

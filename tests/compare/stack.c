@@ -197,13 +197,23 @@ static void revoke_deep_table(void) { returned = seatreg_revoke_table(BLOCK, 0, 
 static void downgrade_first_table(void) { returned = seatreg_downgrade_table(BLOCK, 0, 0, 1, 0, TABLE, ANSWERS); }
 static void downgrade_deep_table(void) { returned = seatreg_downgrade_table(BLOCK, 0, 1, 12, 0, TABLE, ANSWERS); }
 
+static void set_marks_last(void) { returned = seatreg_set_marks(BLOCK, 0, 63, 0, NO_TEXT, ANSWERS); }
+static void set_marks_last_table(void) { returned = seatreg_set_marks(BLOCK, 0, 63, 0, TABLE, ANSWERS); }
+
+/* Subject 12 loses START, which it needs as the receiver of the walk's first link. */
+static void set_marks_deep(void) { returned = seatreg_set_marks(BLOCK, 0, 12, 12 | SECOND_SIDE, NO_TEXT, ANSWERS); }
+static void set_marks_deep_table(void)
+{
+    returned = seatreg_set_marks(BLOCK, 0, 12, 12 | SECOND_SIDE, TABLE, ANSWERS);
+}
+
 static void order_last(void) { returned = seatreg_order(BLOCK, 63, NO_TEXT, OUT, ANSWERS); }
 static void order_last_table(void) { returned = seatreg_order(BLOCK, 63, TABLE, OUT, ANSWERS); }
 
 static void write_file(void) { returned = seatreg_write(BLOCK, text, sizeof text, ANSWERS); }
 static void read_file(void) { returned = seatreg_read(BLOCK, text, text_len, TABLE, ANSWERS); }
 
-/* A row: the register, the call, the rounds it must answer, 0 if it is no cut, and what it must return:
+/* A row: the register, the call, the rounds it must answer, 0 if it has none, and what it must return:
  * for 7 the table's text is lent without its last byte. */
 struct row {
     const char *what;
@@ -235,6 +245,11 @@ static const struct row rows[] = {
     {"downgrade with a table", build_full, downgrade_first_table, 1, 0},
     {"  485 rounds", build_deep, downgrade_deep_table, 485, 0},
     {"  refused with 7", build_full, downgrade_first_table, 0, SEATREG_MALFORMED},
+    {"set_marks, full register", build_full, set_marks_last, 1, 0},
+    {"set_marks, 486 rounds", build_deep, set_marks_deep, 486, 0},
+    {"set_marks with a table", build_full, set_marks_last_table, 1, 0},
+    {"  486 rounds", build_deep, set_marks_deep_table, 486, 0},
+    {"  refused with 7", build_full, set_marks_last_table, 0, SEATREG_MALFORMED},
     {"order, full register", build_full, order_last, 0, 0},
     {"order with a table", build_full, order_last_table, 0, 0},
     {"  refused with 7", build_full, order_last_table, 0, SEATREG_MALFORMED},

@@ -6,7 +6,6 @@ use crate::entry::FileCall;
 use crate::fault::{Fault, NONE};
 use crate::report::Part;
 use second::block::{decode, Register};
-use second::host::ANSWERS_LEN;
 use second::refusal::{UNSUPPORTED, WRONG_LENGTH};
 use second::regfile::{Rows, LEAST_TEXT};
 use second::search::reaches;
@@ -73,18 +72,12 @@ const fn wrong(name: &'static str, parts: &'static [Part], write: fn(&Contents) 
 
 /// What the second implementation returns and leaves.
 fn right(lent: &Contents) -> (u32, Contents) {
-    let mut left = lent.clone();
-    let number = left.call(&Asked::File(FileCall::Write));
-    (number, left)
+    lent.right(&Asked::File(FileCall::Write))
 }
 
 /// The same, changed where it is accepted.
 fn accepted(lent: &Contents, change: impl Fn(&mut Contents)) -> (u32, Contents) {
-    let (number, mut left) = right(lent);
-    if number == 0 {
-        change(&mut left);
-    }
-    (number, left)
+    lent.accepted(&Asked::File(FileCall::Write), change)
 }
 
 /// The register that was written.
@@ -101,8 +94,7 @@ fn put(left: &mut Contents, lent: &Contents, rows: &Rows) {
 }
 
 fn set_answer(left: &mut Contents, answer: usize) {
-    left.answers = vec![0; ANSWERS_LEN];
-    left.answers[..4].copy_from_slice(&(answer as u32).to_le_bytes());
+    left.set_answers([answer as i32, 0, 0]);
 }
 
 fn is_supported(register: &Register) -> bool {
