@@ -322,8 +322,9 @@ SEATREG_CALL uint32_t seatreg_downgrade_table(uint8_t *block, size_t block_len,
  *     A subject's marks count for what is given to it: it must meet the conditions of a chain to its giver.
  *     The condition of a delegation to it binds those further on and not itself. What it gave to others is
  *     judged by their marks, and is lowered or dropped only with what held it up.
- *     Nothing is lifted and nothing comes back: the old marks, set again, undo nothing. What may be
- *     heavier now its giver raises, and what may stand again its giver grants. */
+ *     Nothing is lifted and nothing comes back: the old marks, set again, undo nothing, and where a
+ *     condition bars them they can cost more. What may be heavier now its giver raises, and what may
+ *     stand again its giver grants. */
 SEATREG_CALL uint32_t seatreg_set_marks(uint8_t *block, size_t block_len,
                                         uint32_t by, uint32_t subject, uint32_t marks,
                                         const uint8_t *table, size_t table_len,

@@ -54,12 +54,7 @@ pub fn call(
     if number == 6 {
         return register::set_marks(block, by, receiver, need, table);
     }
-    Answer {
-        refusal: refusal::MALFORMED,
-        first: 0,
-        second: 0,
-        third: 0,
-    }
+    register::refused(refusal::MALFORMED)
 }
 
 // The number is a call's.

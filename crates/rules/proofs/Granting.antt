@@ -2,7 +2,7 @@
 use mathlib.Core.Path.{_≡_, refl, sym, ap, subst, _∙_}
 use mathlib.Core.Logic.{_⊎_, inl, inr}
 use mathlib.Core.Bool.{Bool, true, false, not, cond, _&&_}
-use mathlib.Core.List.{List, map, List·Memᴰ·head, List·Memᴰ·tail}
+use mathlib.Core.List.{List, map}
 use Prim.Native.Nat.{ℕ}
 use native.Mathlib.Omega.{arith}
 use lib.Dec.{T, ltb, eqb, eqb→eq, ltb→lt, lt→ltb}
@@ -16,7 +16,7 @@ use Rattle.rules.specs.CallStep.{insert, afterGrant}
 use Rattle.rules.specs.Granted.{GrantedIn, Raises}
 use Rattle.rules.proofs.Lists.{T-left, T-right, T-both, yes, no, eq→eqb, not-not, any-mem, mem-any, mem-map, map-mem}
 use Rattle.rules.proofs.AtMost.{AtMost-refl}
-use Rattle.rules.proofs.Pairs.{IsPair, pair-test, test-pair, pair-one, insert-mem, mem-insert}
+use Rattle.rules.proofs.Pairs.{pair-test, test-pair, pair-one, insert-mem, mem-insert}
 
 -- ── d raises e ──
 test-raises : (d e : Delegation) → T (isRaise d e) → Raises d e

@@ -8,7 +8,7 @@ use Rattle.rules.specs.Table.{TableRule, steps}
 use Rattle.rules.specs.Register.{Register}
 use Rattle.rules.specs.Support.{Supported}
 use Rattle.rules.specs.Round.{settle}
-use Rattle.rules.specs.Cut.{Change, cutting, marking, removal, lowering, changed}
+use Rattle.rules.specs.Cut.{cutting, marking, removal, lowering, changed}
 use Rattle.rules.specs.Remainder.{LiftsNothing}
 use Rattle.rules.specs.WellFormed.{WellFormed}
 use Rattle.rules.specs.Call.{Call, revoke, downgrade, setMarks, fresh, Makes}

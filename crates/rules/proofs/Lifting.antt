@@ -10,7 +10,7 @@ use Rattle.rules.specs.List.{_∈_}
 use Rattle.rules.specs.Limit.{code}
 use Rattle.rules.specs.Register.{Delegation, Register, reweigh}
 use Rattle.rules.specs.Pair.{isPair, weightAt, setFor}
-use Rattle.rules.specs.Cut.{Change, cutting, marking, removal, lowering, named, changed}
+use Rattle.rules.specs.Cut.{Change, removal, lowering, named, changed}
 use Rattle.rules.specs.Remainder.{AtMost, LiftsNothing}
 use Rattle.rules.specs.WellFormed.{Rising, WellFormed}
 use Rattle.rules.specs.Call.{Call, enrol, grant, revoke, downgrade, askReach, askUse, setMarks, Makes}

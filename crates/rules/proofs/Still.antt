@@ -4,7 +4,7 @@ use mathlib.Core.Bool.{false, not, _&&_}
 use mathlib.Core.List.{List}
 use Prim.Native.Nat.{ℕ, zero, suc}
 use native.Mathlib.Omega.{arith}
-use lib.Dec.{T, leb, leb→le, not-T}
+use lib.Dec.{leb, leb→le, not-T}
 use lib.ListN.{length}
 use lib.Seq.{set-getD}
 use lib.IntN.{ℤ, pos}

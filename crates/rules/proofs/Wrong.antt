@@ -1,7 +1,7 @@
 -- What a wrong program returns and leaves, and how it is told from what the definitions make of the call. Assumes nothing.
 use mathlib.Core.Path.{_≡_, subst}
 use mathlib.Core.Bool.{Bool, false, _&&_}
-use mathlib.Core.List.{List, [], _∷_, _++_}
+use mathlib.Core.List.{List, _∷_, _++_}
 use Prim.Native.Nat.{ℕ}
 use lib.Dec.{T, eqb, leb, le→leb}
 use lib.IntN.{ℤ}

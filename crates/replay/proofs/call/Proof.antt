@@ -96,11 +96,16 @@ returns-7 c =
     let s = c .before .before .before .before .before .before .before .before .before .before .before .before .before in
     call-named (s .args .number) (named s) (s .args .table .now) (s .args .block .now) _ _ 6 (c .before .before .before .before .if7 .taken) tt (c .before .before .set-marks .ensures .outcome)
 
+refused-requires : tie.Need-refused-requires
+refused-requires c κs = search needs
+
 returns-8 : tie.Need-returns-8
 returns-8 c =
-    let s = c .before .before .before .before .before .before .before .before .before in
+    let e = c .before in
+    let s = e .before .before .before .before .before .before .before .before .before in
     call-other (s .args .number) (named s) (s .args .table .now) (s .args .block .now) _ _
-    (no-call (s .args .number) (c .before .before .before .before .before .before .if1 .left) (c .before .before .before .before .before .if2 .left) (c .before .before .before .before .if3 .left) (c .before .before .before .if4 .left) (c .before .before .if5 .left) (c .before .if6 .left) (c .if7 .left)) refl refl
+    (no-call (s .args .number) (e .before .before .before .before .before .before .if1 .left) (e .before .before .before .before .before .if2 .left) (e .before .before .before .before .if3 .left) (e .before .before .before .if4 .left) (e .before .before .if5 .left) (e .before .if6 .left) (e .if7 .left))
+    (c .refused .ensures) refl
 
 pub call-spec : {M : Type 1} → statement M
 call-spec =
@@ -127,4 +132,5 @@ call-spec =
     set-marks-requires
     same-length-7
     returns-7
+    refused-requires
     returns-8)
