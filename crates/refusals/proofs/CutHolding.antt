@@ -1,4 +1,4 @@
--- Refusals of a cut by what the register holds, test by test as the code makes them; and what a cut that is not refused may rely on. Assumes nothing.
+-- Refusals of a cut by what the register holds, test by test as the code makes them; and what a cut, or a setting of marks, that is not refused may rely on. Assumes nothing.
 use mathlib.Core.Path.{_≡_, refl, sym, ap, _∙_}
 use mathlib.Core.Bool.{true, false, not, _||_}
 use mathlib.Core.List.{List, [], _∷_, _++_}

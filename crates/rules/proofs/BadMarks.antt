@@ -109,15 +109,15 @@ wrong-marks =
     on (setMarks 0 2 0) (told 0 0 1 (lapsed four))
     -- the marks of another subject
     ∷ on (setMarks 0 2 0) (told 0 1 2 (marked 1 0 (needing 0 1 6 1 ∷ entry 0 2 2 ∷ entry 1 2 5 ∷ entry 2 3 1 ∷ [])))
-    -- a mark is added in place of setting them; it is the only one that is cleared
+    -- the marks passed are added to those that stand; they are cleared from them
     ∷ on (setMarks 0 2 2) (told 0 0 1 (marked 3 1 four))
     ∷ on (setMarks 0 3 2) (told 0 0 1 (marked 1 1 four))
-    -- the register is right, the marks are left as they were
+    -- the delegations are right, the marks are left as they were
     ∷ on (setMarks 0 2 0) (told 1 1 3 (marked 1 1 kept))
     -- the last round is not counted; the same marks make no round
     ∷ on (setMarks 0 2 0) (told 1 1 2 (lapsed kept))
     ∷ on (setMarks 0 2 1) (told 0 0 0 before)
-    -- 1, who only passes on, must meet the condition of the delegation to it
+    -- 1 must meet the condition of the delegation to it, or a condition is judged by the marks of those on the way
     ∷ on (setMarks 0 1 0) (told 2 1 3 (marked 1 1 (entry 0 2 2 ∷ entry 2 3 1 ∷ [])))
     -- the subject sets its own marks; 14 before 6, and before 9; 6 before 4; the owner's marks are set
     ∷ on (setMarks 2 2 1) (told 0 0 1 before)

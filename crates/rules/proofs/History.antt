@@ -16,10 +16,10 @@ use Rattle.rules.specs.Refusal.{passed, held}
 use Rattle.rules.specs.CallStep.{Outcome, cut, accepted, callStep}
 use Rattle.rules.specs.History.{leftBy, CutRight, CutsRight, Demand3}
 use Rattle.rules.proofs.Table.{steps-rule}
-use Rattle.rules.proofs.Rounds.{settle-right, settle-best}
+use Rattle.rules.proofs.Rounds.{lifts-trans, settle-right, settle-best}
 use Rattle.rules.proofs.Refusals.{Passes}
 use Rattle.rules.proofs.Calls.{fresh-formed, accepted-change, callStep-cases, callStep-formed, callStep-supported}
-use Rattle.rules.proofs.Lifting.{lifts-trans, changed-lifts}
+use Rattle.rules.proofs.Lifting.{changed-lifts}
 use Rattle.rules.proofs.Trace.{stays, places}
 
 -- each of the calls that rounds follow makes its change, so that what is claimed of a change is claimed of them

@@ -16,15 +16,10 @@ use Rattle.rules.specs.WellFormed.{Rising, WellFormed}
 use Rattle.rules.specs.Call.{Call, enrol, grant, revoke, downgrade, askReach, askUse, setMarks, Makes}
 use Rattle.rules.specs.Refusal.{passed, held}
 use Rattle.rules.proofs.Lists.{filter-mem, map-mem}
-use Rattle.rules.proofs.AtMost.{AtMost-refl, AtMost-reweigh, AtMost-trans}
+use Rattle.rules.proofs.AtMost.{AtMost-refl, AtMost-reweigh}
+use Rattle.rules.proofs.Rounds.{lifts-refl}
 use Rattle.rules.proofs.Refusals.{Passes}
 use Rattle.rules.proofs.Pairs.{test-pair, weight-one}
-
-pub lifts-trans : (R C F : Register) → LiftsNothing R C → LiftsNothing C F → LiftsNothing R F
-lifts-trans R C F p q d m =
-    let (e, n, a) = q d m in
-    let (f, o, b) = p e n in
-    (f, o, AtMost-trans a b)
 
 removed-lifts : (R : Register) (g r : ℕ) → LiftsNothing R (named R (removal g r))
 unfolding named
@@ -54,4 +49,4 @@ changed-lifts t R (downgrade y g r w) k i p f =
     subst (λ (x : Change). LiftsNothing R (changed R x)) (sym i) (lowered-lifts R g r w (f .rising) (nleb→lt (code (weightAt (R .delegations) g r)) (suc w) (p 15)))
 changed-lifts t R (askReach g r) k i p f = absurd i
 changed-lifts t R (askUse r) k i p f = absurd i
-changed-lifts t R (setMarks y s m) k i p f = subst (λ (x : Change). LiftsNothing R (changed R x)) (sym i) (λ d n. (d, n, AtMost-refl d))
+changed-lifts t R (setMarks y s m) k i p f = subst (λ (x : Change). LiftsNothing R (changed R x)) (sym i) (lifts-refl R)

@@ -15,7 +15,7 @@ use Rattle.rules.specs.Table.{TableRule}
 use Rattle.rules.specs.Register.{Delegation, Register, granted, fields, reweigh}
 use Rattle.rules.specs.Support.{allowed}
 use Rattle.rules.specs.Round.{capped, round, equal, same, Settled, after, settleFrom, total, settle, SettlesIn}
-use Rattle.rules.specs.Remainder.{AtMost, Within, Remainder, Best}
+use Rattle.rules.specs.Remainder.{AtMost, LiftsNothing, Within, Remainder, Best}
 use Rattle.rules.specs.Refusal.{tooHeavy}
 use Rattle.rules.proofs.Lists.{T-left, T-right, T-both, either, mem-concatMap, concatMap-mem}
 use Rattle.rules.proofs.AtMost.{AtMost-refl, AtMost-reweigh, AtMost-trans, at-reweigh}
@@ -56,18 +56,20 @@ eq→same : {ds es : List Delegation} → ds ≡ es → T (same ds es)
 eq→same {ds} e = subst (λ (x : List Delegation). T (same ds x)) e (same-refl ds)
 
 -- ── orders ──
+pub lifts-refl : (F : Register) → LiftsNothing F F
+lifts-refl F d m = (d, m, AtMost-refl d)
+
+pub lifts-trans : (R C F : Register) → LiftsNothing R C → LiftsNothing C F → LiftsNothing R F
+lifts-trans R C F p q d m =
+    let (e, n, a) = q d m in
+    let (f, o, b) = p e n in
+    (f, o, AtMost-trans a b)
+
 Within-refl : (F : Register) → Within F F
-Within-refl F = record { subjects = refl; marks = refl; held = λ d m. (d, m, AtMost-refl d) }
+Within-refl F = record { subjects = refl; marks = refl; held = lifts-refl F }
 
 Within-trans : {F G H : Register} → Within F G → Within G H → Within F H
-Within-trans p q = record {
-  subjects = p .subjects ∙ q .subjects;
-  marks = p .marks ∙ q .marks;
-  held = λ d m.
-      let (e, m′, a) = p .held d m in
-      let (f, m″, b) = q .held e m′ in
-      (f, m″, AtMost-trans a b);
-}
+Within-trans {F} {G} {H} p q = record { subjects = p .subjects ∙ q .subjects; marks = p .marks ∙ q .marks; held = lifts-trans H G F (q .held) (p .held) }
 
 -- ── one delegation in a round ──
 pub capped-within : (d : Delegation) (l : ℤ) {e : Delegation} → e ∈ capped d l → AtMost e d
