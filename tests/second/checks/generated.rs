@@ -148,13 +148,18 @@ fn all_cases() -> Vec<Case> {
     KINDS.iter().flat_map(with_blocks).collect()
 }
 
-/// Small registers are run with the literal search, all with the relaxed one.
+/// Small registers are run with the literal search, all with the relaxed one: more of each
+/// than these, and none has another line.
+pub fn follow_from_the_definition(cases: &[Case], least_small: u32, least: u32) {
+    let (small, differing) = compared(cases, &LITERAL, is_small);
+    assert!(small > least_small && differing == 0, "{small} {differing}");
+    let (all, differing) = compared(cases, &RELAXED, |_| true);
+    assert!(all > least && differing == 0, "{all} {differing}");
+}
+
 #[test]
 fn expected_lines_follow_from_the_definition() {
-    let (small, differing) = compared(&all_cases(), &LITERAL, is_small);
-    assert!(small > 3000 && differing == 0);
-    let (all, differing) = compared(&all_cases(), &RELAXED, |_| true);
-    assert!(all > 4500 && differing == 0);
+    follow_from_the_definition(&all_cases(), 3000, 4500);
 }
 
 #[test]

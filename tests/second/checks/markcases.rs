@@ -1,13 +1,12 @@
 //! What the generated cases of the kind `marks` hold.
 
 use crate::faults::{ONE_ROUND, TEXT_LEFT_OUT, VISITED_ONCE};
-use crate::generated::{block_of, compared, is_small, keeps_the_form, read_back, recorded, with_blocks};
-use crate::relaxed::RELAXED;
+use crate::generated::{block_of, compared, follow_from_the_definition, is_small, keeps_the_form, read_back, recorded, with_blocks};
 use generate::{limits, marks, set_marks};
 use second::block::{broken_rules, decode, encode, Register, BLOCK_LEN, RULES};
 use second::call::run_table;
 use second::casefile::{answer_table, Case};
-use second::engine::{FAST, LITERAL};
+use second::engine::FAST;
 use second::refusal::{Call, Passed};
 use std::collections::BTreeSet;
 use std::sync::OnceLock;
@@ -69,13 +68,9 @@ fn limits_are_covered() {
     assert!((0..RULES.len()).all(|rule| rules.contains(&vec![rule])));
 }
 
-/// Small registers are run with the literal search, all with the relaxed one.
 #[test]
 fn expected_lines_follow_from_the_definition() {
-    let (small, differing) = compared(cases(), &LITERAL, is_small);
-    assert!(small > 900 && differing == 0, "{small} {differing}");
-    let (all, differing) = compared(cases(), &RELAXED, |_| true);
-    assert!(all > 1000 && differing == 0, "{all} {differing}");
+    follow_from_the_definition(cases(), 900, 1000);
     assert!(compared(cases(), &ONE_ROUND, |_| true).1 > 30);
     assert!(compared(cases(), &VISITED_ONCE, is_small).1 > 10);
     assert!(compared(cases(), &TEXT_LEFT_OUT, |_| true).1 > 30);

@@ -2,8 +2,7 @@
 //! notice.
 
 use crate::faults::{TEXT_LEFT_OUT, VISITED_ONCE};
-use crate::generated::{block_of, compared, is_small, keeps_the_form, read_back, recorded, with_blocks};
-use crate::relaxed::RELAXED;
+use crate::generated::{block_of, compared, follow_from_the_definition, is_small, keeps_the_form, read_back, recorded, with_blocks};
 use generate::orders::{self, BUFFER, BUFFERS};
 use generate::limits;
 use second::block::{broken_rules, decode, Delegation, Register, BLOCK_LEN, RULES};
@@ -12,7 +11,7 @@ use second::callfile::read_call;
 use second::casefile::{order_line, Case, UNWRITTEN};
 use second::chain::meets;
 use second::cut::settle;
-use second::engine::{FAST, LITERAL};
+use second::engine::FAST;
 use second::filecase::{self, Bytes};
 use second::listfile::{lengths, List};
 use second::order::popped;
@@ -103,13 +102,9 @@ fn limits_are_covered() {
     assert!((0..RULES.len()).all(|rule| rules.contains(&vec![rule])));
 }
 
-/// Small registers are run with the literal search, all with the relaxed one.
 #[test]
 fn expected_lines_follow_from_the_definition() {
-    let (small, differing) = compared(cases(), &LITERAL, is_small);
-    assert!(small > 900 && differing == 0, "{small} {differing}");
-    let (all, differing) = compared(cases(), &RELAXED, |_| true);
-    assert!(all > 1000 && differing == 0, "{all} {differing}");
+    follow_from_the_definition(cases(), 900, 1000);
     assert!(compared(cases(), &VISITED_ONCE, is_small).1 > 20);
     assert!(compared(cases(), &TEXT_LEFT_OUT, |_| true).1 > 50);
 }
