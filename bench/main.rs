@@ -12,13 +12,13 @@ mod entry;
 mod lent;
 
 use contents::Asked;
-use entry::{entry_call, entry_call_table, entry_order, entry_read, entry_write, FileCall};
-use generate::{examples, register, rounds, slow, Grant};
+use entry::{entry_bring_over, entry_call, entry_call_table, entry_order, entry_read, entry_write, FileCall};
+use generate::{examples, register, retires, rounds, slow, Grant};
 use lent::Lent;
-use second::block::{encode, Delegation, Register, BLOCK_LEN, MOST_DELEGATIONS};
+use second::block::{encode, Delegation, Register, BLOCK_LEN, MOST_DELEGATIONS, RECORDS_AT, RETIRED_AT};
 use second::call::blank;
 use second::engine::FAST;
-use second::host::{host_call, host_call_table, host_read, host_write};
+use second::host::{host_bring_over, host_call, host_call_table, host_read, host_write};
 use second::order::popped;
 use second::refusal::{admit, Call, Passed, NOT_WELL_FORMED, ORDER_BUFFER};
 use second::regfile::{file_text, LEAST_TEXT};
@@ -26,8 +26,8 @@ use second::table::OURS;
 use std::time::Instant;
 
 /// A row: what is measured, the block, the call, what it returns, how many
-/// rounds it takes, the table's text that it is lent, and the register file or
-/// the buffer of an order.
+/// rounds it takes, the table's text that it is lent, and the register file, the
+/// buffer of an order or the old block.
 struct Row {
     what: &'static str,
     block: Vec<u8>,
@@ -45,6 +45,9 @@ fn main() {
     }
     for (what, register) in [("full register", full_register()), ("the longest numbers", longest())] {
         measure_files(what, &register);
+    }
+    for row in retire_rows() {
+        measure(&row);
     }
 }
 
@@ -74,7 +77,7 @@ fn rows() -> Vec<Row> {
         row("revoke of 256 rounds, 6 delegations", &encode(&countdown()), passed(Call::Revoke, 0, 0, 3, 0), 256),
         row("revoke of 485 rounds", &deep, rounds::FIRST_CUT, 485),
         row("marks set, 486 rounds", &deep, rounds::FIRST_MARKS, 486),
-        row("the slowest cut recorded", slow::SLOW[0].block(), slow::SLOW[0].cut(), slow::SLOW[0].rounds),
+        row("the slowest cut recorded", &slow::SLOW[0].block(), slow::SLOW[0].cut(), slow::SLOW[0].rounds),
         with_text(row("reach, full register, our text", &block, passed(Call::Reach, 0, 63, 62, 0), 0)),
         with_text(row("reach, 8 subjects, our text", &small, passed(Call::Reach, 0, 7, 6, 0), 0)),
         with_text(row("revoke, full register, our text", &block, revoke_of(&last), 1)),
@@ -99,6 +102,31 @@ fn order_rows() -> Vec<Row> {
     ]
 }
 
+/// Retirements, and an old block brought over.
+fn retire_rows() -> Vec<Row> {
+    let (full, small) = (encode(&full_register()), encode(&eight()));
+    let [slowest, _, longest, _] = [0, 1, 2, 3].map(|at| (slow::SLOW[at].block(), retires::SLOW[at]));
+    let of = |(block, (subject, rounds)): (Vec<u8>, (u32, i32)), what| row(what, &block, retire(subject), rounds as u32);
+    vec![
+        row("subject retired, full register, one round", &full, retire(63), 1),
+        row("  8 subjects, weights 9 and 5", &small, retire(7), 1),
+        of(longest, "subject retired, many rounds"),
+        of(slowest, "subject retired, register of the slowest cut"),
+        with_text(row("subject retired, full register, our text", &full, retire(63), 1)),
+        old_row("old block brought over, full register", &full),
+    ]
+}
+
+fn old_row(what: &'static str, block: &[u8]) -> Row {
+    let file = old_layout(block);
+    Row { what, block: block.to_vec(), asked: Asked::BringOver, refusal: 0, rounds: 0, text: None, file }
+}
+
+/// A block as it was laid out before there were retired subjects.
+fn old_layout(block: &[u8]) -> Vec<u8> {
+    [&block[..RETIRED_AT], &block[RECORDS_AT..]].concat()
+}
+
 /// Lent an empty text, which stands for our table.
 fn order_row(what: &'static str, block: &[u8], receiver: u32) -> Row {
     let file = vec![0; ORDER_BUFFER];
@@ -120,6 +148,10 @@ fn with_text(row: Row) -> Row {
 
 fn passed(call: Call, by: u32, giver: u32, receiver: u32, weight: u32) -> Passed {
     Passed { call, by, giver, receiver, weight, need: 0, bar: 0 }
+}
+
+fn retire(subject: u32) -> Passed {
+    passed(Call::Retire, 0, 0, subject, 0)
 }
 
 fn grant_of(d: &Delegation) -> Passed {
@@ -234,7 +266,7 @@ const BATCH: usize = 32;
 /// What a batch of calls took, in nanoseconds a call, and what the first left.
 struct Batch {
     time: u64,
-    /// The block, the register file or the buffer of an order, and the answers.
+    /// The block, the register file, the buffer of an order or the old block, and the answers.
     left: [Vec<u8>; 3],
 }
 
@@ -251,6 +283,7 @@ fn archive_batch(row: &Row, size: usize, text: Option<&[u8]>) -> Batch {
             Asked::Order(receiver) => entry_order(receiver, block, &mut table, &mut file, &mut answers),
             Asked::File(FileCall::Write) => entry_write(block, &mut file, &mut answers),
             Asked::File(FileCall::Read) => entry_read(block, &mut file, &mut table, &mut answers),
+            Asked::BringOver => entry_bring_over(&mut file, block, &mut answers),
         };
         assert_eq!(refusal, row.refusal);
     }
@@ -269,6 +302,7 @@ fn second_batch(row: &Row, size: usize) -> Batch {
             Asked::Order(receiver) => popped_order(receiver, block, text, &mut file, &mut answers),
             Asked::File(FileCall::Write) => host_write(block, &mut file, &mut answers),
             Asked::File(FileCall::Read) => host_read(&FAST, block, &file, text, &mut answers),
+            Asked::BringOver => host_bring_over(&file, block, &mut answers),
         };
         assert_eq!(refusal, row.refusal);
     }

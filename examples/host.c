@@ -1,7 +1,8 @@
 /* A host of the seat register: a maker passes a right to two distributors, both pass it to a dealer,
  * the dealer to a firm. Then one distributor is cut off, and the dealer keeps what the other gives.
  * After each cut the host says which delegations fell or were lowered. Then the dealer is raised, his
- * certificate lapses and is renewed, and at last the register goes to another machine, as text. */
+ * certificate lapses and is renewed, the other distributor leaves, and at last the register goes to
+ * another machine, as text. */
 #include <inttypes.h>
 #include <stdio.h>
 #include <stdlib.h>
@@ -15,7 +16,7 @@ enum { MAKER = SEATREG_OWNER, NORTH, SOUTH, DEALER, FIRM, VISITOR };
 #define TRAINED 1u
 
 static uint8_t block[SEATREG_BLOCK_SIZE];     /* the register */
-static uint8_t before[SEATREG_BLOCK_SIZE];    /* the register before a cut or a change of marks */
+static uint8_t before[SEATREG_BLOCK_SIZE];    /* the register before a cut, a change of marks or a retirement */
 static uint8_t answers[SEATREG_ANSWERS_SIZE]; /* of the last call that was accepted */
 static uint8_t text[SEATREG_TEXT_SIZE];       /* the register as text, a register file */
 static uint8_t other[SEATREG_BLOCK_SIZE];     /* the register on the other machine */
@@ -145,6 +146,42 @@ static void lapse(void)
     may_use(DEALER);
 }
 
+/* The maker retires a subject. Nothing takes this back but a copy of the block, such as `before`. */
+static void retire(uint32_t subject)
+{
+    uint32_t r;
+
+    memcpy(before, block, sizeof block);
+    r = seatreg_retire(block, sizeof block, MAKER, subject, OUR_TABLE, answers, sizeof answers);
+    check("retire", r, SEATREG_ACCEPTED);
+    printf("retire %" PRIu32 "\n", subject);
+    print_fallen();
+}
+
+/* SOUTH leaves. So that the dealer and the firm stay, the maker gives the dealer a right of its own first.
+ * What SOUTH was given and what it gave are removed and in no count. From then on every call that names
+ * SOUTH gets 19; should it come back, it gets a new number. */
+static void leave(void)
+{
+    uint32_t r;
+
+    grant(DEALER, FIRM, 1, 0);
+    grant(MAKER, DEALER, 1, 0);
+    r = seatreg_retire(block, sizeof block, SOUTH, SOUTH, OUR_TABLE, answers, sizeof answers);
+    check("retire", r, SEATREG_MAY_NOT);
+    printf("retire %d by itself: refused with %" PRIu32 "\n", SOUTH, r);
+    retire(SOUTH);
+    may_use(DEALER);
+    may_use(FIRM);
+    r = seatreg_use(block, sizeof block, SOUTH, answers, sizeof answers);
+    check("use", r, SEATREG_RETIRED);
+    printf("may %d use the right: refused with %" PRIu32 "\n", SOUTH, r);
+    r = seatreg_grant(block, sizeof block, MAKER, SOUTH, 1, 0, 0, answers, sizeof answers);
+    check("grant", r, SEATREG_RETIRED);
+    printf("grant %d-%d: refused with %" PRIu32 "\n", MAKER, SOUTH, r);
+    enrol(0);
+}
+
 /* Writes the register as text; answers the file's length. It is no string of C: no 0 byte ends it. */
 static size_t write_file(void)
 {
@@ -174,7 +211,7 @@ static void move(void)
     printf("read: %s\n", memcmp(other, block, sizeof block) == 0 ? "the same register" : "another register");
     check("read", read_file(sizeof text), SEATREG_MALFORMED);
     printf("read of the whole buffer: refused with %d\n", SEATREG_MALFORMED);
-    text[length - 6] = '9'; /* the weight on the last line, "2 3 2 0 0" */
+    text[length - 6] = '9'; /* the weight on the last line, "3 4 0 0 0" */
     check("read", read_file(length), SEATREG_UNSUPPORTED);
     printf("read with 9 as the last weight: refused with %d\n", SEATREG_UNSUPPORTED);
     check("memcmp", memcmp(other, block, sizeof block) != 0, 0);
@@ -212,6 +249,7 @@ int main(void)
     reach(DEALER, FIRM);
 
     lapse();
+    leave();
     move();
     return EXIT_SUCCESS;
 }

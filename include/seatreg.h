@@ -3,15 +3,21 @@
  * A register keeps who passed one right to whom. Subject 0 is the owner of the right; others are
  * enrolled and numbered from 1. A delegation has a giver, a receiver and a weight: how many further
  * steps the right may travel from the receiver. It may have a condition on marks. When a delegation
- * is cut, or a subject's marks are changed, all that can still stand on a chain from the owner stays,
- * as heavy as it can. What every call does is defined in docs/01-scope.md and
+ * is cut, a subject's marks are changed or a subject is retired, all that can still stand on a chain from
+ * the owner stays, as heavy as it can. What every call does is defined in docs/01-scope.md and
  * docs/02-change-requests.md; here is what a host needs.
  *
- * THE BLOCK. A register is 2,180 bytes that the host owns. There is nothing else: no state between
+ * THE BLOCK. A register is 2,188 bytes that the host owns. There is nothing else: no state between
  * calls, no allocation, no file opened, no clock. The bytes mean the same on every machine, so a block may
  * be copied, saved and loaded as it is. Change it by calls only. The readers at the end list what
  * it holds, seatreg_order says from whom the right can come to a receiver, and seatreg_write writes it
- * as text.
+ * as text. A block that was stored before version 2.0.0 is shorter, and every call but one refuses it with
+ * 1: seatreg_bring_over makes the block of today of it.
+ *
+ * RETIRED SUBJECTS. A subject whom the owner has retired stays enrolled, with its number, but has no
+ * marks and no delegation, and every call that names it is refused with 19. Nothing takes this back: no
+ * call clears a retirement, and the number is never given to another subject. Only open, read and
+ * bring_over, which put another register into the block, leave those retired whom that register has.
  *
  * WHAT A CALL RETURNS. Every call returns a refusal number, 0 when it is accepted.
  *   - Refused: no byte changes, neither of the block nor of the answers nor of any other buffer.
@@ -19,12 +25,12 @@
  *     first, those that the call doesn't use 0. seatreg_answer reads one.
  * Where several refusals apply, the first in the order given at the call is returned. Every number
  * passed may be any 32-bit number: one that is too large is refused and never cut down. The block
- * may hold any bytes: all calls but open and read, which overwrite it, refuse one that is not well
- * formed.
+ * may hold any bytes: all calls but open, read and bring_over, which overwrite it, refuse one that is not
+ * well formed.
  *
  * THE STEP TABLE has a next for each weight: what a limit falls to at one step, -1 where nothing may
  * follow. In ours 0 gives -1, each other weight one less, and 255 keeps 255. The calls whose names end
- * in _table, set_marks, order and read are lent one as text; all others that need a table use ours.
+ * in _table, set_marks, retire, order and read are lent one as text; all others that need a table use ours.
  *   - Its form: the line "weight next", then a line of a weight and its next for each of the weights 0
  *     to 255, in order. Numbers are decimal and at most 4,294,967,295, one space between, no leading
  *     zero, no sign but that of -1, which only a next may be. Every line ends with byte 10, the last
@@ -35,26 +41,31 @@
  *   - The length is that of the text alone, without a 0 byte that ends a string. It has no limit.
  *   - The text is only read, and nothing of it is kept.
  * A register doesn't know its table: lend the same text with every call on it. A cut lowers or drops
- * all that its own table doesn't support, even what the named delegation didn't hold up; so does
- * set_marks.
+ * all that its own table doesn't support, even what the named delegation didn't hold up; so do
+ * set_marks and retire.
  *
  * THE REGISTER FILE is a register as text, to be read by people and moved between machines:
- * seatreg_write writes it and seatreg_read reads it. With two subjects beside the owner it may be
- *     subject marks
- *     0 0
- *     1 4
- *     2 4
+ * seatreg_write writes it and seatreg_read reads it. With three subjects beside the owner, the last of
+ * them retired, it may be
+ *     subject marks retired
+ *     0 0 0
+ *     1 4 0
+ *     2 4 0
+ *     3 0 1
  *
  *     giver receiver weight need bar
  *     0 1 9 4 0
  *     1 2 8 0 0
- *   - Its form: the line "subject marks"; a line for each enrolled subject, from 0 on; an empty line;
- *     the line "giver receiver weight need bar"; a line for each delegation, rising by giver and, for
- *     one giver, by receiver. Numbers and lines are as in a step table's text, and none has a sign.
- *     Nothing follows the last line's byte 10. A text of another form is refused with 7, an empty one
- *     too; so is one whose line ends a program has changed.
+ *   - Its form: the line "subject marks retired"; a line for each enrolled subject, from 0 on, its last
+ *     number 1 for a retired one and 0 for another; an empty line; the line "giver receiver weight need
+ *     bar"; a line for each delegation, rising by giver and, for one giver, by receiver. Numbers and lines
+ *     are as in a step table's text, and none has a sign. Nothing follows the last line's byte 10. A text
+ *     of another form is refused with 7, an empty one too; so is one whose line ends a program has
+ *     changed, and one of before 2.0.0, which lacks the column retired (README.md, 'The block's life', has
+ *     a command that adds it).
  *   - A text of this form that is no well-formed register's file is refused with 8: a subject left
- *     out, a weight above 255, two delegations exchanged.
+ *     out, a weight above 255, two delegations exchanged; a 2 in the column retired, or a 1 for the
+ *     owner, for a subject with marks or for one that a delegation names.
  *   - A register has one file and a file one register: what seatreg_read accepts is byte for byte what
  *     seatreg_write writes of the block that it left.
  *   - A file doesn't name its table. Read it under the table that is lent with every other call on the
@@ -64,22 +75,23 @@
  *   - So every register is written, but one that the table doesn't support is not read back: 18. Where
  *     every call from open on was made under the same table, the register is supported by it. Where not,
  *     store the block too.
+ *   - A read puts another register in the block: who is retired then is what the file says.
  *
  * WHAT THE HOST MUST SEE TO. Nothing can check these, and what a call does without them is undefined.
  *   - Each pointer is valid for the length passed with it until the call returns: `answers` for
  *     reading and writing, `block` too, but for reach, use, order and write, which only read it, `table`
- *     for reading, `out` for reading and writing, `text` for reading and writing in write and for
- *     reading in read. No alignment is needed.
+ *     and `old` for reading, `out` for reading and writing, `text` for reading and writing in write and
+ *     for reading in read. No alignment is needed.
  *   - The buffers of one call, two to four, lie apart: they share no byte. So a text isn't read into
- *     bytes in which it lies itself.
+ *     bytes in which it lies itself, nor an old block brought over into its own bytes.
  *   - No pointer is null, not even with a length of 0. With a length of 0 it need not point to
- *     anything: nothing is read or written through it. For a block, answers or out of length 0 the
+ *     anything: nothing is read or written through it. For a block, old, answers or out of length 0 the
  *     call returns 1; a table's text may have length 0, and for a register file of length 0 it returns 7.
  *   - While a call runs, no other thread writes the bytes lent to it, nor reads bytes that it may
  *     write: no two calls at the same time on one block, with one answers buffer, or writing into one
  *     buffer of an order or for text. Reach, use, order and write only read the block, so several of
  *     these may run on one block, each with buffers of its own. One table's text may be lent to any
- *     number of calls, and so may one register file to reads.
+ *     number of calls, and so may one register file to reads and one old block to bring_overs.
  *   - The thread that calls has enough stack: a call needs at most 32 KiB of stack on x86-64. This
  *     is measured; the proofs know of no stack.
  *
@@ -98,8 +110,8 @@
 /* The version of this header and of the archive that comes with it, as text and as a number: 10,000
  * times the first part, plus 100 times the second, plus the third. README.md, 'Versions', says which
  * changes raise which part. */
-#define SEATREG_VERSION "1.5.0"
-#define SEATREG_VERSION_NUMBER 10500
+#define SEATREG_VERSION "2.0.0"
+#define SEATREG_VERSION_NUMBER 20000
 
 /* Where the compiler has such attributes, it warns of a host that doesn't look at what a call
  * returns, and of a pointer that it can see to be null. */
@@ -114,9 +126,12 @@ extern "C" {
 #endif
 
 /* Lengths of the block, the answers and the buffer of an order: pass these and nothing else. */
-#define SEATREG_BLOCK_SIZE 2180
+#define SEATREG_BLOCK_SIZE 2188
 #define SEATREG_ANSWERS_SIZE 12
 #define SEATREG_ORDER_SIZE 128
+
+/* The length of a block that was stored before version 2.0.0; only seatreg_bring_over takes one. */
+#define SEATREG_OLD_BLOCK_SIZE 2180
 
 /* The least length of the buffer for text that seatreg_write is lent: every register file fits. */
 #define SEATREG_TEXT_SIZE 8192
@@ -152,6 +167,7 @@ enum seatreg_refusal {
     /* by what the register holds */
     SEATREG_NOT_WELL_FORMED = 8,
     SEATREG_NOT_ENROLLED = 9,
+    SEATREG_RETIRED = 19,
     SEATREG_ALL_ENROLLED = 10,
     SEATREG_PAIR_STANDS = 11,
     SEATREG_ALL_STAND = 12,
@@ -163,19 +179,19 @@ enum seatreg_refusal {
     SEATREG_UNSUPPORTED = 18
 };
 
-/* A short text for what a call returned, never null; for a number above 18, "no such refusal". */
+/* A short text for what a call returned, never null; for a number above 19, "no such refusal". */
 static inline const char *seatreg_refusal_text(uint32_t refusal)
 {
     static const char *const texts[] = {
         "accepted",
-        "the block is not 2,180 bytes, the answers not 12, the buffer of an order not 128, or the buffer for text under 8,192",
+        "the block is not 2,188 bytes, an old block not of the old length, the answers not 12, the buffer of an order not 128, or the buffer for text under 8,192",
         "a subject number is above 63",
         "the weight is above 255",
         "marks, need or bar above 65,535, or need and bar share a mark",
         "giver and receiver are equal",
-        "the receiver is the owner, or the owner's own marks are to be set",
+        "the receiver is the owner, or the owner's own marks are to be set, or the owner is to be retired",
         "a table's text is of another form, or a line of a call file or a line of a register file is malformed",
-        "the block is not well formed, or a register file's lines make no well-formed block",
+        "the block, or an old one, is not well formed, or a register file's lines make no well-formed block",
         "a named subject, by included, isn't enrolled",
         "64 subjects are enrolled",
         "a delegation for this pair stands, and this is no raise",
@@ -185,19 +201,21 @@ static inline const char *seatreg_refusal_text(uint32_t refusal)
         "the new weight isn't below the present one",
         "no chain from the owner carries the weight",
         "an entry of the step table breaks a rule",
-        "a delegation of a register file is unsupported"
+        "a delegation of a register file is unsupported",
+        "a named subject, by included, is retired"
     };
     return refusal < sizeof texts / sizeof texts[0] ? texts[refusal] : "no such refusal";
 }
 
-/* Writes a fresh register: the owner is enrolled, no delegation stands.
- *   Overwrites whatever the 2,180 bytes held.
+/* Writes a fresh register: the owner is enrolled, nobody is retired, no delegation stands.
+ *   Overwrites whatever the 2,188 bytes held.
  *   Refusals in order: 1.
  *   Answers: 0, 0, 0. */
 SEATREG_CALL uint32_t seatreg_open(uint8_t *block, size_t block_len,
                                    uint8_t *answers, size_t answers_len);
 
-/* Enrols the next subject. A subject stays enrolled; seatreg_set_marks changes its marks.
+/* Enrols the next subject. A subject stays enrolled; seatreg_set_marks changes its marks. The numbers of
+ * retired subjects are not given again, and these count among the 64.
  *   marks: its 16 marks, read as bits.
  *   Refusals in order: 1, 4, 8, 10.
  *   Answers: the new subject's number, 0, 0.
@@ -214,7 +232,7 @@ SEATREG_CALL uint32_t seatreg_enrol(uint8_t *block, size_t block_len,
  *   need, bar: the condition on receivers further on. The marks must have all of need and none of
  *     bar; 0 and 0 is met by all. It doesn't bind this receiver itself. A grant for a pair that stands
  *     with another condition gets 11.
- *   Refusals in order: 1, 2, 3, 4, 5, 6, 8, 9, 11, 12, 16.
+ *   Refusals in order: 1, 2, 3, 4, 5, 6, 8, 9, 19, 11, 12, 16.
  *   Answers: how many delegations stand now, 0, 0.
  *   Block: the delegation is added, or its weight raised. No other delegation changes: what the
  *     receiver passed on keeps its weight. */
@@ -224,7 +242,7 @@ SEATREG_CALL uint32_t seatreg_grant(uint8_t *block, size_t block_len,
 
 /* Reach: the largest weight that a delegation from giver to receiver can have, whether the pair
  * stands or not.
- *   Refusals in order: 1, 2, 5, 6, 8, 9.
+ *   Refusals in order: 1, 2, 5, 6, 8, 9, 19.
  *   Answers: 0 to 255, or -1 (SEATREG_NO_REACH) where there is no chain; 0, 0.
  *   Block: only read. */
 SEATREG_CALL uint32_t seatreg_reach(const uint8_t *block, size_t block_len,
@@ -232,8 +250,9 @@ SEATREG_CALL uint32_t seatreg_reach(const uint8_t *block, size_t block_len,
                                     uint8_t *answers, size_t answers_len);
 
 /* Use: whether a subject may use the right. The owner may.
- *   Refusals in order: 1, 2, 8, 9.
- *   Answers: 1 if receiver is the owner or some delegation to it stands, else 0; 0, 0.
+ *   Refusals in order: 1, 2, 8, 9, 19.
+ *   Answers: 1 if receiver is the owner or some delegation to it stands, else 0; 0, 0. A retired subject
+ *     gets 19, never 0.
  *   Block: only read. */
 SEATREG_CALL uint32_t seatreg_use(const uint8_t *block, size_t block_len,
                                   uint32_t receiver,
@@ -241,7 +260,7 @@ SEATREG_CALL uint32_t seatreg_use(const uint8_t *block, size_t block_len,
 
 /* Revoke, a cut: removes the delegation of a pair, then lowers or drops what it held up.
  *   by: who asks; the giver and the owner may.
- *   Refusals in order: 1, 2, 5, 6, 8, 9, 13, 14.
+ *   Refusals in order: 1, 2, 5, 6, 8, 9, 19, 13, 14.
  *   Answers: how many other delegations were dropped, how many were lowered and stay, the rounds.
  *     The rounds count the last, which changes nothing: 1 to 511 of them.
  *   Block: the best remainder, in which every delegation is supported and as heavy as it can be. */
@@ -251,7 +270,7 @@ SEATREG_CALL uint32_t seatreg_revoke(uint8_t *block, size_t block_len,
 
 /* Downgrade, a cut: gives the delegation of a pair a smaller weight, then as revoke.
  *   by: as for revoke. weight: below the present one.
- *   Refusals in order: 1, 2, 3, 5, 6, 8, 9, 13, 14, 15.
+ *   Refusals in order: 1, 2, 3, 5, 6, 8, 9, 19, 13, 14, 15.
  *   Answers: dropped, lowered, rounds, as for revoke; the pair's own delegation is compared with the
  *     new weight.
  *   Block: the best remainder, as for revoke. */
@@ -266,7 +285,7 @@ SEATREG_CALL uint32_t seatreg_downgrade(uint8_t *block, size_t block_len,
 /* Grants under a table: adds a delegation; raises the weight where the pair stands with the same need
  * and bar and the weight is larger; the count stays.
  *   giver, receiver, weight, need, bar: as for seatreg_grant.
- *   Refusals in order: 1, 2, 3, 4, 5, 6, 7, 17, 8, 9, 11, 12, 16.
+ *   Refusals in order: 1, 2, 3, 4, 5, 6, 7, 17, 8, 9, 19, 11, 12, 16.
  *   Answers: how many delegations stand now, 0, 0.
  *   Block: as for seatreg_grant. */
 SEATREG_CALL uint32_t seatreg_grant_table(uint8_t *block, size_t block_len,
@@ -276,7 +295,7 @@ SEATREG_CALL uint32_t seatreg_grant_table(uint8_t *block, size_t block_len,
 
 /* Reach under a table.
  *   giver, receiver: as for seatreg_reach.
- *   Refusals in order: 1, 2, 5, 6, 7, 17, 8, 9.
+ *   Refusals in order: 1, 2, 5, 6, 7, 17, 8, 9, 19.
  *   Answers: 0 to 255, or -1 (SEATREG_NO_REACH) where there is no chain; 0, 0.
  *   Block: only read. */
 SEATREG_CALL uint32_t seatreg_reach_table(const uint8_t *block, size_t block_len,
@@ -286,7 +305,7 @@ SEATREG_CALL uint32_t seatreg_reach_table(const uint8_t *block, size_t block_len
 
 /* Revoke under a table, a cut.
  *   by, giver, receiver: as for seatreg_revoke.
- *   Refusals in order: 1, 2, 5, 6, 7, 17, 8, 9, 13, 14.
+ *   Refusals in order: 1, 2, 5, 6, 7, 17, 8, 9, 19, 13, 14.
  *   Answers: dropped, lowered, rounds, as for seatreg_revoke. What the table doesn't support is
  *     counted too, whichever table it was granted under.
  *   Block: the best remainder under this table. */
@@ -297,7 +316,7 @@ SEATREG_CALL uint32_t seatreg_revoke_table(uint8_t *block, size_t block_len,
 
 /* Downgrade under a table, a cut.
  *   by, giver, receiver, weight: as for seatreg_downgrade.
- *   Refusals in order: 1, 2, 3, 5, 6, 7, 17, 8, 9, 13, 14, 15.
+ *   Refusals in order: 1, 2, 3, 5, 6, 7, 17, 8, 9, 19, 13, 14, 15.
  *   Answers: dropped, lowered, rounds, as for seatreg_downgrade. What the table doesn't support is
  *     counted too, whichever table it was granted under.
  *   Block: the best remainder under this table. */
@@ -309,11 +328,11 @@ SEATREG_CALL uint32_t seatreg_downgrade_table(uint8_t *block, size_t block_len,
 /* Sets the marks of a subject, as when a course is passed or a certificate lapses; then lowers or drops
  * what no longer stands under the new marks.
  *   by: who asks; the owner alone may, not the subject itself.
- *   subject: any enrolled subject but the owner.
+ *   subject: any enrolled subject but the owner and those retired.
  *   marks: its 16 marks from now on, all of them. To give or take one, begin with what seatreg_marks reads.
  *   table: as for the calls above: the text of the table that is lent with every other call on the
  *     register, or table_len 0 for ours.
- *   Refusals in order: 1, 2, 4, 6, 7, 17, 8, 9, 14.
+ *   Refusals in order: 1, 2, 4, 6, 7, 17, 8, 9, 19, 14.
  *   Answers: dropped, lowered, rounds, as for a cut that names no delegation: how many were dropped, how
  *     many were lowered and stay, together at most 256, and 1 to 512 rounds. Where the subject has these
  *     marks already and the table supports the register, the answers are 0, 0, 1 and no byte changes.
@@ -330,13 +349,32 @@ SEATREG_CALL uint32_t seatreg_set_marks(uint8_t *block, size_t block_len,
                                         const uint8_t *table, size_t table_len,
                                         uint8_t *answers, size_t answers_len);
 
+/* Retires a subject, as when a dealer leaves: removes every delegation to it and from it, clears its marks
+ * and notes that it is retired; then lowers or drops what those delegations held up.
+ *   There is no way back: no call takes a retirement away, and enrolling gives a new number. A host that
+ *     may have to go back keeps a copy of the block from before the call.
+ *   by: who asks; the owner alone may, not the subject itself.
+ *   subject: any enrolled subject but the owner; one that is retired already gets 19.
+ *   table: as for the calls above: the text of the table that is lent with every other call on the
+ *     register, or table_len 0 for ours.
+ *   Refusals in order: 1, 2, 6, 7, 17, 8, 9, 19, 14.
+ *   Answers: dropped, lowered, rounds, as for a cut: how many of the other delegations were dropped, how
+ *     many were lowered and stay, together at most 256, and 1 to 512 rounds. The subject's own delegations,
+ *     to it and from it, are in neither count.
+ *   Block: the subject is retired, with marks 0 and no delegation, and stays enrolled. The others are the
+ *     best remainder: each is supported and as heavy as it can be, but none heavier than before. */
+SEATREG_CALL uint32_t seatreg_retire(uint8_t *block, size_t block_len,
+                                     uint32_t by, uint32_t subject,
+                                     const uint8_t *table, size_t table_len,
+                                     uint8_t *answers, size_t answers_len);
+
 /* Order: from whom the right can come to one receiver, and how far, the heaviest giver first. It writes
  * precisely the subjects whose reach for this receiver isn't -1, each with that reach, its limit.
- *   receiver: any enrolled subject but the owner.
+ *   receiver: any enrolled subject but the owner and those retired.
  *   table: as for the calls above: the text of the table that is lent with every other call on the
  *     register, or table_len 0 for ours.
  *   out: the buffer, 128 bytes (SEATREG_ORDER_SIZE), neither fewer nor more.
- *   Refusals in order: 1, 2, 6, 7, 17, 8, 9.
+ *   Refusals in order: 1, 2, 6, 7, 17, 8, 9, 19.
  *   Answers: how many bytes were written, two for each subject, 2 to 128; 0, 0.
  *   Out: for each subject a byte for its number and a byte for its limit. This prints them:
  *         for (int32_t i = 0; i < seatreg_answer(answers, 0); i += 2)
@@ -359,7 +397,7 @@ SEATREG_CALL uint32_t seatreg_order(const uint8_t *block, size_t block_len,
  * is written, supported or not; there is no table.
  *   text: the buffer, 8,192 bytes (SEATREG_TEXT_SIZE) or more; a shorter one gets 1.
  *   Refusals in order: 1, 8.
- *   Answers: how many bytes were written, 0, 0. This is the length of the file, 50 at least.
+ *   Answers: how many bytes were written, 0, 0. This is the length of the file, 60 at least.
  *   Text: the file is the front of the buffer. The bytes after it stay as they were: no 0 byte is put
  *     there, so the file is no string of C.
  *   Block: only read. */
@@ -375,12 +413,25 @@ SEATREG_CALL uint32_t seatreg_write(const uint8_t *block, size_t block_len,
  *     0 for ours. Every delegation of the file must be supported by it, else 18.
  *   Refusals in order: 1, 7, 17, 8, 18.
  *   Answers: 0, 0, 0.
- *   Block: 2,180 bytes of any content. What they held is not looked at, is overwritten where the call
+ *   Block: 2,188 bytes of any content. What they held is not looked at, is overwritten where the call
  *     is accepted and stays where it is refused. */
 SEATREG_CALL uint32_t seatreg_read(uint8_t *block, size_t block_len,
                                    const uint8_t *text, size_t text_len,
                                    const uint8_t *table, size_t table_len,
                                    uint8_t *answers, size_t answers_len);
+
+/* Brings over: makes the block of a register that was stored before version 2.0.0, when a block had 2,180
+ * bytes and nobody could be retired. The register is the same, with nobody retired.
+ *   old: the stored bytes, only read; old_len is SEATREG_OLD_BLOCK_SIZE.
+ *   Refusals in order: 1, 8.
+ *     8 is for an old block that was not well formed by the rules of its own time. Whether a table
+ *     supports the register is not asked.
+ *   Answers: 0, 0, 0.
+ *   Block: 2,188 bytes of any content. What they held is not looked at, is overwritten where the call
+ *     is accepted and stays where it is refused. */
+SEATREG_CALL uint32_t seatreg_bring_over(const uint8_t *old, size_t old_len,
+                                         uint8_t *block, size_t block_len,
+                                         uint8_t *answers, size_t answers_len);
 
 /* One of the three answers: i is 0, 1 or 2. Only after an accepted call do the bytes hold answers. */
 SEATREG_CALL static inline int32_t seatreg_answer(const uint8_t *answers, size_t i)
@@ -398,24 +449,32 @@ SEATREG_CALL static inline int32_t seatreg_answer(const uint8_t *answers, size_t
 
 /* A delegation: receivers further on must have the marks of need and none of bar. */
 struct seatreg_delegation {
-    uint32_t giver;    /* 0 to 63 */
-    uint32_t receiver; /* 1 to 63 */
+    uint32_t giver;    /* 0 to 63, not retired */
+    uint32_t receiver; /* 1 to 63, not retired */
     uint32_t weight;   /* 0 to 255 */
     uint32_t need;     /* 0 to 65,535 */
     uint32_t bar;      /* 0 to 65,535 */
 };
 
-/* How many subjects are enrolled, 1 to 64: they are 0, the owner, to one less than this. */
+/* How many subjects are enrolled, 1 to 64, the retired ones too: they are 0, the owner, to one less than
+ * this. */
 SEATREG_CALL static inline uint32_t seatreg_subjects(const uint8_t *block)
 {
     return block[0];
 }
 
-/* The marks of a subject, which is below seatreg_subjects(block). The owner's are 0. */
+/* The marks of a subject, which is below seatreg_subjects(block). Those of the owner and of retired
+ * subjects are 0. */
 SEATREG_CALL static inline uint32_t seatreg_marks(const uint8_t *block, uint32_t subject)
 {
     const uint8_t *two = block + 4 + 2 * (size_t)subject;
     return (uint32_t)two[0] | (uint32_t)two[1] << 8;
+}
+
+/* 1 where a subject, which is below seatreg_subjects(block), is retired, else 0. */
+SEATREG_CALL static inline uint32_t seatreg_is_retired(const uint8_t *block, uint32_t subject)
+{
+    return ((uint32_t)block[132 + subject / 8] >> (subject % 8)) & 1u;
 }
 
 /* How many delegations stand, 0 to 256. */
@@ -428,7 +487,7 @@ SEATREG_CALL static inline uint32_t seatreg_delegations(const uint8_t *block)
  * giver, by receiver, and no pair occurs twice. */
 SEATREG_CALL static inline struct seatreg_delegation seatreg_delegation_at(const uint8_t *block, uint32_t i)
 {
-    const uint8_t *record = block + 132 + 8 * (size_t)i;
+    const uint8_t *record = block + 140 + 8 * (size_t)i;
     struct seatreg_delegation d;
     d.giver = record[0];
     d.receiver = record[1];

@@ -3,7 +3,8 @@
 
 use crate::contents::{Asked, Contents};
 use crate::draw::{answers_length, block_length, Drawn};
-use crate::entry::{entry_call, entry_call_table, entry_order, entry_read, entry_write, FileCall};
+use crate::olds::old_layout;
+use crate::entry::{entry_bring_over, entry_call, entry_call_table, entry_order, entry_read, entry_write, FileCall};
 use crate::fault::Fault;
 use crate::lent::Lent;
 use crate::readers::{due, read, Listed};
@@ -11,14 +12,13 @@ use crate::report::{Case, Part, PARTS};
 use crate::returned::{come_back, Back};
 use crate::standing::{Left, Standing};
 use crate::tables::Text;
-use second::block::{encode, BLOCK_LEN};
+use second::block::{encode, word, BLOCK_LEN, DELEGATIONS_AT, OLD_BLOCK_LEN};
 use second::random::Random;
-use second::refusal::Call;
 
 /// The buffers lent to the entry points; a buffer that an entry point doesn't take is empty and not lent.
 pub struct Buffers {
     pub block: Lent,
-    /// The register file of a read, or the buffer that a write or an order writes into.
+    /// The register file of a read, the buffer that a write or an order writes into, or the old block.
     pub file: Lent,
     /// The table's text.
     pub table: Lent,
@@ -46,6 +46,7 @@ impl Buffers {
         let mut left = Contents { table: text.bytes.clone().unwrap_or_default(), ..lent.clone() };
         let due = left.call(&asked);
         let standing = Standing::of(&asked, &text.table, block, due);
+        let before = word(block, DELEGATIONS_AT) as usize;
         let number = match self.wrong(&asked, &lent, standing.as_ref(), fault) {
             Some(number) => number,
             None => self.enter(&asked, table.is_some(), fault),
@@ -68,7 +69,7 @@ impl Buffers {
         if left.block.len() == BLOCK_LEN {
             *block = left.block.clone();
         }
-        Case { asked, text, standing, number, due, left, back, differs }
+        Case { asked, text, standing, before, number, due, left, back, differs }
     }
 
     fn all(&self) -> [&Lent; 4] {
@@ -102,6 +103,7 @@ impl Buffers {
             Asked::File(FileCall::Read) => {
                 entry_read(&mut self.block, &mut self.file, &mut self.table, &mut self.answers)
             }
+            Asked::BringOver => entry_bring_over(&mut self.file, &mut self.block, &mut self.answers),
         }
     }
 
@@ -112,11 +114,11 @@ impl Buffers {
             return Some(self.leave(&(fault.does)(standing)));
         }
         let (number, left) = match asked {
-            Asked::Call(n) if n.call == Call::SetMarks => fault.set_marks?(lent, n),
-            Asked::Call(_) => return None,
+            Asked::Call(n) => fault.call(n.call)?(lent, n),
             Asked::Order(receiver) => fault.order?(lent, *receiver),
             Asked::File(FileCall::Write) => fault.write?(lent),
             Asked::File(FileCall::Read) => fault.read?(lent),
+            Asked::BringOver => fault.bring_over?(lent),
         };
         self.block.write(&left.block);
         self.file.write(&left.file);
@@ -154,8 +156,11 @@ impl Buffers {
     }
 }
 
-/// The front of a block, or the block with zeros after it.
+/// The front of a block, or the block with zeros after it; in the old length, the block as it was laid out then.
 fn sized(block: &[u8], length: usize) -> Vec<u8> {
+    if length == OLD_BLOCK_LEN {
+        return old_layout(block);
+    }
     let mut bytes = block.to_vec();
     bytes.resize(length, 0);
     bytes

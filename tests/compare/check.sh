@@ -23,7 +23,7 @@ alone() {
     nm "$archive" >"$out/symbols" &&
         sed -nE 's/^SEATREG_CALL uint32_t (seatreg_[a-z_]+)\(.*/\1/p' include/seatreg.h | sort >"$out/functions" &&
         sed -nE 's/.* T (seatreg_.*)/\1/p' "$out/symbols" | sort | diff "$out/functions" - &&
-        test "$(wc -l <"$out/functions")" -eq 15 &&
+        test "$(wc -l <"$out/functions")" -eq 17 &&
         ! grep -E ' [bBdDsSgGcC] ' "$out/symbols" &&
         ! grep ' U ' "$out/symbols" | grep -vwE 'memcpy|memset'
 }
@@ -71,9 +71,9 @@ texts() {
 #include "seatreg.h"
 int main(void)
 {
-    for (uint32_t n = 0; n <= SEATREG_UNSUPPORTED; n++)
+    for (uint32_t n = 0; n <= SEATREG_RETIRED; n++)
         printf("%u %s\n", (unsigned)n, seatreg_refusal_text(n));
-    return strcmp(seatreg_refusal_text(SEATREG_UNSUPPORTED + 1), "no such refusal") != 0 ||
+    return strcmp(seatreg_refusal_text(SEATREG_RETIRED + 1), "no such refusal") != 0 ||
            strcmp(seatreg_refusal_text(UINT32_MAX), "no such refusal") != 0;
 }
 END
@@ -94,7 +94,7 @@ user() {
 extern uint32_t USER(uint8_t *block, uint8_t *answers);
 uint32_t USER(uint8_t *block, uint8_t *answers)
 {
-    static uint8_t order[SEATREG_ORDER_SIZE], text[SEATREG_TEXT_SIZE];
+    static uint8_t order[SEATREG_ORDER_SIZE], text[SEATREG_TEXT_SIZE], old[SEATREG_OLD_BLOCK_SIZE];
     uint32_t sum = seatreg_open(block, SEATREG_BLOCK_SIZE, answers, SEATREG_ANSWERS_SIZE);
     sum += seatreg_enrol(block, SEATREG_BLOCK_SIZE, 1, answers, SEATREG_ANSWERS_SIZE);
     sum += seatreg_grant(block, SEATREG_BLOCK_SIZE, SEATREG_OWNER, 1, 9, 1, 2, answers, SEATREG_ANSWERS_SIZE);
@@ -117,8 +117,17 @@ uint32_t USER(uint8_t *block, uint8_t *answers)
     if (seatreg_answer(answers, 0) != 4 || order[0] != 0 || order[1] != 255 || order[2] != 1 || order[3] != 7)
         return 4;
     sum += seatreg_revoke_table(block, SEATREG_BLOCK_SIZE, SEATREG_OWNER, SEATREG_OWNER, 1, NO_TEXT, answers, SEATREG_ANSWERS_SIZE);
+    sum += seatreg_retire(block, SEATREG_BLOCK_SIZE, SEATREG_OWNER, 1, NO_TEXT, answers, SEATREG_ANSWERS_SIZE);
+    if (seatreg_is_retired(block, 0) != 0 || seatreg_is_retired(block, 1) != 1 || seatreg_marks(block, 1) != 0)
+        return 5;
+    if (seatreg_use(block, SEATREG_BLOCK_SIZE, 1, answers, SEATREG_ANSWERS_SIZE) != SEATREG_RETIRED)
+        return 6;
     sum += seatreg_write(block, SEATREG_BLOCK_SIZE, text, sizeof text, answers, SEATREG_ANSWERS_SIZE);
     sum += seatreg_read(block, SEATREG_BLOCK_SIZE, text, (size_t)seatreg_answer(answers, 0), NO_TEXT, answers, SEATREG_ANSWERS_SIZE);
+    old[0] = 2;
+    sum += seatreg_bring_over(old, sizeof old, block, SEATREG_BLOCK_SIZE, answers, SEATREG_ANSWERS_SIZE);
+    if (seatreg_subjects(block) != 2 || seatreg_is_retired(block, 1) != 0)
+        return 7;
     return sum + (uint32_t)seatreg_answer(answers, 0) + (uint32_t)(seatreg_refusal_text(sum)[0] != 'a');
 }
 END
@@ -173,15 +182,17 @@ uint32_t null(uint8_t *block, uint8_t *answers)
     return seatreg_open(block, SEATREG_BLOCK_SIZE, 0, 0) +
            seatreg_reach_table(block, SEATREG_BLOCK_SIZE, 0, 1, 0, 0, answers, SEATREG_ANSWERS_SIZE) +
            seatreg_set_marks(block, SEATREG_BLOCK_SIZE, 0, 1, 0, 0, 0, answers, SEATREG_ANSWERS_SIZE) +
+           seatreg_retire(block, SEATREG_BLOCK_SIZE, 0, 1, 0, 0, answers, SEATREG_ANSWERS_SIZE) +
            seatreg_order(block, SEATREG_BLOCK_SIZE, 1, 0, 0, 0, 0, answers, SEATREG_ANSWERS_SIZE) +
            seatreg_write(block, SEATREG_BLOCK_SIZE, 0, 0, answers, SEATREG_ANSWERS_SIZE) +
-           seatreg_read(block, SEATREG_BLOCK_SIZE, 0, 0, 0, 0, answers, SEATREG_ANSWERS_SIZE);
+           seatreg_read(block, SEATREG_BLOCK_SIZE, 0, 0, 0, 0, answers, SEATREG_ANSWERS_SIZE) +
+           seatreg_bring_over(0, 0, block, SEATREG_BLOCK_SIZE, answers, SEATREG_ANSWERS_SIZE);
 }
 END
         ! gcc -std=c99 "${strict[@]}" -Iinclude -c "$out/ignored.c" -o "$out/ignored.o" 2>"$out/ignored" &&
         grep -q 'unused-result' "$out/ignored" &&
         ! gcc -std=c99 "${strict[@]}" -Iinclude -c "$out/null.c" -o "$out/null.o" 2>"$out/null" &&
-        test "$(grep -c 'Werror=nonnull' "$out/null")" -eq 8 &&
+        test "$(grep -c 'Werror=nonnull' "$out/null")" -eq 10 &&
         gcc -std=c99 -U__GNUC__ -Iinclude -E "$out/ignored.c" >"$out/plain" &&
         ! grep -E '__attribute__|SEATREG_CALL' "$out/plain" &&
         gcc -std=c99 -U__GNUC__ "${strict[@]}" -Iinclude -c "$out/ignored.c" -o "$out/ignored.o"
@@ -216,7 +227,17 @@ readme() {
         "$out/readme" | diff "$out/readme.expected" -
 }
 
-hosts=(host list table order)
+# The command in README.md that gives a register file of before 2.0.0 its column
+# `retired` makes the example of what the example was without that column.
+old_file() {
+    local command
+    command="$(sed -nE 's/^ *(sed .*) old\.register > new\.register$/\1/p' README.md)" && test -n "$command" &&
+        sed '1s/ retired$//; 2,/^$/s/ 0$//' examples/dealers.register >"$out/old.register" &&
+        ! cmp -s "$out/old.register" examples/dealers.register &&
+        eval "$command" '"$out/old.register"' | cmp - examples/dealers.register
+}
+
+hosts=(host list table order over)
 
 # Builds and runs the examples with what lies under a prefix; the flags come from
 # pkg-config where there is one, and are those of this version.
@@ -283,6 +304,7 @@ step "self test" make -s self-test SEED=1
 step "hosts" make -s host
 step "hosts in 64 KiB of stack" small_stack
 step "host of README.md" readme
+step "old register file by the command of README.md" old_file
 step "stack of every call" stack
 step "build of the measurement" make -s target/bench/bench
 step "hosts with what is installed" installed

@@ -3,22 +3,24 @@
 
 use crate::entry::FileCall;
 use second::engine::FAST;
-use second::host::{host_call_table, host_order, host_read, host_write};
+use second::host::{host_bring_over, host_call_table, host_order, host_read, host_write};
 use second::refusal::Passed;
 
-/// A call with its numbers, the order for a receiver, or a call on a register file.
+/// A call with its numbers, the order for a receiver, a call on a register file, or the bringing over of an
+/// old block.
 #[derive(Clone, Copy, Debug)]
 pub enum Asked {
     Call(Passed),
     Order(u32),
     File(FileCall),
+    BringOver,
 }
 
 /// What the lent buffers hold; those that a call isn't lent are empty.
 #[derive(Clone)]
 pub struct Contents {
     pub block: Vec<u8>,
-    /// The register file of a read, or the buffer that a write or an order writes into.
+    /// The register file of a read, the buffer that a write or an order writes into, or the old block.
     pub file: Vec<u8>,
     /// The table's text.
     pub table: Vec<u8>,
@@ -35,6 +37,7 @@ impl Contents {
             }
             Asked::File(FileCall::Write) => host_write(&self.block, &mut self.file, &mut self.answers),
             Asked::File(FileCall::Read) => host_read(&FAST, &mut self.block, &self.file, &self.table, &mut self.answers),
+            Asked::BringOver => host_bring_over(&self.file, &mut self.block, &mut self.answers),
         }
     }
 

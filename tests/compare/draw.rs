@@ -3,9 +3,10 @@
 use crate::contents::Asked;
 use crate::entry::FileCall;
 use crate::filetexts::{buffer, Files};
+use crate::olds::Olds;
 use crate::tables::{Tables, Text};
 use second::block::*;
-use second::call::{blank, run_table};
+use second::call::{blank, retire_subject, run_table};
 use second::callfile::{from_values, used_columns, values_of};
 use second::engine::FAST;
 use second::random::{random_masks, random_register, Random, Shape};
@@ -35,7 +36,7 @@ const HEAVY: [u8; 8] = [100, 200, 254, 255, 255, 255, 255, 255];
 const UNLIMITED: [u8; 8] = [3, 9, 254, 255, 255, 255, 255, 255];
 /// Marks and masks are made of these bits.
 const MARKS: u16 = 0x8007;
-const NEAR_LENGTHS: [usize; 12] = [0, 1, 3, 4, 131, 132, 2172, 2178, 2179, 2181, 2188, 4360];
+const NEAR_LENGTHS: [usize; 14] = [0, 1, 4, 132, 139, 140, 2179, 2180, 2180, 2181, 2187, 2187, 2189, 4376];
 const ORDER_LENGTHS: [usize; 12] = [0, 1, 2, 64, 126, 127, 127, 129, 129, 130, 256, 8192];
 const EDGES: [u32; 12] = [0, 1, 62, 63, 64, 254, 255, 256, 65_535, 65_536, 0x8000_0000, 0xFFFF_FFFF];
 
@@ -44,15 +45,36 @@ pub struct Drawn {
     pub asked: Asked,
     /// The table's text; for a write, that of the read which follows it.
     pub text: Text,
-    /// The register file of a read, the buffer of a write or of an order.
+    /// The register file of a read, the buffer of a write or of an order, the old block.
     pub file: Vec<u8>,
 }
 
 /// What is called next.
+#[derive(Clone, Copy)]
 enum What {
     Call(Call),
     Order,
     File(FileCall),
+    BringOver,
+}
+
+/// What most calls of a list are.
+#[derive(Clone, Copy, PartialEq, Eq)]
+enum Mostly {
+    Any,
+    /// Grants, until 256 delegations stand.
+    Fills,
+    Cuts,
+    /// Grants for a standing pair.
+    Raises,
+    Marks,
+    /// Retirements, and calls that name a retired subject.
+    Retires,
+    Orders,
+    /// Calls on a register file.
+    Files,
+    /// Old blocks brought over.
+    Olds,
 }
 
 /// A list of calls while it is drawn.
@@ -63,18 +85,7 @@ pub struct List {
     opens: bool,
     enrolments: u32,
     left: u32,
-    /// Nearly all calls are grants, until 256 delegations stand.
-    fills: bool,
-    /// Most calls are cuts.
-    cuts: bool,
-    /// Most calls are grants for a standing pair.
-    raises: bool,
-    /// Most calls set marks.
-    marks: bool,
-    /// Most calls are orders.
-    orders: bool,
-    /// Most calls are on a register file.
-    files: bool,
+    mostly: Mostly,
     conditions: u32,
     tables: Tables,
     /// The register of the last well-formed block.
@@ -85,16 +96,18 @@ impl List {
     pub fn draw(random: &mut Random) -> List {
         let conditions = random.pick(&[0, 20, 50, 80]);
         match random.below(100) {
-            0..=12 => List::fresh(random, conditions, (2, 8), (20, 90)),
-            13..=17 => List::fresh(random, conditions, (9, 30), (80, 250)),
-            18..=19 => List { fills: true, ..List::fresh(random, conditions, (40, 66), (380, 480)) },
-            20..=32 => List { left: random.range(2, 10), ..List::on_register(random, conditions, Kind::Formed) },
-            33..=44 => List::on_marks(random),
-            45..=52 => List::on_orders(random),
-            53..=61 => List::on_files(random),
-            62..=67 => List::on_raises(random),
-            68..=83 => List { left: random.range(2, 10), cuts: true, ..List::on_dense(random) },
-            84..=96 => List { left: random.range(10, 40), ..List::on_register(random, conditions, Kind::Spoiled) },
+            0..=8 => List::fresh(random, conditions, (2, 8), (20, 90)),
+            9..=11 => List::fresh(random, conditions, (9, 30), (80, 250)),
+            12 => List { mostly: Mostly::Fills, ..List::fresh(random, conditions, (40, 66), (380, 480)) },
+            13..=22 => List { left: random.range(2, 10), ..List::on_register(random, conditions, Kind::Formed) },
+            23..=34 => List::on_marks(random),
+            35..=46 => List::on_retirements(random),
+            47..=54 => List::on_orders(random),
+            55..=63 => List::on_files(random),
+            64..=67 => List::on_olds(random),
+            68..=73 => List::on_raises(random),
+            74..=86 => List { left: random.range(2, 10), mostly: Mostly::Cuts, ..List::on_dense(random) },
+            87..=97 => List { left: random.range(10, 40), ..List::on_register(random, conditions, Kind::Spoiled) },
             _ => List { kind: Kind::Noise, opens: false, ..List::fresh(random, conditions, (0, 0), (5, 20)) },
         }
     }
@@ -106,7 +119,7 @@ impl List {
             0 | 1 => List::on_register(random, conditions, Kind::Formed),
             _ => List::on_full(random, conditions),
         };
-        List { left, raises: true, ..list }
+        List { left, mostly: Mostly::Raises, ..list }
     }
 
     /// Most calls set marks, on blocks of any content, in many of which all is supported, most of it under
@@ -120,7 +133,29 @@ impl List {
             4..=14 => List::on_granted(random, kind),
             _ => List::on_register(random, conditions, kind),
         };
-        List { left, marks: true, ..list }
+        List { left, mostly: Mostly::Marks, ..list }
+    }
+
+    /// Many calls retire a subject or name a retired one, on blocks of any content, in many of which all is
+    /// supported.
+    pub fn on_retirements(random: &mut Random) -> List {
+        let (left, conditions) = (random.range(8, 24), random.pick(&[0, 20, 50, 80]));
+        let kind = any_kind(random);
+        let list = match random.below(20) {
+            0 | 1 => List::on_full(random, conditions),
+            2..=4 => List::on_dense(random),
+            5..=11 => List::on_granted(random, kind),
+            12..=14 => List::on_unlimited(random, conditions, kind),
+            _ => List::on_register(random, conditions, kind),
+        };
+        List { left, mostly: Mostly::Retires, ..list }
+    }
+
+    /// Most calls bring over an old block, into blocks of any content.
+    pub fn on_olds(random: &mut Random) -> List {
+        let (left, conditions) = (random.range(10, 30), random.pick(&[0, 20, 50, 80]));
+        let kind = any_kind(random);
+        List { left, mostly: Mostly::Olds, ..List::on_register(random, conditions, kind) }
     }
 
     /// Most calls are orders, on blocks of any content, in many of which most delegations are unlimited.
@@ -132,14 +167,14 @@ impl List {
             2..=10 => List::on_unlimited(random, conditions, kind),
             _ => List::on_register(random, conditions, kind),
         };
-        List { left, orders: true, ..list }
+        List { left, mostly: Mostly::Orders, ..list }
     }
 
     /// Most calls are writes and reads, on blocks of any content.
     pub fn on_files(random: &mut Random) -> List {
         let (left, conditions) = (random.range(30, 70), random.pick(&[0, 20, 50, 80]));
         let kind = any_kind(random);
-        List { left, files: true, ..List::on_register(random, conditions, kind) }
+        List { left, mostly: Mostly::Files, ..List::on_register(random, conditions, kind) }
     }
 
     fn fresh(random: &mut Random, conditions: u32, enrolments: (u32, u32), calls: (u32, u32)) -> List {
@@ -149,12 +184,7 @@ impl List {
             opens: true,
             enrolments: random.range(enrolments.0, enrolments.1),
             left: random.range(calls.0, calls.1),
-            fills: false,
-            cuts: false,
-            raises: false,
-            marks: false,
-            orders: false,
-            files: false,
+            mostly: Mostly::Any,
             conditions,
             tables: Tables::draw(random),
             register: Register::fresh(),
@@ -176,12 +206,15 @@ impl List {
 
     /// On a register in which most delegations are unlimited; in most of them the owner's right comes to all.
     fn on_unlimited(random: &mut Random, conditions: u32, kind: Kind) -> List {
-        let subjects = random.pick(&[5, 6, 8, 13, 24, 64, 64]);
+        let subjects = random.pick(&[5, 6, 8, 13, 24, 64, 64, 64]);
         let delegations = random.range(subjects / 2, subjects * 2);
         let shape = Shape { subjects, delegations, weights: &UNLIMITED, marks: MARKS, conditions };
         let mut register = random_register(random, &shape);
         if random.chance(65) {
             give_to_all(random, &mut register);
+        }
+        if random.chance(40) {
+            register = with_retired(random, register);
         }
         List::on_drawn(random, kind, register, conditions)
     }
@@ -204,7 +237,8 @@ impl List {
     fn on_full(random: &mut Random, conditions: u32) -> List {
         let (subjects, weights) = (random.pick(&[24, 40, 64]), random.pick(&[&WEIGHTS[..], &HEAVY]));
         let shape = Shape { subjects, delegations: 1000, weights, marks: MARKS, conditions };
-        let mut register = random_register(random, &shape);
+        let register = random_register(random, &shape);
+        let mut register = with_retired(random, register);
         while register.delegations.len() > MOST_DELEGATIONS {
             let at = random.below(register.delegations.len() as u32);
             register.delegations.remove(at as usize);
@@ -214,6 +248,7 @@ impl List {
 
     fn on_shape(random: &mut Random, kind: Kind, shape: &Shape) -> List {
         let register = random_register(random, shape);
+        let register = with_retired(random, register);
         List::on_drawn(random, kind, register, shape.conditions)
     }
 
@@ -255,12 +290,16 @@ impl List {
                 let file = files.next(random, &text.table);
                 Drawn { asked: Asked::File(FileCall::Read), text, file }
             }
+            What::BringOver => {
+                let olds = Olds { register: &self.register, weights: &WEIGHTS, marks: MARKS, conditions: self.conditions };
+                Drawn { asked: Asked::BringOver, text: Text::without(), file: olds.next(random) }
+            }
         })
     }
 
     fn call(&self, random: &mut Random, call: Call) -> Drawn {
         let text = match call {
-            Call::SetMarks => self.tables.next(random).lent(),
+            Call::SetMarks | Call::Retire => self.tables.next(random).lent(),
             _ if takes_table(call) => self.tables.next(random),
             _ => Text::without(),
         };
@@ -268,16 +307,24 @@ impl List {
             Call::Grant if self.names_standing(random) => standing_grant(random, &self.register, &text.table),
             _ => plausible(random, call, &self.register, self.conditions, &text.table),
         };
-        let passed = if random.chance(8) { with_odd_number(random, &n) } else { n };
-        Drawn { asked: Asked::Call(passed), text, file: Vec::new() }
+        Drawn { asked: Asked::Call(self.odd(random, &n)), text, file: Vec::new() }
     }
 
     /// For a receiver that is likely to be enrolled.
     fn order(&self, random: &mut Random) -> Drawn {
         let text = self.tables.next(random).lent();
         let n = plausible(random, Call::Order, &self.register, self.conditions, &text.table);
-        let passed = if random.chance(8) { with_odd_number(random, &n) } else { n };
-        Drawn { asked: Asked::Order(passed.receiver), text, file: order_buffer(random) }
+        Drawn { asked: Asked::Order(self.odd(random, &n).receiver), text, file: order_buffer(random) }
+    }
+
+    /// The call, rarely with an odd number, or with the number of a retired subject.
+    fn odd(&self, random: &mut Random, n: &Passed) -> Passed {
+        let of_100 = if self.mostly == Mostly::Retires { 30 } else { 5 };
+        match random.below(100) {
+            0..=7 => with_odd_number(random, n),
+            at if at < 8 + of_100 => with_retired_number(random, n, &self.register),
+            _ => *n,
+        }
     }
 
     fn what(&mut self, random: &mut Random) -> What {
@@ -289,45 +336,54 @@ impl List {
         if self.is_filling() && random.chance(98) {
             return What::Call(Call::Grant);
         }
-        if self.cuts && random.chance(70) {
-            return What::Call(random.pick(&[Call::Revoke, Call::Downgrade]));
-        }
-        if self.raises && random.chance(70) {
-            return What::Call(Call::Grant);
-        }
-        if random.chance(if self.marks { 60 } else { 4 }) {
-            return What::Call(Call::SetMarks);
-        }
-        if random.chance(if self.orders { 80 } else { 2 }) {
-            return What::Order;
-        }
-        if random.chance(if self.files { 80 } else { 10 }) {
-            return What::File(random.pick(&[FileCall::Write, FileCall::Read, FileCall::Read]));
-        }
-        What::Call(match random.below(200) {
-            0..=79 => Call::Grant,
-            80..=109 => Call::Reach,
-            110..=125 => Call::Use,
-            126..=155 => Call::Revoke,
-            156..=185 => Call::Downgrade,
-            186..=198 => Call::Enrol,
-            _ => Call::Open,
-        })
+        self.usual(random).unwrap_or_else(|| any_call(random))
+    }
+
+    /// What the list is mostly made of, more often than in other lists.
+    fn usual(&self, random: &mut Random) -> Option<What> {
+        let cut = random.pick(&[Call::Revoke, Call::Downgrade]);
+        let file = random.pick(&[FileCall::Write, FileCall::Read, FileCall::Read]);
+        let chances = [
+            (Mostly::Cuts, 70, 0, What::Call(cut)),
+            (Mostly::Raises, 70, 0, What::Call(Call::Grant)),
+            (Mostly::Marks, 60, 4, What::Call(Call::SetMarks)),
+            (Mostly::Retires, 45, 2, What::Call(Call::Retire)),
+            (Mostly::Retires, 8, 0, What::Call(Call::Enrol)),
+            (Mostly::Orders, 80, 2, What::Order),
+            (Mostly::Files, 80, 10, What::File(file)),
+            (Mostly::Olds, 80, 1, What::BringOver),
+        ];
+        let of_100 = |mostly: Mostly, own: u32, other: u32| if self.mostly == mostly { own } else { other };
+        let mut made = chances.into_iter().filter(|&(mostly, own, other, _)| random.chance(of_100(mostly, own, other)));
+        made.next().map(|(.., what)| what)
     }
 
     fn is_filling(&self) -> bool {
-        self.fills && self.register.delegations.len() < MOST_DELEGATIONS
+        self.mostly == Mostly::Fills && self.register.delegations.len() < MOST_DELEGATIONS
     }
 
     /// Whether a grant is for a pair that stands.
     fn names_standing(&self, random: &mut Random) -> bool {
-        let of_100 = match (self.raises, self.is_filling()) {
+        let of_100 = match (self.mostly == Mostly::Raises, self.is_filling()) {
             (true, _) => 90,
             (_, true) => 5,
             _ => 25,
         };
         !self.register.delegations.is_empty() && random.chance(of_100)
     }
+}
+
+/// One of the calls of document 01.
+fn any_call(random: &mut Random) -> What {
+    What::Call(match random.below(200) {
+        0..=79 => Call::Grant,
+        80..=109 => Call::Reach,
+        110..=125 => Call::Use,
+        126..=155 => Call::Revoke,
+        156..=185 => Call::Downgrade,
+        186..=198 => Call::Enrol,
+        _ => Call::Open,
+    })
 }
 
 /// Most often a well-formed block.
@@ -350,8 +406,18 @@ fn give_to_all(random: &mut Random, register: &mut Register) {
     }
 }
 
+/// The register, in which often some subjects are retired, rarely many.
+pub fn with_retired(random: &mut Random, mut register: Register) -> Register {
+    let count = random.pick(&[0, 0, 0, 1, 1, 2, 3, 20]).min(register.marks.len() as u32 / 3);
+    for _ in 0..count {
+        let subject = random.range(1, register.marks.len() as u32 - 1);
+        retire_subject(&mut register, subject);
+    }
+    register
+}
+
 /// Some bytes for open to overwrite, and for other calls to refuse.
-fn any_bytes(random: &mut Random) -> Vec<u8> {
+pub fn any_bytes(random: &mut Random) -> Vec<u8> {
     let fill = random.pick(&[0, 0, 255, 1]);
     if random.chance(50) {
         return vec![fill; BLOCK_LEN];
@@ -360,25 +426,29 @@ fn any_bytes(random: &mut Random) -> Vec<u8> {
 }
 
 /// A block with one byte changed, or a few.
-fn spoiled(random: &mut Random, block: &[u8]) -> Vec<u8> {
+pub fn spoiled(random: &mut Random, block: &[u8]) -> Vec<u8> {
     let mut block = block.to_vec();
     let changes = random.pick(&[1, 1, 1, 1, 2, 8]);
     for _ in 0..changes {
         let place = spoiled_place(random, &block);
         let byte = block[place];
-        let near = [byte ^ 1, byte ^ 128, byte.wrapping_add(1), byte.wrapping_sub(1)];
+        let bit = byte ^ (1 << random.below(8));
+        let near = [byte ^ 1, byte ^ 128, bit, byte.wrapping_add(1), byte.wrapping_sub(1)];
         block[place] = if random.chance(70) { random.pick(&near) } else { random.next() as u8 };
     }
     block
 }
 
-/// Most often in the head, the used records or the first unused one.
+/// Most often in the head, the bits of the retired, the used records or the first unused one.
 fn spoiled_place(random: &mut Random, block: &[u8]) -> usize {
     let used = RECORDS_AT + RECORD_LEN * (word(block, DELEGATIONS_AT) as usize + 1);
-    let (least, most) = match random.below(10) {
+    let retired = RETIRED_AT + block[SUBJECTS_AT] as usize / 8 + 1;
+    let (least, most) = match random.below(12) {
         0 | 1 => (0, MARKS_AT),
-        2 | 3 => (MARKS_AT, RECORDS_AT),
-        4 => (0, BLOCK_LEN),
+        2 | 3 => (MARKS_AT, RETIRED_AT),
+        4 => (RETIRED_AT, RECORDS_AT),
+        5 => (RETIRED_AT, retired.min(RECORDS_AT)),
+        6 => (0, BLOCK_LEN),
         _ => (RECORDS_AT, used.min(BLOCK_LEN)),
     };
     random.range(least as u32, most as u32 - 1) as usize
@@ -413,7 +483,6 @@ fn plausible(random: &mut Random, call: Call, register: &Register, conditions: u
     let (giver, receiver) = match call {
         Call::Grant => open_pair(random, register),
         Call::Reach | Call::Order => any_pair(random, count),
-        Call::SetMarks => passed_on_pair(random, register),
         _ => standing_pair(random, register),
     };
     let n = blank(call);
@@ -431,14 +500,29 @@ fn plausible(random: &mut Random, call: Call, register: &Register, conditions: u
         Call::Downgrade => Passed { by, giver, receiver, weight: lower_weight(random, register, giver, receiver), ..n },
         Call::Reach => Passed { giver, receiver, ..n },
         Call::Use => Passed { receiver: random.pick(&[receiver, other]), ..n },
-        Call::SetMarks => {
-            let by = if random.chance(80) { 0 } else { random.pick(&[giver, receiver, other]) };
-            let subject = if random.chance(94) { receiver } else { random.pick(&[0, count]) };
-            Passed { by, receiver: subject, need: new_marks(random, register, table, giver, subject), ..n }
-        }
+        Call::SetMarks | Call::Retire => owners_call(random, call, register, table),
         Call::Order => Passed { receiver: if random.chance(3) { count } else { receiver }, ..n },
-        Call::Open | Call::Chain => n,
+        Call::Open | Call::Chain | Call::BringOver => n,
     }
+}
+
+/// The same of a call that the owner alone may make; rarely by another or for the owner.
+fn owners_call(random: &mut Random, call: Call, register: &Register, table: &Table) -> Passed {
+    let count = register.marks.len() as u32;
+    let (giver, receiver) = passed_on_pair(random, register);
+    let (other, idle) = (random.below(count), idle_subject(random, register));
+    let by = if random.chance(80) { 0 } else { random.pick(&[giver, receiver, other]) };
+    let likely = match call {
+        Call::Retire => random.pick(&[giver, giver, receiver, other, idle]),
+        _ => receiver,
+    };
+    let subject = if random.chance(94) { likely } else { random.pick(&[0, count]) };
+    if call == Call::Retire {
+        return Passed { by, receiver: subject, ..blank(call) };
+    }
+    let marks = new_marks(random, register, table, giver, subject);
+    let need = if subject == 0 && random.chance(20) { marks + 65_536 } else { marks };
+    Passed { by, receiver: subject, need, ..blank(call) }
 }
 
 /// Any two subjects, the receiver rarely the owner.
@@ -462,10 +546,21 @@ fn passed_on_pair(random: &mut Random, register: &Register) -> (u32, u32) {
     tries.find(|&(giver, _)| giver != 0).unwrap_or_else(|| standing_pair(random, register))
 }
 
+/// A subject that gave and received nothing, if one is found in a few tries.
+fn idle_subject(random: &mut Random, register: &Register) -> u32 {
+    let count = register.marks.len() as u32;
+    let idle = |subject: u32| !register.delegations.iter().any(|d| [d.giver as u32, d.receiver as u32].contains(&subject));
+    let mut tries = (0..6).map(|_| random.range(1, count.max(2) - 1));
+    tries.find(|&subject| idle(subject) && !register.is_retired(subject)).unwrap_or(1)
+}
+
 /// A pair that doesn't stand and whose giver is the owner or receives something,
-/// if one is found in a few tries.
+/// if one is found in a few tries; rarely any pair.
 fn open_pair(random: &mut Random, register: &Register) -> (u32, u32) {
     let count = register.marks.len() as u32;
+    if random.chance(5) {
+        return any_pair(random, count);
+    }
     for _ in 0..6 {
         let giver = if random.chance(20) { 0 } else { standing_pair(random, register).1 };
         let receiver = random.range(1, count.max(2) - 1);
@@ -581,5 +676,22 @@ fn with_odd_number(random: &mut Random, n: &Passed) -> Passed {
         2 => value.wrapping_add(random.pick(&[256, 65_536, 0x8000_0000, 0xFFFF_FF00])),
         _ => random.below(70),
     };
+    from_values(values).unwrap_or(*n)
+}
+
+/// The call with a retired subject, if there is one, in one of the places of subjects that it uses; sometimes
+/// with one that isn't enrolled in another.
+fn with_retired_number(random: &mut Random, n: &Passed, register: &Register) -> Passed {
+    let retired: Vec<u32> = (0..64).filter(|&subject| register.is_retired(subject)).collect();
+    let mut places: Vec<usize> = (0..3).filter(|&at| used_columns(n.call)[at]).collect();
+    if retired.is_empty() || places.is_empty() {
+        return *n;
+    }
+    let mut values = values_of(n);
+    let at = places.swap_remove(random.below(places.len() as u32) as usize);
+    values[1 + at] = random.pick(&retired);
+    if !places.is_empty() && random.chance(15) {
+        values[1 + random.pick(&places)] = register.marks.len() as u32;
+    }
     from_values(values).unwrap_or(*n)
 }

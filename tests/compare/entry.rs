@@ -47,6 +47,10 @@ extern "C" {
         block: *mut u8, block_len: usize, by: u32, subject: u32, marks: u32,
         table: *const u8, table_len: usize, answers: *mut u8, answers_len: usize,
     ) -> u32;
+    fn seatreg_retire(
+        block: *mut u8, block_len: usize, by: u32, subject: u32,
+        table: *const u8, table_len: usize, answers: *mut u8, answers_len: usize,
+    ) -> u32;
     fn seatreg_order(
         block: *const u8, block_len: usize, receiver: u32, table: *const u8, table_len: usize,
         out: *mut u8, out_len: usize, answers: *mut u8, answers_len: usize,
@@ -59,19 +63,26 @@ extern "C" {
         block: *mut u8, block_len: usize, text: *const u8, text_len: usize,
         table: *const u8, table_len: usize, answers: *mut u8, answers_len: usize,
     ) -> u32;
+    fn seatreg_bring_over(
+        old: *const u8, old_len: usize, block: *mut u8, block_len: usize,
+        answers: *mut u8, answers_len: usize,
+    ) -> u32;
 }
 
-/// An entry point: a call, lent a table's text or not, the setting of marks, the order, or a call on a
-/// register file.
+/// An entry point: a call, lent a table's text or not, the setting of marks, the retirement, the order, a
+/// call on a register file, or the bringing over of an old block.
 #[derive(Clone, Copy, PartialEq, Eq)]
 pub enum Entry {
     Without(Call),
     WithTable(Call),
-    /// Always lent a table's text.
+    /// Always lent a table's text, as a retirement is.
     SetMarks,
+    Retire,
     /// Lent a table's text, and a buffer that it writes into.
     Order,
     File(FileCall),
+    /// Lent the old block too.
+    BringOver,
 }
 
 /// The calls on a register file. Read is lent a table's text, write is not.
@@ -82,7 +93,7 @@ pub enum FileCall {
 }
 
 /// All of them, in the header's order.
-pub const ENTRIES: [Entry; 15] = [
+pub const ENTRIES: [Entry; 17] = [
     Entry::Without(Call::Open),
     Entry::Without(Call::Enrol),
     Entry::Without(Call::Grant),
@@ -95,12 +106,15 @@ pub const ENTRIES: [Entry; 15] = [
     Entry::WithTable(Call::Revoke),
     Entry::WithTable(Call::Downgrade),
     Entry::SetMarks,
+    Entry::Retire,
     Entry::Order,
     Entry::File(FileCall::Write),
     Entry::File(FileCall::Read),
+    Entry::BringOver,
 ];
 
-/// Makes a call on two lent buffers, the setting of marks with an empty text; answers the number returned.
+/// Makes a call on two lent buffers, the setting of marks and the retirement with an empty text; answers the
+/// number returned.
 pub fn entry_call(n: &Passed, block: &mut Lent, answers: &mut Lent) -> u32 {
     let (b, b_len, a, a_len) = (block.pointer(), block.len(), answers.pointer(), answers.len());
     // Each pointer is valid for its length, and the two buffers lie apart.
@@ -116,8 +130,11 @@ pub fn entry_call(n: &Passed, block: &mut Lent, answers: &mut Lent) -> u32 {
             Call::SetMarks => {
                 seatreg_set_marks(b, b_len, n.by, n.receiver, n.need, NonNull::dangling().as_ptr(), 0, a, a_len)
             }
+            Call::Retire => {
+                seatreg_retire(b, b_len, n.by, n.receiver, NonNull::dangling().as_ptr(), 0, a, a_len)
+            }
             Call::Chain => unreachable!("the chain call has no entry point"),
-            Call::Order => unreachable!("the order has a function of its own"),
+            Call::Order | Call::BringOver => unreachable!("the call has a function of its own"),
         }
     }
 }
@@ -138,6 +155,7 @@ pub fn entry_call_table(n: &Passed, block: &mut Lent, table: &mut Lent, answers:
                 seatreg_downgrade_table(b, b_len, n.by, n.giver, n.receiver, n.weight, t, t_len, a, a_len)
             }
             Call::SetMarks => seatreg_set_marks(b, b_len, n.by, n.receiver, n.need, t, t_len, a, a_len),
+            Call::Retire => seatreg_retire(b, b_len, n.by, n.receiver, t, t_len, a, a_len),
             _ => unreachable!("the call takes no table"),
         }
     }
@@ -164,4 +182,11 @@ pub fn entry_read(block: &mut Lent, text: &mut Lent, table: &mut Lent, answers: 
     let (t, t_len) = (table.pointer(), table.len());
     // Each pointer is valid for its length, and the four buffers lie apart.
     unsafe { seatreg_read(b, b_len, text.pointer(), text.len(), t, t_len, a, a_len) }
+}
+
+/// Brings an old block over into another; answers the number returned.
+pub fn entry_bring_over(old: &mut Lent, block: &mut Lent, answers: &mut Lent) -> u32 {
+    let (b, b_len, a, a_len) = (block.pointer(), block.len(), answers.pointer(), answers.len());
+    // Each pointer is valid for its length, and the three buffers lie apart.
+    unsafe { seatreg_bring_over(old.pointer(), old.len(), b, b_len, a, a_len) }
 }

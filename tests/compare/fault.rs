@@ -8,9 +8,13 @@ use crate::readers::{Delegation, Listed};
 use crate::report::{Part, Report};
 use crate::standing::{Left, Standing};
 use second::random::Random;
-use second::refusal::Passed;
+use second::refusal::{Call, Passed};
 use std::mem::swap;
 
+/// What is made in place of a call with its numbers, from what it is lent.
+pub type Wrong = fn(&Contents, &Passed) -> (u32, Contents);
+
+#[derive(Clone)]
 pub struct Fault {
     pub name: &'static str,
     /// The lists in which it is looked for.
@@ -22,12 +26,16 @@ pub struct Fault {
     /// For which grants for a standing pair the entry point is not called, and what these do.
     pub when: fn(&Standing) -> bool,
     pub does: fn(&Standing) -> Left,
-    /// What is made in place of the entry point that sets marks, or of an order, a write or a read, from what it
-    /// is lent: the number that it returns, and the buffers as it leaves them. An order is made for a receiver.
-    pub set_marks: Option<fn(&Contents, &Passed) -> (u32, Contents)>,
+    /// What is made in place of the entry point that sets marks, of the one that retires, of every call with
+    /// numbers, or of an order, a write, a read or a bringing over, from what it is lent: the number that it
+    /// returns, and the buffers as it leaves them. An order is made for a receiver.
+    pub set_marks: Option<Wrong>,
+    pub retire: Option<Wrong>,
+    pub every: Option<Wrong>,
     pub order: Option<fn(&Contents, u32) -> (u32, Contents)>,
     pub write: Option<fn(&Contents) -> (u32, Contents)>,
     pub read: Option<fn(&Contents) -> (u32, Contents)>,
+    pub bring_over: Option<fn(&Contents) -> (u32, Contents)>,
     /// What happens to a file between a write and the read that follows it.
     pub carried: fn(&mut Vec<u8>),
     /// What happens to the lent buffers after a call that returned a number.
@@ -47,16 +55,19 @@ pub const NONE: Fault = Fault {
     when: |_| false,
     does: Standing::raised,
     set_marks: None,
+    retire: None,
+    every: None,
     order: None,
     write: None,
     read: None,
+    bring_over: None,
     carried: |_| (),
     after: |_, _| (),
     listed: |_| (),
     parts: &[],
 };
 
-pub const FAULTS: [Fault; 20] = [
+pub const FAULTS: [Fault; 22] = [
     Fault {
         name: "giver and receiver exchanged",
         before: |n| Passed { giver: n.receiver, receiver: n.giver, ..*n },
@@ -131,6 +142,10 @@ pub const FAULTS: [Fault; 20] = [
     },
     listed("a subject missing in the list", |listed| { listed.marks.pop(); }),
     listed("the last subject's marks changed", |listed| *listed.marks.last_mut().unwrap() ^= 0x8000),
+    listed("nobody retired in the list", |listed| listed.retired.fill(0)),
+    listed("the retired read from the highest bit on", |listed| {
+        listed.retired.chunks_mut(8).for_each(|byte| byte.reverse());
+    }),
     listed("a delegation missing in the list", |listed| { listed.delegations.pop(); }),
     listed("giver and receiver exchanged in the list", |listed| each(listed, |d| swap(&mut d.giver, &mut d.receiver))),
     listed("weights in the list cut down to 7 bits", |listed| each(listed, |d| d.weight &= 0x7F)),
@@ -149,6 +164,15 @@ fn each(listed: &mut Listed, change: fn(&mut Delegation)) {
 }
 
 impl Fault {
+    /// What is made in place of this call with its numbers.
+    pub fn call(&self, call: Call) -> Option<Wrong> {
+        match call {
+            Call::SetMarks => self.set_marks.or(self.every),
+            Call::Retire => self.retire.or(self.every),
+            _ => self.every,
+        }
+    }
+
     /// Differences in each of its parts, and in no other.
     pub fn is_found(&self, report: &Report) -> bool {
         crate::report::PARTS.iter().all(|part| (report.differing(*part) > 0) == self.parts.contains(part))

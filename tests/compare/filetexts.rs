@@ -1,6 +1,7 @@
 //! Random register files: as they are written, with one byte, one number or one
 //! line changed, and of quite another form. And the buffers of writes.
 
+use crate::draw::with_retired;
 use crate::tables::{odd_number, place, BYTES};
 use second::block::{Register, MOST_DELEGATIONS, MOST_SUBJECTS};
 use second::callfile::lines;
@@ -22,10 +23,14 @@ impl Files<'_> {
     /// What a read under this table is lent.
     pub fn next(&self, random: &mut Random, table: &Table) -> Vec<u8> {
         let mut rows = Rows::of(&self.register(random, table));
-        match random.below(20) {
+        match random.below(22) {
             0..=6 => rows.text(),
             7..=10 => {
                 change_number(random, &mut rows);
+                rows.text()
+            }
+            20 | 21 => {
+                change_retired(random, &mut rows);
                 rows.text()
             }
             11..=13 => with_odd_byte(random, rows.text()),
@@ -68,7 +73,8 @@ impl Files<'_> {
 
     fn of_size(&self, random: &mut Random, subjects: u32, delegations: u32) -> Register {
         let Files { weights, marks, conditions, .. } = *self;
-        let mut register = random_register(random, &Shape { subjects, delegations, weights, marks, conditions });
+        let register = random_register(random, &Shape { subjects, delegations, weights, marks, conditions });
+        let mut register = with_retired(random, register);
         register.delegations.truncate(MOST_DELEGATIONS);
         register
     }
@@ -96,17 +102,18 @@ fn any_of<'a, T>(random: &mut Random, all: &'a mut [T]) -> Option<&'a mut T> {
 }
 
 /// Numbers at the edges of what a place can hold, and far above.
-const EDGES: [u32; 14] = [0, 1, 62, 63, 64, 254, 255, 256, 32_768, 65_535, 65_536, 65_537, 0x8000_0000, 0xFFFF_FFFF];
+const EDGES: [u32; 15] = [0, 1, 2, 62, 63, 64, 254, 255, 256, 32_768, 65_535, 65_536, 65_537, 0x8000_0000, 0xFFFF_FFFF];
 
 /// Changes one number of a subject's or a delegation's line.
 fn change_number(random: &mut Random, rows: &mut Rows) {
-    let row = if random.chance(35) {
+    let row = if random.chance(40) {
         any_of(random, &mut rows.subjects).map(|row| &mut row[..])
     } else {
         any_of(random, &mut rows.delegations).map(|row| &mut row[..])
     };
     let Some(row) = row else { return };
-    let at = random.below(row.len() as u32) as usize;
+    let (any, last) = (random.below(row.len() as u32) as usize, row.len() - 1);
+    let at = random.pick(&[any, any, any, last]);
     let (number, beside) = (row[at], row[if at + 1 < row.len() { at + 1 } else { at - 1 }]);
     row[at] = match random.below(10) {
         0 | 1 => number.wrapping_add(1),
@@ -118,6 +125,15 @@ fn change_number(random: &mut Random, rows: &mut Rows) {
         7 => number | beside,
         _ => random.pick(&EDGES),
     };
+}
+
+/// Shows one subject otherwise in the column `retired`, often without marks.
+fn change_retired(random: &mut Random, rows: &mut Rows) {
+    let Some(row) = any_of(random, &mut rows.subjects) else { return };
+    row[2] = random.pick(&[1 - row[2], 1 - row[2], 1 - row[2], 2, 3, 256, 0x8000_0000, 0xFFFF_FFFF]);
+    if random.chance(50) {
+        row[1] = 0;
+    }
 }
 
 /// The text with one byte changed, left out or put in, or with its end cut off.
@@ -140,7 +156,7 @@ fn with_odd_line(random: &mut Random, text: &[u8]) -> Vec<u8> {
     let any = random.below(lines.len() as u32) as usize;
     let at = random.pick(&[any, any, any, empty, lines.len() - 1]);
     let line = lines[at].trim_end().to_string();
-    match random.below(20) {
+    match random.below(23) {
         0 => lines[at] = format!("{line}\r\n"),
         1 => lines[at] = format!("{line} \n"),
         2 => lines[at] = format!(" {line}\n"),
@@ -157,6 +173,7 @@ fn with_odd_line(random: &mut Random, text: &[u8]) -> Vec<u8> {
         }
         12 | 13 => lines[at] = with_column(random, &line, |number| format!("0{number}")),
         14 | 15 => lines[at] = with_column(random, &line, too_large),
+        20 | 21 => lines[at] = without_column(random, &line),
         _ => {
             let odd = odd_number(random);
             lines[at] = with_column(random, &line, |_| odd.to_string());
@@ -173,6 +190,14 @@ fn with_column(random: &mut Random, line: &str, change: impl Fn(&str) -> String)
     columns.join(" ") + "\n"
 }
 
+/// A line with one of its columns left out.
+fn without_column(random: &mut Random, line: &str) -> String {
+    let mut columns: Vec<&str> = line.split(' ').collect();
+    let at = random.below(columns.len() as u32) as usize;
+    columns.remove(at);
+    columns.join(" ") + "\n"
+}
+
 /// The number with 4,294,967,296 added; what is no number stays.
 fn too_large(number: &str) -> String {
     number.parse::<u64>().map_or(number.to_string(), |number| (number + (1 << 32)).to_string())
@@ -181,10 +206,10 @@ fn too_large(number: &str) -> String {
 /// Files that differ by more: too many lines or none, a part twice or missing, bytes after the end.
 fn other(random: &mut Random, mut rows: Rows) -> Vec<u8> {
     let mut text = rows.text();
-    match random.below(16) {
+    match random.below(19) {
         0 => return Vec::new(),
         1 => rows.subjects.clear(),
-        2 => rows.subjects = (0..random.pick(&[64, 65, 66, 257, 320])).map(|subject| [subject, 0]).collect(),
+        2 => rows.subjects = (0..random.pick(&[64, 65, 66, 257, 320])).map(|subject| [subject, 0, 0]).collect(),
         3 => return too_many(random.pick(&[256, 257, 258])),
         4 => rows.delegations.reverse(),
         5 => rows.delegations.sort_by_key(|row| (row[1], row[0])),
@@ -199,9 +224,19 @@ fn other(random: &mut Random, mut rows: Rows) -> Vec<u8> {
         }
         13 => return [text, random.pick(&[&b"\n"[..], b"\0", b" ", b"0", b"\r\n", b"#\n"]).to_vec()].concat(),
         14 => return OURS.text(),
+        15..=17 => return without_retired(&text),
         _ => return (0..random.range(1, 300)).map(|_| random.next() as u8).collect(),
     }
     rows.text()
+}
+
+/// The file as it was written before there was the column `retired`.
+fn without_retired(text: &[u8]) -> Vec<u8> {
+    let mut lines: Vec<Vec<u8>> = text.split(|&byte| byte == b'\n').map(<[u8]>::to_vec).collect();
+    for line in lines.iter_mut().take_while(|line| !line.is_empty()) {
+        line.truncate(line.iter().rposition(|&byte| byte == b' ').unwrap_or(0));
+    }
+    lines.join(&b'\n')
 }
 
 /// The file of 64 subjects and so many delegations of the owner's and of subject 1 to 5.
@@ -209,13 +244,13 @@ fn too_many(count: usize) -> Vec<u8> {
     let pairs = (0..64).flat_map(|giver| (1..64).map(move |receiver| (giver, receiver)));
     let given = pairs.filter(|(giver, receiver)| giver != receiver).take(count);
     let rows = Rows {
-        subjects: (0..64).map(|subject| [subject, 0]).collect(),
+        subjects: (0..64).map(|subject| [subject, 0, 0]).collect(),
         delegations: given.map(|(giver, receiver)| [giver, receiver, 255, 0, 0]).collect(),
     };
     rows.text()
 }
 
-const NEAR_LENGTHS: [usize; 10] = [0, 1, 50, 6240, 8190, 8191, 8191, 8193, 10_000, 16_384];
+const NEAR_LENGTHS: [usize; 10] = [0, 1, 60, 6376, 8190, 8191, 8191, 8193, 10_000, 16_384];
 
 /// What a write is lent: nearly always of the least length.
 pub fn buffer(random: &mut Random) -> Vec<u8> {

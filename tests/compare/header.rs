@@ -2,7 +2,7 @@
 
 use crate::entry::ENTRIES;
 use crate::report::{name, refusals};
-use second::block::{BLOCK_LEN, MOST_DELEGATIONS, MOST_SUBJECTS};
+use second::block::{BLOCK_LEN, MOST_DELEGATIONS, MOST_SUBJECTS, OLD_BLOCK_LEN};
 use second::callfile::joined;
 use second::chain::{NONE, START};
 use second::host::ANSWERS_LEN;
@@ -17,6 +17,7 @@ pub fn print() -> bool {
     println!("BLOCK_SIZE {BLOCK_LEN}");
     println!("ANSWERS_SIZE {ANSWERS_LEN}");
     println!("ORDER_SIZE {ORDER_BUFFER}");
+    println!("OLD_BLOCK_SIZE {OLD_BLOCK_LEN}");
     println!("TEXT_SIZE {LEAST_TEXT}");
     println!("OWNER 0");
     println!("MOST_SUBJECTS {MOST_SUBJECTS}");

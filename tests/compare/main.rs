@@ -10,6 +10,7 @@
 //! fault that is put in on purpose, and each must be found; `compare header`
 //! prints what include/seatreg.h has to say by the second implementation.
 
+mod brings;
 mod buffers;
 mod contents;
 mod draw;
@@ -19,23 +20,30 @@ mod filetexts;
 mod header;
 mod lent;
 mod marks;
+mod named;
+mod olds;
 mod orders;
 mod raises;
 mod readers;
 mod reads;
 mod report;
+mod retires;
 mod returned;
+mod settling;
 mod standing;
 mod tables;
 mod writes;
 
+use brings::BRINGS;
 use buffers::Buffers;
 use fault::{Fault, FAULTS, NONE};
 use marks::MARKS;
+use named::NAMED;
 use orders::ORDERS;
 use raises::RAISES;
 use reads::READS;
 use report::Report;
+use retires::RETIRES;
 use second::random::Random;
 use std::process::ExitCode;
 use writes::WRITES;
@@ -75,8 +83,9 @@ fn finds_nothing(seed: u64, cases: u64) -> bool {
 /// Each fault is found, and only in the parts where it was put in.
 fn finds_faults(seed: u64, cases: u64) -> bool {
     let mut all_found = true;
-    for fault in FAULTS.iter().chain(&RAISES).chain(&MARKS).chain(&ORDERS).chain(&WRITES).chain(&READS) {
-        let report = compare(seed, cases, fault, false);
+    let faults: [&[Fault]; 9] = [&FAULTS, &RAISES, &MARKS, &RETIRES, &NAMED, &ORDERS, &WRITES, &READS, &BRINGS];
+    for fault in faults.concat() {
+        let report = compare(seed, cases, &fault, false);
         let found = fault.is_found(&report);
         let verdict = if found { "found" } else { "NOT FOUND" };
         println!("self test: {}: {verdict}, {} differences in {cases} cases", fault.name, report.differences());

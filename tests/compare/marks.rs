@@ -1,36 +1,24 @@
 //! Wrong settings of marks, to see that the comparison finds them.
 
-use crate::contents::{Asked, Contents};
+use crate::contents::Contents;
 use crate::draw::List;
-use crate::fault::{Fault, NONE};
+use crate::fault::{Fault, Wrong, NONE};
 use crate::report::Part;
-use second::block::{decode, encode, set_word, Delegation, Register, BLOCK_LEN, MARKS_AT};
+use crate::settling::*;
+use second::block::{decode, set_word, Delegation, Register, BLOCK_LEN, MARKS_AT};
 use second::chain::meets;
-use second::cut::{round, settle, Counts};
+use second::cut::{settle, Counts};
 use second::engine::{Engine, FAST};
 use second::refusal::{Passed, MALFORMED};
 use second::search::reach_table;
 use second::table::Table;
 
-type Left = (u32, Contents);
-
-/// What differs where one side accepts and the other refuses.
-const ACCEPTED: &[Part] = &[Part::Number, Part::Block, Part::Answers];
-const LEFT: &[Part] = &[Part::Block, Part::Answers];
-const BLOCK: &[Part] = &[Part::Block];
-const ANSWERS: &[Part] = &[Part::Answers];
-const NUMBER: &[Part] = &[Part::Number];
-
 const NO_MARKS: u32 = 4;
-const TO_OWNER: u32 = 6;
-const NOT_ENROLLED: u32 = 9;
-const MAY_NOT: u32 = 14;
 const NOT_BELOW: u32 = 15;
 
 pub const MARKS: [Fault; 36] = [
     wrong("the marks of another subject", LEFT, |lent, n| remade(lent, n, |s| {
-        let other = s.subject % (s.before.marks.len() - 1) + 1;
-        s.settled(&FAST, s.with(other, s.marks))
+        s.settled(&FAST, s.with(next_subject(&s.before, s.subject as u32) as usize, s.marks))
     })),
     wrong("marks set without rounds", LEFT, |lent, n| remade(lent, n, |s| (s.named(), NOTHING))),
     wrong("marks set with one round", LEFT, |lent, n| remade(lent, n, |s| s.settled(&ONE_ROUND, s.named()))),
@@ -69,24 +57,17 @@ pub const MARKS: [Fault; 36] = [
     wrong("the subject bound by what it gave", LEFT, |lent, n| without(lent, n, |s, d| {
         d.giver as usize == s.subject && !meets(s.marks, d)
     })),
-    wrong("our table in place of the lent one for marks", ACCEPTED, |lent, n| {
-        let (number, left) = right(&Contents { table: Vec::new(), ..lent.clone() }, n);
-        (number, Contents { table: lent.table.clone(), ..left })
-    }),
+    wrong("our table in place of the lent one for marks", ACCEPTED, by_ours),
     wrong("by not tested", ACCEPTED, |lent, n| allowed(lent, n, |_, _| true)),
     wrong("the subject lets itself", ACCEPTED, |lent, n| allowed(lent, n, |n, _| n.by == n.receiver)),
     wrong("a giver lets its receiver", ACCEPTED, |lent, n| allowed(lent, n, |n, s| {
         s.before.standing(n.by, n.receiver).is_some()
     })),
     wrong("the owner's own marks set", ACCEPTED, |lent, n| match (right(lent, n).0, Setting::of(lent, n)) {
-        (TO_OWNER, Some(s)) => left(lent, &s.named(), &NOTHING),
+        (TO_OWNER, Some(s)) => put(lent, (s.named(), NOTHING)),
         _ => right(lent, n),
     }),
-    wrong("6 and 14 exchanged", NUMBER, |lent, n| match right(lent, n) {
-        (TO_OWNER, left) => (MAY_NOT, left),
-        (MAY_NOT, left) => (TO_OWNER, left),
-        right => right,
-    }),
+    wrong("6 and 14 exchanged", NUMBER, exchanged),
     wrong("14 before 6", NUMBER, |lent, n| instead(lent, n, TO_OWNER, MAY_NOT, n.by != 0)),
     wrong("14 before 9", NUMBER, |lent, n| instead(lent, n, NOT_ENROLLED, MAY_NOT, n.by != 0)),
     wrong("6 before 4", NUMBER, |lent, n| instead(lent, n, NO_MARKS, TO_OWNER, n.receiver == 0)),
@@ -109,16 +90,10 @@ pub const MARKS: [Fault; 36] = [
     wrong("the high byte of marks lost", BLOCK, |lent, n| accepted(lent, n, |left| {
         left.block[MARKS_AT + 2 * n.receiver as usize + 1] = 0;
     })),
-    wrong("the block's last byte changed with the marks", &[Part::Block, Part::Listed], |lent, n| accepted(lent, n, |left| {
+    wrong("the block's last byte changed with the marks", UNFORMED, |lent, n| accepted(lent, n, |left| {
         left.block[BLOCK_LEN - 1] ^= 1;
     })),
-    wrong("the answers written where marks are refused", ANSWERS, |lent, n| {
-        let (number, mut left) = right(lent, n);
-        if number != 0 {
-            left.answers.fill(0);
-        }
-        (number, left)
-    }),
+    wrong("the answers written where marks are refused", ANSWERS, always_answered),
     wrong("the marks set before 14 is judged", BLOCK, |lent, n| {
         let (number, mut left) = right(lent, n);
         if number == MAY_NOT {
@@ -128,38 +103,14 @@ pub const MARKS: [Fault; 36] = [
     }),
 ];
 
-const fn wrong(name: &'static str, parts: &'static [Part], set_marks: fn(&Contents, &Passed) -> Left) -> Fault {
+const fn wrong(name: &'static str, parts: &'static [Part], set_marks: Wrong) -> Fault {
     Fault { name, lists: List::on_marks, parts, set_marks: Some(set_marks), ..NONE }
 }
 
-/// What is answered where the rounds change nothing.
-const NOTHING: Counts = Counts { dropped: 0, lowered: 0, rounds: 1 };
-
-/// Stops after the first round.
-const ONE_ROUND: Engine = Engine { rounds: one_round, ..FAST };
-
-fn one_round(engine: &Engine, table: &Table, register: &mut Register) -> u32 {
-    round(engine, table, register);
-    1
-}
-
-/// What the second implementation returns and leaves.
-fn right(lent: &Contents, n: &Passed) -> Left {
-    lent.right(&Asked::Call(*n))
-}
-
-/// The same, changed where it is accepted.
-fn accepted(lent: &Contents, n: &Passed, change: impl Fn(&mut Contents)) -> Left {
-    lent.accepted(&Asked::Call(*n), change)
-}
-
-/// The same, with another register left and other answers.
+/// What is right, with another register left and other answers.
 fn remade(lent: &Contents, n: &Passed, make: impl Fn(&Setting) -> (Register, Counts)) -> Left {
     match (right(lent, n), Setting::of(lent, n)) {
-        ((0, _), Some(s)) => {
-            let (register, counts) = make(&s);
-            left(lent, &register, &counts)
-        }
+        ((0, _), Some(s)) => put(lent, make(&s)),
         (right, _) => right,
     }
 }
@@ -194,21 +145,6 @@ fn allowed(lent: &Contents, n: &Passed, may: fn(&Passed, &Setting) -> bool) -> L
         ((MAY_NOT, _), Some(s)) if may(n, &s) => right(lent, &Passed { by: 0, ..*n }),
         (right, _) => right,
     }
-}
-
-/// Another number where this one is due and this is so; nothing is changed then.
-fn instead(lent: &Contents, n: &Passed, due: u32, number: u32, is: bool) -> Left {
-    match right(lent, n) {
-        (returned, left) if returned == due && is => (number, left),
-        right => right,
-    }
-}
-
-/// Accepted, with this register and these answers.
-fn left(lent: &Contents, register: &Register, counts: &Counts) -> Left {
-    let mut left = Contents { block: encode(register), ..lent.clone() };
-    left.set_answers([counts.dropped, counts.lowered, counts.rounds].map(|count| count as i32));
-    (0, left)
 }
 
 /// What a call is lent and passed, where the table passes, the block is well formed and the subject is enrolled.
@@ -249,7 +185,7 @@ impl Setting {
         let mut delegations: Vec<Delegation> = others.delegations.iter().filter(|d| !is_own(d)).copied().collect();
         delegations.extend(own.delegations.iter().filter(is_own));
         delegations.sort_by_key(Delegation::pair);
-        Register { marks: self.named().marks, delegations }
+        Register { delegations, ..self.named() }
     }
 
     /// Each delegation to the subject gets what it can have.

@@ -4,9 +4,10 @@ use crate::contents::{Asked, Contents};
 use crate::draw::List;
 use crate::fault::{Fault, NONE};
 use crate::report::Part;
-use second::block::{decode, Delegation, Register, BLOCK_LEN};
+use crate::settling::next_subject;
+use second::block::{decode, Delegation, Register, BLOCK_LEN, RECORDS_AT, RETIRED_AT};
 use second::chain::meets;
-use second::refusal::{MALFORMED, NOT_WELL_FORMED, ORDER_BUFFER, WRONG_LENGTH};
+use second::refusal::{MALFORMED, NOT_WELL_FORMED, ORDER_BUFFER, RETIRED, WRONG_LENGTH};
 use second::table::Table;
 use std::cmp::Reverse;
 
@@ -25,7 +26,7 @@ const NUMBER: &[Part] = &[Part::Number];
 const TO_OWNER: u32 = 6;
 const NOT_ENROLLED: u32 = 9;
 
-pub const ORDERS: [Fault; 26] = [
+pub const ORDERS: [Fault; 27] = [
     wrong("two subjects exchanged", FILE, |lent, to| rewritten(lent, to, |_, items| {
         let last = items.len() - 1;
         items.swap(last, last.max(1) - 1);
@@ -83,13 +84,22 @@ pub const ORDERS: [Fault; 26] = [
         (number, Contents { table: lent.table.clone(), ..left })
     }),
     wrong("another receiver's marks", WRITTEN, |lent, to| match right(lent, to) {
-        (0, left) => right(lent, to % (register(&left).marks.len() as u32 - 1) + 1),
+        (0, left) => right(lent, next_subject(&register(&left), to)),
         refused => refused,
     }),
     wrong("the receiver cut down to 8 bits", ACCEPTED, |lent, to| right(lent, to & 0xFF)),
     wrong("the receiver cut down to 16 bits", ACCEPTED, |lent, to| right(lent, to & 0xFFFF)),
     wrong("the table's 7 before 6", NUMBER, |lent, to| match right(lent, to) {
         (TO_OWNER, left) if Table::read(&lent.table) == Err(MALFORMED) => (MALFORMED, left),
+        right => right,
+    }),
+    wrong("an order for a retired receiver", ACCEPTED, |lent, to| match right(lent, to) {
+        (RETIRED, _) => {
+            let mut block = lent.block.clone();
+            block[RETIRED_AT..RECORDS_AT].fill(0);
+            let (number, left) = right(&Contents { block, ..lent.clone() }, to);
+            (number, Contents { block: lent.block.clone(), ..left })
+        }
         right => right,
     }),
     wrong("the block's last byte changed by an order", &[Part::Block, Part::Listed], |lent, to| accepted(lent, to, |left| {

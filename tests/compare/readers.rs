@@ -17,6 +17,7 @@ pub struct Delegation {
 extern "C" {
     fn read_subjects(block: *const u8) -> u32;
     fn read_marks(block: *const u8, subject: u32) -> u32;
+    fn read_is_retired(block: *const u8, subject: u32) -> u32;
     fn read_delegations(block: *const u8) -> u32;
     fn read_delegation_at(block: *const u8, i: u32) -> Delegation;
     fn read_answer(answers: *const u8, i: usize) -> i32;
@@ -26,6 +27,7 @@ extern "C" {
 #[derive(Clone, Debug, PartialEq, Eq)]
 pub struct Listed {
     pub marks: Vec<u32>,
+    pub retired: Vec<u32>,
     pub delegations: Vec<Delegation>,
     pub answers: [i32; 3],
 }
@@ -40,6 +42,7 @@ pub fn read(block: &[u8], answers: &[u8]) -> Listed {
         let delegations = read_delegations(b).min(MOST_DELEGATIONS as u32);
         Listed {
             marks: (0..subjects).map(|subject| read_marks(b, subject)).collect(),
+            retired: (0..subjects).map(|subject| read_is_retired(b, subject)).collect(),
             delegations: (0..delegations).map(|i| read_delegation_at(b, i)).collect(),
             answers: [0, 1, 2].map(|i| read_answer(a, i)),
         }
@@ -49,8 +52,10 @@ pub fn read(block: &[u8], answers: &[u8]) -> Listed {
 /// What the second implementation decodes; nothing where the block is not well formed.
 pub fn due(block: &[u8], answers: &[u8]) -> Option<Listed> {
     let register = decode(block)?;
+    let subjects = 0..register.marks.len() as u32;
     Some(Listed {
         marks: register.marks.iter().map(|&marks| marks.into()).collect(),
+        retired: subjects.map(|subject| register.is_retired(subject).into()).collect(),
         delegations: register.delegations.iter().map(plain).collect(),
         answers: [0, 1, 2].map(|i| i32::from_le_bytes(answers[4 * i..4 * i + 4].try_into().unwrap())),
     })

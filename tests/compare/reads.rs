@@ -7,7 +7,7 @@ use crate::fault::{Fault, NONE};
 use crate::report::Part;
 use second::block::{
     decode, encode, word, Register, BLOCK_LEN, DELEGATIONS_AT, MARKS_AT, MOST_DELEGATIONS, MOST_SUBJECTS, RECORDS_AT,
-    RECORD_LEN, SUBJECTS_AT,
+    RECORD_LEN, RETIRED_AT, SUBJECTS_AT,
 };
 use second::callfile::lines;
 use second::refusal::{BAD_TABLE, MALFORMED, NOT_WELL_FORMED, UNSUPPORTED, WRONG_LENGTH};
@@ -22,7 +22,7 @@ const ACCEPTED: &[Part] = &[Part::Number, Part::Block, Part::Answers];
 const NUMBER: &[Part] = &[Part::Number];
 const BLOCK: &[Part] = &[Part::Block];
 
-pub const READS: [Fault; 30] = [
+pub const READS: [Fault; 38] = [
     wrong("a leading zero accepted", ACCEPTED, |lent| read_as(lent, without_zeros(&lent.file))),
     wrong("numbers cut down to 32 bits", ACCEPTED, |lent| read_as(lent, with_numbers(&lent.file, |number| number % (1 << 32)))),
     wrong("8 for a number of more than 32 bits", NUMBER, |lent| {
@@ -47,6 +47,34 @@ pub const READS: [Fault; 30] = [
     wrong("subjects numbered by their lines", ACCEPTED, |lent| rows_as(lent, |rows| {
         rows.subjects.iter_mut().zip(0..).for_each(|(row, number)| row[0] = number);
     })),
+    wrong("the column retired not looked at", ACCEPTED, |lent| rows_as(lent, |rows| {
+        rows.subjects.iter_mut().for_each(|row| row[2] = 0);
+    })),
+    wrong("2 and more read as retired", ACCEPTED, |lent| rows_as(lent, |rows| {
+        rows.subjects.iter_mut().for_each(|row| row[2] = row[2].min(1));
+    })),
+    wrong("the column retired cut down to one bit", ACCEPTED, |lent| rows_as(lent, |rows| {
+        rows.subjects.iter_mut().for_each(|row| row[2] &= 1);
+    })),
+    wrong("a retired owner not looked at", ACCEPTED, |lent| rows_as(lent, |rows| {
+        rows.subjects.iter_mut().take(1).for_each(|row| row[2] = 0);
+    })),
+    wrong("the marks of the retired cleared", ACCEPTED, |lent| rows_as(lent, |rows| {
+        rows.subjects.iter_mut().filter(|row| row[2] == 1).for_each(|row| row[1] = 0);
+    })),
+    wrong("the delegations of the retired left out", ACCEPTED, |lent| rows_as(lent, |rows| {
+        let retired: Vec<u32> = rows.subjects.iter().filter(|row| row[2] == 1).map(|row| row[0]).collect();
+        rows.delegations.retain(|row| !retired.contains(&row[0]) && !retired.contains(&row[1]));
+    })),
+    wrong("a file without the column retired accepted", ACCEPTED, |lent| read_as(lent, with_retired_column(&lent.file))),
+    wrong("the retired of the block before kept", &[Part::Block, Part::Listed], |lent| {
+        let (number, mut left) = right(lent);
+        if number == 0 {
+            let bits = left.block[RETIRED_AT..RECORDS_AT].iter_mut();
+            bits.zip(&lent.block[RETIRED_AT..]).for_each(|(bits, old)| *bits |= old);
+        }
+        (number, left)
+    }),
     wrong("lines put in order", ACCEPTED, |lent| rows_as(lent, |rows| rows.delegations.sort_unstable())),
     wrong("a repeated line left out", ACCEPTED, |lent| rows_as(lent, |rows| rows.delegations.dedup())),
     wrong("a mark shared by need and bar accepted", ACCEPTED, with_shared_marks),
@@ -174,6 +202,17 @@ fn with_last(text: &[u8]) -> Vec<u8> {
     [text, end].concat()
 }
 
+/// A file as it was before there was the column `retired`, with the column and 0 for every subject.
+fn with_retired_column(text: &[u8]) -> Vec<u8> {
+    let mut lines: Vec<Vec<u8>> = text.split(|&byte| byte == b'\n').map(<[u8]>::to_vec).collect();
+    if lines[0] != b"subject marks" {
+        return text.to_vec();
+    }
+    lines.iter_mut().skip(1).take_while(|line| !line.is_empty()).for_each(|line| line.extend(b" 0"));
+    lines[0].extend(b" retired");
+    lines.join(&b'\n')
+}
+
 fn unless_empty(text: &[u8]) -> Vec<u8> {
     if text.is_empty() { file_text(&Register::fresh()) } else { text.to_vec() }
 }
@@ -247,7 +286,7 @@ fn with_old_bytes(lent: &Contents) -> Left {
     }
     let marks_end = MARKS_AT + 2 * left.block[SUBJECTS_AT] as usize;
     let records_end = RECORDS_AT + RECORD_LEN * word(&left.block, DELEGATIONS_AT) as usize;
-    for unused in [marks_end..RECORDS_AT, records_end..BLOCK_LEN] {
+    for unused in [marks_end..RETIRED_AT, records_end..BLOCK_LEN] {
         left.block[unused.clone()].copy_from_slice(&lent.block[unused]);
     }
     (number, left)

@@ -6,7 +6,7 @@ use crate::entry::{Entry, FileCall, ENTRIES};
 use crate::returned::Back;
 use crate::standing::{Standing, NUMBERS};
 use crate::tables::{Text, TextKind, TEXT_KINDS};
-use second::block::{word, BLOCK_LEN, DELEGATIONS_AT, MOST_DELEGATIONS, MOST_SUBJECTS};
+use second::block::{word, BLOCK_LEN, DELEGATIONS_AT, MOST_DELEGATIONS, MOST_SUBJECTS, RECORDS_AT, RETIRED_AT};
 use second::host::ANSWERS_LEN;
 use second::refusal::{takes_table, tests, Call, NOT_WELL_FORMED, UNSUPPORTED, WRONG_LENGTH};
 use second::regfile::{READ_REFUSALS, WRITE_REFUSALS};
@@ -40,6 +40,8 @@ pub struct Case {
     pub text: Text,
     /// Of a grant for a standing pair.
     pub standing: Option<Standing>,
+    /// How many delegations stood before it.
+    pub before: usize,
     /// What the entry point returned, and what the second implementation did.
     pub number: u32,
     pub due: u32,
@@ -54,10 +56,12 @@ impl Case {
     fn entry(&self) -> Entry {
         match self.asked {
             Asked::Call(n) if n.call == Call::SetMarks => Entry::SetMarks,
+            Asked::Call(n) if n.call == Call::Retire => Entry::Retire,
             Asked::Call(n) if self.text.kind == TextKind::Without => Entry::Without(n.call),
             Asked::Call(n) => Entry::WithTable(n.call),
             Asked::Order(_) => Entry::Order,
             Asked::File(call) => Entry::File(call),
+            Asked::BringOver => Entry::BringOver,
         }
     }
 
@@ -66,13 +70,15 @@ impl Case {
             Asked::Call(n) => takes_table(n.call),
             Asked::Order(_) => true,
             Asked::File(call) => call == FileCall::Read,
+            Asked::BringOver => false,
         }
     }
 
     /// The call whose numbers were accepted, if it is one that is followed by rounds.
     fn settled(&self) -> Option<Call> {
         let Asked::Call(n) = self.asked else { return None };
-        (self.due == 0 && matches!(n.call, Call::Revoke | Call::Downgrade | Call::SetMarks)).then_some(n.call)
+        let settles = matches!(n.call, Call::Revoke | Call::Downgrade | Call::SetMarks | Call::Retire);
+        (self.due == 0 && settles).then_some(n.call)
     }
 }
 
@@ -88,6 +94,9 @@ pub struct Report {
     /// Under our table, and under others.
     cuts: [Settled; 2],
     marks: [Settled; 2],
+    retired: [Settled; 2],
+    /// Old blocks brought over, and of these the full registers.
+    brought: [u64; 2],
     standing: [StandingGrants; 2],
     orders: [Orders; 2],
     files: [Files; 2],
@@ -111,10 +120,9 @@ struct Settled {
 }
 
 impl Settled {
-    fn add(&mut self, left: &Contents) {
-        let [dropped, lowered, rounds] = left.three_answers();
-        let standing = word(&left.block, DELEGATIONS_AT) as usize;
-        self.full += (standing + dropped as usize == MOST_DELEGATIONS) as u64;
+    fn add(&mut self, case: &Case) {
+        let [dropped, lowered, rounds] = case.left.three_answers();
+        self.full += (case.before == MOST_DELEGATIONS) as u64;
         self.nothing += (rounds == 1) as u64;
         self.dropped += (dropped > 0) as u64;
         self.lowered += (lowered > 0) as u64;
@@ -122,17 +130,17 @@ impl Settled {
         self.most = self.most.max(rounds);
     }
 
-    /// What did not occur.
-    fn missing(&self) -> Vec<&'static str> {
+    /// What did not occur of these calls.
+    fn missing(&self, calls: &str) -> Vec<String> {
         let Settled { full, nothing, dropped, lowered, rounds, .. } = *self;
         let counts = [
-            (full, "marks set in a full register"),
-            (nothing, "marks set with no other change"),
-            (dropped, "marks set and something dropped"),
-            (lowered, "marks set and something lowered"),
-            (rounds, "marks set with 3 rounds"),
+            (full, "in a full register"),
+            (nothing, "with no other change"),
+            (dropped, "and something dropped"),
+            (lowered, "and something lowered"),
+            (rounds, "with 3 rounds"),
         ];
-        counts.into_iter().filter(|(count, _)| *count == 0).map(|(_, what)| what).collect()
+        absent(&counts).iter().map(|what| format!("{calls} {what}")).collect()
     }
 }
 
@@ -164,7 +172,7 @@ impl Orders {
     }
 
     /// What did not occur; orders of all subjects need not occur under each table.
-    fn missing(&self) -> Vec<&'static str> {
+    fn missing(&self) -> Vec<String> {
         let Orders { full, with_receiver, without, unsorted, .. } = *self;
         let counts = [
             (full, "an order of a full register"),
@@ -172,16 +180,17 @@ impl Orders {
             (without, "an order without its receiver"),
             (unsorted, "an order that is not by number where limits tie"),
         ];
-        counts.into_iter().filter(|(count, _)| *count == 0).map(|(_, what)| what).collect()
+        absent(&counts)
     }
 }
 
 /// What became of the register files.
 #[derive(Clone, Copy, Default)]
 struct Files {
-    /// How many were read, of these full registers, and refused with 18.
+    /// How many were read, of these full registers and with a retired subject, and refused with 18.
     read: u64,
     full: u64,
+    retired: u64,
     unsupported: u64,
     /// Of those that were written, how many came back as the same block, and how many with 18.
     same: u64,
@@ -199,20 +208,22 @@ impl Files {
         if case.due == 0 {
             self.read += 1;
             self.full += (word(&case.left.block, DELEGATIONS_AT) as usize == MOST_DELEGATIONS) as u64;
+            self.retired += case.left.block[RETIRED_AT..RECORDS_AT].iter().any(|&bits| bits != 0) as u64;
         }
     }
 
     /// What did not occur.
-    fn missing(&self) -> Vec<&'static str> {
-        let Files { read, full, unsupported, same, not_back } = *self;
+    fn missing(&self) -> Vec<String> {
+        let Files { read, full, retired, unsupported, same, not_back } = *self;
         let counts = [
             (read, "a file read"),
             (full, "a full register's file read"),
+            (retired, "a file with a retired subject read"),
             (unsupported, "a file refused with 18"),
             (same, "a file written and read back"),
             (not_back, "a file written and refused with 18"),
         ];
-        counts.into_iter().filter(|(count, _)| *count == 0).map(|(_, what)| what).collect()
+        absent(&counts)
     }
 }
 
@@ -233,21 +244,27 @@ impl StandingGrants {
     }
 
     /// The numbers that were not returned, each with where.
-    fn missing(&self) -> Vec<(u32, &'static str)> {
+    fn missing(&self) -> Vec<String> {
         let mut missing = Vec::new();
         for (place, &number) in NUMBERS.iter().enumerate() {
             if self.returned[place] == 0 {
-                missing.push((number, "any register"));
+                missing.push(format!("{number} for a standing pair, any register"));
             }
             if self.full[place] == 0 {
-                missing.push((number, "a full register"));
+                missing.push(format!("{number} for a standing pair, a full register"));
             }
         }
         missing
     }
 }
 
-/// The tables by which grants for a standing pair, cuts, settings of marks, orders and register files are counted.
+/// What has a count of 0.
+fn absent(counts: &[(u64, &str)]) -> Vec<String> {
+    counts.iter().filter(|(count, _)| *count == 0).map(|(_, what)| what.to_string()).collect()
+}
+
+/// The tables by which grants for a standing pair, cuts, settings of marks, retirements, orders and register files
+/// are counted.
 const TABLES: [&str; 2] = ["our table", "others"];
 
 impl Report {
@@ -263,6 +280,8 @@ impl Report {
             of_text: [0; TEXT_KINDS.len()],
             cuts: [Settled::default(); 2],
             marks: [Settled::default(); 2],
+            retired: [Settled::default(); 2],
+            brought: [0; 2],
             standing: [StandingGrants::default(); 2],
             orders: [Orders::default(); 2],
             files: [Files::default(); 2],
@@ -284,9 +303,14 @@ impl Report {
         self.orders[table].add(case);
         self.files[table].add(case);
         match case.settled() {
-            Some(Call::SetMarks) => self.marks[table].add(&case.left),
-            Some(_) => self.cuts[table].add(&case.left),
+            Some(Call::SetMarks) => self.marks[table].add(case),
+            Some(Call::Retire) => self.retired[table].add(case),
+            Some(_) => self.cuts[table].add(case),
             None => (),
+        }
+        if matches!(case.asked, Asked::BringOver) && case.due == 0 {
+            self.brought[0] += 1;
+            self.brought[1] += (word(&case.left.block, DELEGATIONS_AT) as usize == MOST_DELEGATIONS) as u64;
         }
         if let Some(standing) = &case.standing {
             self.standing[table].add(standing, case.due);
@@ -304,7 +328,8 @@ impl Report {
     fn show(&self, case: &Case) {
         println!("case {}: {:?} differ: {:?}", self.cases, case.differs, case.asked);
         let Contents { block, file, answers, .. } = &case.left;
-        println!("  block of {} bytes, register file or buffer of {}, answers of {}", block.len(), file.len(), answers.len());
+        println!("  block of {} bytes, answers of {}", block.len(), answers.len());
+        println!("  register file, old block or buffer of {} bytes", file.len());
         println!("  the table's text: {:?}", case.text.kind);
         println!("  the entry point returned {}, due {}", case.number, case.due);
     }
@@ -332,6 +357,7 @@ impl Report {
         println!("tables: {without} without a text, {empty} empty, {ours} ours, {other} others that pass");
         println!("        {broken} that break a rule, {malformed} of another form");
         self.print_by_table();
+        println!("old blocks brought over: {}, {} of them full registers", self.brought[0], self.brought[1]);
         println!("wrong lengths: {} of the block, {} of the answers", self.block_lengths, self.answers_lengths);
         match self.missing()[..] {
             [] => println!("every refusal that a call can return was returned"),
@@ -346,7 +372,7 @@ impl Report {
             println!("grants for a standing pair under {table}: {}", texts(grants.returned));
             println!("        in a full register: {}", texts(grants.full));
         }
-        for (what, by_table) in [("cuts", self.cuts), ("marks set", self.marks)] {
+        for (what, by_table) in [("cuts", self.cuts), ("marks set", self.marks), ("subjects retired", self.retired)] {
             for (table, settled) in TABLES.iter().zip(by_table) {
                 let Settled { full, nothing, dropped, lowered, rounds, most } = settled;
                 println!("{what} under {table}: {dropped} dropped, {lowered} lowered, {nothing} neither");
@@ -359,15 +385,32 @@ impl Report {
             println!("        {full} of full registers, {all} of 64 subjects, {unsorted} not by number where limits tie");
         }
         for (table, files) in TABLES.iter().zip(self.files) {
-            let Files { read, full, unsupported, same, not_back } = files;
-            println!("register files under {table}: {read} read, {full} of them of full registers, {unsupported} with 18");
+            let Files { read, full, retired, unsupported, same, not_back } = files;
+            println!("register files under {table}: {read} read, {unsupported} with 18");
+            println!("        of those read {full} of full registers, {retired} with a retired subject");
             println!("        written and read back: {same} the same, {not_back} with 18");
         }
     }
 
-    /// The numbers that a call can return and did not; of grants for a standing pair, settings of marks, orders and
-    /// register files also by table and register.
+    /// The numbers that a call can return and did not; of grants for a standing pair, settings of marks, retirements,
+    /// orders and register files also by table and register.
     pub fn missing(&self) -> Vec<String> {
+        let rare = [
+            (self.brought[1], "a full register brought over"),
+            (self.orders[0].all + self.orders[1].all, "an order of 64 subjects"),
+        ];
+        let mut missing = self.not_returned();
+        missing.extend(by_table(&self.standing, StandingGrants::missing));
+        missing.extend(by_table(&self.marks, |settled| settled.missing("marks set")));
+        missing.extend(by_table(&self.retired, |settled| settled.missing("a subject retired")));
+        missing.extend(by_table(&self.orders, Orders::missing));
+        missing.extend(by_table(&self.files, Files::missing));
+        missing.extend(absent(&rare));
+        missing
+    }
+
+    /// The entry points with the numbers that they can return and did not.
+    fn not_returned(&self) -> Vec<String> {
         let mut missing = Vec::new();
         for (place, &entry) in ENTRIES.iter().enumerate() {
             let mut numbers = refusals(entry);
@@ -375,24 +418,14 @@ impl Report {
             numbers.retain(|&number| !self.returned.contains_key(&(place, number)));
             missing.extend(numbers.iter().map(|number| format!("{} {number}", name(entry))));
         }
-        for (table, grants) in TABLES.iter().zip(self.standing) {
-            let absent = grants.missing().into_iter();
-            missing.extend(absent.map(|(number, place)| format!("{number} for a standing pair, {table}, {place}")));
-        }
-        for (table, marks) in TABLES.iter().zip(self.marks) {
-            missing.extend(marks.missing().into_iter().map(|what| format!("{what}, {table}")));
-        }
-        if self.orders.iter().all(|orders| orders.all == 0) {
-            missing.push("an order of 64 subjects".to_string());
-        }
-        for (table, orders) in TABLES.iter().zip(self.orders) {
-            missing.extend(orders.missing().into_iter().map(|what| format!("{what}, {table}")));
-        }
-        for (table, files) in TABLES.iter().zip(self.files) {
-            missing.extend(files.missing().into_iter().map(|what| format!("{what}, {table}")));
-        }
         missing
     }
+}
+
+/// What is missing under each table.
+fn by_table<T>(of: &[T; 2], missing: impl Fn(&T) -> Vec<String>) -> Vec<String> {
+    let under = |(one, table): (&T, &str)| missing(one).iter().map(|what| format!("{what}, {table}")).collect();
+    of.iter().zip(TABLES).map(under).collect::<Vec<Vec<String>>>().concat()
 }
 
 pub fn name(entry: Entry) -> String {
@@ -400,8 +433,10 @@ pub fn name(entry: Entry) -> String {
         Entry::Without(call) => format!("{call:?}").to_lowercase(),
         Entry::WithTable(call) => format!("{call:?}").to_lowercase() + "_table",
         Entry::SetMarks => "set_marks".to_string(),
+        Entry::Retire => "retire".to_string(),
         Entry::Order => "order".to_string(),
         Entry::File(call) => format!("{call:?}").to_lowercase(),
+        Entry::BringOver => "bring_over".to_string(),
     }
 }
 
@@ -413,7 +448,9 @@ pub fn refusals(entry: Entry) -> Vec<u32> {
         Entry::Without(call) => (call, false),
         Entry::WithTable(call) => (call, true),
         Entry::SetMarks => (Call::SetMarks, true),
+        Entry::Retire => (Call::Retire, true),
         Entry::Order => (Call::Order, true),
+        Entry::BringOver => (Call::BringOver, false),
     };
     let tests = tests(call);
     let mut numbers = vec![WRONG_LENGTH];

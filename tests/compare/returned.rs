@@ -5,11 +5,12 @@
 use crate::entry::entry_read;
 use crate::lent::Lent;
 use crate::tables::Text;
-use second::block::{decode, BLOCK_LEN};
+use second::block::{decode, Register, BLOCK_LEN};
 use second::host::ANSWERS_LEN;
 use second::random::Random;
 use second::refusal::UNSUPPORTED;
 use second::search::reaches;
+use second::table::Table;
 
 #[derive(Clone, Copy, Debug, PartialEq, Eq)]
 pub enum Back {
@@ -30,15 +31,16 @@ pub fn come_back(random: &mut Random, block: &[u8], file: &[u8], text: &Text) ->
     });
     let number = entry_read(&mut other, &mut file, &mut table, &mut answers);
     let guarded = [&other, &file, &table, &answers].iter().all(|buffer| buffer.is_guarded());
-    match (number, is_supported(block, text)) {
+    let register = decode(block).expect("a block that was written is well formed");
+    match (number, is_supported(&text.table, &register)) {
         (0, true) if guarded && other.content() == block => Back::Same,
         (UNSUPPORTED, false) if guarded && other.content() == held => Back::Unsupported,
         _ => Back::Wrong,
     }
 }
 
-fn is_supported(block: &[u8], text: &Text) -> bool {
-    let register = decode(block).expect("a block that was written is well formed");
-    let reaches = reaches(&text.table, &register);
+/// No weight is above the reach of its pair.
+pub fn is_supported(table: &Table, register: &Register) -> bool {
+    let reaches = reaches(table, register);
     register.delegations.iter().zip(reaches).all(|(d, reach)| d.weight as i16 <= reach)
 }

@@ -26,10 +26,12 @@ static size_t table_len;
 static uint8_t out[SEATREG_ORDER_SIZE];
 static uint8_t text[SEATREG_TEXT_SIZE]; /* a register file */
 static size_t text_len;
+static uint8_t old[SEATREG_OLD_BLOCK_SIZE]; /* a block as it was before there were retired subjects */
 #define BLOCK block, sizeof block
 #define NO_TEXT (const uint8_t *)"", 0
 #define TABLE (const uint8_t *)table, table_len
 #define OUT out, sizeof out
+#define OLD old, sizeof old
 #define ANSWERS answers, sizeof answers
 
 /* Ends the program unless this is so. */
@@ -108,15 +110,17 @@ static void build_before_raise(void)
 }
 
 /* The register of the deepest cut, as tests/second/generate/rounds.rs explains it: 256 delegations
- * among subjects 0 to 23. A walk of 230 links goes from side to side. */
-enum { SIDE = 11, LINKS = 230, END = 23, BACK = 2 };
+ * among subjects 0 to 23. A walk of 230 links goes from side to side. In the register of the deepest
+ * retirement the walk has 228, and its first link comes from the owner through subject 24. */
+enum { SIDE = 11, END = 23, BACK = 2, THROUGH = 24 };
 enum { NUMBER = 31, FIRST_SIDE = 32, SECOND_SIDE = 64, START = 128, LAST = 256 };
+static uint32_t links = 230;
 
 static uint32_t walk(uint32_t place)
 {
     uint32_t turn = place / (2 * SIDE), step = place / 2 % SIDE;
 
-    if (place > LINKS)
+    if (place > links)
         return END;
     return place % 2 == 0 ? 1 + step : 1 + SIDE + (step + turn) % SIDE;
 }
@@ -127,22 +131,51 @@ static void grant_met_by(uint32_t subject, uint32_t giver, uint32_t receiver, ui
     grant(giver, receiver, weight, subject, NUMBER & ~subject);
 }
 
-static void build_deep(void)
+static void enrol_deep(void)
 {
     open_register();
     for (uint32_t s = 1; s <= END; s++) {
         uint32_t marks = s | (s <= SIDE ? FIRST_SIDE | START : SECOND_SIDE);
         enrol(marks | (s == walk(1) ? START : 0) | (s == END || s == BACK ? LAST : 0));
     }
-    grant(0, walk(0), SEATREG_UNLIMITED, START, 0);
+}
+
+static void grant_sides(void)
+{
     for (uint32_t s = 2; s < END; s++)
         grant(0, s, SEATREG_UNLIMITED, s <= SIDE ? FIRST_SIDE : SECOND_SIDE, 0);
+}
+
+static void grant_walk(void)
+{
     grant_met_by(END, 0, END, 254);
-    for (uint32_t place = 1; place <= LINKS; place++)
+    for (uint32_t place = 1; place <= links; place++)
         grant_met_by(walk(place + 1), walk(place - 1), walk(place), SEATREG_UNLIMITED);
-    grant(walk(LINKS), END, SEATREG_UNLIMITED, LAST, 0);
+    grant(walk(links), END, SEATREG_UNLIMITED, LAST, 0);
     grant_met_by(END, END, BACK, SEATREG_UNLIMITED);
     grant_met_by(BACK, BACK, END, SEATREG_UNLIMITED);
+}
+
+static void build_deep(void)
+{
+    links = 230;
+    enrol_deep();
+    grant(0, walk(0), SEATREG_UNLIMITED, START, 0);
+    grant_sides();
+    grant_walk();
+}
+
+/* Once subject 24 is retired, the first link has no chain. */
+static void build_deep_through(void)
+{
+    links = 228;
+    enrol_deep();
+    enrol(0);
+    grant(0, THROUGH, SEATREG_UNLIMITED, START, 0);
+    grant(THROUGH, walk(0), SEATREG_UNLIMITED, START, 0);
+    grant(0, walk(0), SEATREG_UNLIMITED, FIRST_SIDE, 0);
+    grant_sides();
+    grant_walk();
 }
 
 /* A register, and its file. */
@@ -168,10 +201,27 @@ static void build_unsupported(void)
 {
     build_full();
     for (size_t i = 0; i < SEATREG_MOST_SUBJECTS - 1; i++)
-        block[132 + 8 * i + 2] = SEATREG_USE_ONLY;
+        block[140 + 8 * i + 2] = SEATREG_USE_ONLY;
 }
 
 static void build_unsupported_file(void) { build_file(build_unsupported); }
+
+/* A register, and the block that it had before there were retired subjects. */
+static void build_old(void (*build_register)(void))
+{
+    build_register();
+    memcpy(old, block, 132);
+    memcpy(old + 132, block + 140, sizeof old - 132);
+}
+
+static void build_old_full(void) { build_old(build_full); }
+
+/* In the last record need and bar share a mark. */
+static void build_old_unformed(void)
+{
+    build_old(build_full);
+    old[sizeof old - 2] = old[sizeof old - 4] = 1;
+}
 
 /* The calls that are measured. */
 static uint32_t returned;
@@ -207,11 +257,17 @@ static void set_marks_deep_table(void)
     returned = seatreg_set_marks(BLOCK, 0, 12, 12 | SECOND_SIDE, TABLE, ANSWERS);
 }
 
+static void retire_last(void) { returned = seatreg_retire(BLOCK, 0, 63, NO_TEXT, ANSWERS); }
+static void retire_last_table(void) { returned = seatreg_retire(BLOCK, 0, 63, TABLE, ANSWERS); }
+static void retire_through(void) { returned = seatreg_retire(BLOCK, 0, THROUGH, NO_TEXT, ANSWERS); }
+static void retire_through_table(void) { returned = seatreg_retire(BLOCK, 0, THROUGH, TABLE, ANSWERS); }
+
 static void order_last(void) { returned = seatreg_order(BLOCK, 63, NO_TEXT, OUT, ANSWERS); }
 static void order_last_table(void) { returned = seatreg_order(BLOCK, 63, TABLE, OUT, ANSWERS); }
 
 static void write_file(void) { returned = seatreg_write(BLOCK, text, sizeof text, ANSWERS); }
 static void read_file(void) { returned = seatreg_read(BLOCK, text, text_len, TABLE, ANSWERS); }
+static void bring_over(void) { returned = seatreg_bring_over(OLD, BLOCK, ANSWERS); }
 
 /* A row: the register, the call, the rounds it must answer, 0 if it has none, and what it must return:
  * for 7 the table's text is lent without its last byte. */
@@ -250,6 +306,11 @@ static const struct row rows[] = {
     {"set_marks with a table", build_full, set_marks_last_table, 1, 0},
     {"  486 rounds", build_deep, set_marks_deep_table, 486, 0},
     {"  refused with 7", build_full, set_marks_last_table, 0, SEATREG_MALFORMED},
+    {"retire, full register", build_full, retire_last, 1, 0},
+    {"retire, 484 rounds", build_deep_through, retire_through, 484, 0},
+    {"retire with a table", build_full, retire_last_table, 1, 0},
+    {"  484 rounds", build_deep_through, retire_through_table, 484, 0},
+    {"  refused with 7", build_full, retire_last_table, 0, SEATREG_MALFORMED},
     {"order, full register", build_full, order_last, 0, 0},
     {"order with a table", build_full, order_last_table, 0, 0},
     {"  refused with 7", build_full, order_last_table, 0, SEATREG_MALFORMED},
@@ -260,6 +321,8 @@ static const struct row rows[] = {
     {"  refused with 7", build_full_file, read_file, 0, SEATREG_MALFORMED},
     {"  refused with 8", build_unformed_file, read_file, 0, SEATREG_NOT_WELL_FORMED},
     {"  refused with 18", build_unsupported_file, read_file, 0, SEATREG_UNSUPPORTED},
+    {"bring_over, full register", build_old_full, bring_over, 0, 0},
+    {"  refused with 8", build_old_unformed, bring_over, 0, SEATREG_NOT_WELL_FORMED},
 };
 
 /* The thread: makes a call below ROOM bytes of its own. */

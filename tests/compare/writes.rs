@@ -5,10 +5,10 @@ use crate::draw::List;
 use crate::entry::FileCall;
 use crate::fault::{Fault, NONE};
 use crate::report::Part;
+use crate::returned::is_supported;
 use second::block::{decode, Register};
 use second::refusal::{UNSUPPORTED, WRONG_LENGTH};
 use second::regfile::{Rows, LEAST_TEXT};
-use second::search::reaches;
 use second::table::OURS;
 
 /// What differs where one side accepts and the other refuses.
@@ -16,7 +16,7 @@ const ACCEPTED: &[Part] = &[Part::Number, Part::Answers, Part::File, Part::Back]
 const FILE: &[Part] = &[Part::File];
 const ANSWERS: &[Part] = &[Part::Answers];
 
-pub const WRITES: [Fault; 11] = [
+pub const WRITES: [Fault; 15] = [
     wrong("the rest of the buffer zeroed", FILE, |lent| accepted(lent, |left| {
         let length = left.answer();
         left.file[length..].fill(0);
@@ -45,9 +45,29 @@ pub const WRITES: [Fault; 11] = [
         rows.delegations.iter_mut().for_each(|row| (row[3], row[4]) = (0, 0));
         put(left, lent, &rows);
     })),
+    wrong("nobody written as retired", &[Part::File, Part::Back], |lent| accepted(lent, |left| {
+        let mut rows = Rows::of(&register(left));
+        rows.subjects.iter_mut().for_each(|row| row[2] = 0);
+        put(left, lent, &rows);
+    })),
+    wrong("retired and not retired exchanged", &[Part::File, Part::Back], |lent| accepted(lent, |left| {
+        let mut rows = Rows::of(&register(left));
+        rows.subjects.iter_mut().for_each(|row| row[2] = 1 - row[2]);
+        put(left, lent, &rows);
+    })),
+    wrong("the column of the retired before the marks", &[Part::File, Part::Back], |lent| accepted(lent, |left| {
+        let mut rows = Rows::of(&register(left));
+        rows.subjects.iter_mut().for_each(|row| row.swap(1, 2));
+        put(left, lent, &rows);
+    })),
+    wrong("retired subjects left out", &[Part::Answers, Part::File, Part::Back], |lent| accepted(lent, |left| {
+        let mut rows = Rows::of(&register(left));
+        rows.subjects.retain(|row| row[2] == 0);
+        put(left, lent, &rows);
+    })),
     wrong("18 for an unsupported register", ACCEPTED, |lent| {
         let (number, left) = right(lent);
-        if number == 0 && !is_supported(&register(&left)) { (UNSUPPORTED, lent.clone()) } else { (number, left) }
+        if number == 0 && !is_supported(&OURS, &register(&left)) { (UNSUPPORTED, lent.clone()) } else { (number, left) }
     }),
     wrong("a buffer of 8,191 bytes accepted", &[Part::Number, Part::Answers, Part::File], |lent| {
         if lent.file.len() != LEAST_TEXT - 1 {
@@ -95,9 +115,4 @@ fn put(left: &mut Contents, lent: &Contents, rows: &Rows) {
 
 fn set_answer(left: &mut Contents, answer: usize) {
     left.set_answers([answer as i32, 0, 0]);
-}
-
-fn is_supported(register: &Register) -> bool {
-    let reaches = reaches(&OURS, register);
-    register.delegations.iter().zip(reaches).all(|(d, reach)| d.weight as i16 <= reach)
 }

@@ -23,9 +23,9 @@ committed() {
 # each subject weight 9, and each subject the next ones this weight.
 register() {
     awk -v subjects="$2" -v ahead="$3" -v weight="$4" 'BEGIN {
-        print "subject marks"
+        print "subject marks retired"
         for (s = 0; s < subjects; s++)
-            print s, (s == 0 ? 0 : 65536 - s)
+            print s, (s == 0 ? 0 : 65536 - s), 0
         print "\ngiver receiver weight need bar"
         for (s = 1; s < subjects; s++)
             print 0, s, 9, 0, 0
@@ -49,12 +49,14 @@ drawn() {
     fi
 }
 
-# One with the owner alone, one with 64 subjects and 256 delegations, and one in
-# which the subjects give more than they have.
+# One with the owner alone, one with 64 subjects and 256 delegations, one in which
+# the subjects give more than they have, and one with a retired subject.
 registers() {
     register fresh 1 0 0 && drawn fresh 1 0 0 &&
         register full 64 5 0 && test "$(wc -l <"$out/full.register")" -eq 323 && drawn full 64 256 0 &&
-        register unsupported 6 1 10 && drawn unsupported 6 9 4
+        register unsupported 6 1 10 && drawn unsupported 6 9 4 &&
+        printf '%s\n' 'subject marks retired' '0 0 0' '1 5 0' '2 0 1' '' 'giver receiver weight need bar' '0 1 9 0 0' \
+            >"$out/retired.register" && drawn retired 3 1 0
 }
 
 # refused STATUS LINE WORDS...: with these arguments the program prints nothing,
@@ -75,11 +77,14 @@ number() {
 refusals() {
     local file=examples/dealers.register
     head -c -1 "$file" >"$out/short" && : >"$out/empty" && sed 's/$/\r/' "$file" >"$out/carriage" &&
+        sed '1s/ retired$//; 2,/^$/s/ 0$//' "$file" >"$out/old" && sed 's/^8 2 0$/8 2 1/' "$file" >"$out/marked" &&
         sed 's/^6 7 0/6 6 0/' "$file" >"$out/unformed" && printf 'weight next\n' >"$out/table" &&
         awk 'BEGIN { print "weight next"; for (w = 0; w < 256; w++) print w, w }' >"$out/keeping" || return 1
     refused 1 "drawing: $out/short: $(number 7)" "$out/short" &&
         refused 1 "drawing: $out/empty: $(number 7)" "$out/empty" &&
         refused 1 "drawing: $out/carriage: $(number 7)" "$out/carriage" &&
+        refused 1 "drawing: $out/old: $(number 7)" "$out/old" &&
+        refused 1 "drawing: $out/marked: $(number 8)" "$out/marked" &&
         refused 1 "drawing: $out/unformed: $(number 8)" "$out/unformed" &&
         refused 1 "drawing: $out/table: $(number 7)" "$file" "$out/table" &&
         refused 1 "drawing: $out/keeping: $(number 17)" "$file" "$out/keeping" &&

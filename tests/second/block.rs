@@ -1,6 +1,8 @@
-//! The block of 2,180 bytes: layout, well-formedness, decode and encode.
+//! The block of 2,188 bytes: layout, well-formedness, decode and encode.
 
-pub const BLOCK_LEN: usize = 2180;
+pub const BLOCK_LEN: usize = 2188;
+/// The length before document 02's C-16, which added the bytes of the retired.
+pub const OLD_BLOCK_LEN: usize = 2180;
 pub const MOST_SUBJECTS: usize = 64;
 pub const MOST_DELEGATIONS: usize = 256;
 
@@ -8,7 +10,9 @@ pub const SUBJECTS_AT: usize = 0;
 pub const ZERO_AT: usize = 1;
 pub const DELEGATIONS_AT: usize = 2;
 pub const MARKS_AT: usize = 4;
-pub const RECORDS_AT: usize = 132;
+/// One bit a subject, lowest bit of the first byte subject 0.
+pub const RETIRED_AT: usize = 132;
+pub const RECORDS_AT: usize = 140;
 pub const RECORD_LEN: usize = 8;
 
 // Places within a record.
@@ -29,11 +33,12 @@ pub struct Delegation {
     pub bar: u16,
 }
 
-/// A decoded register. `marks` has one entry for each enrolled subject;
-/// delegations rise by giver, then receiver.
+/// A decoded register. `marks` has one entry for each enrolled subject; bit s of
+/// `retired` is subject s; delegations rise by giver, then receiver.
 #[derive(Clone, Debug, PartialEq, Eq)]
 pub struct Register {
     pub marks: Vec<u16>,
+    pub retired: u64,
     pub delegations: Vec<Delegation>,
 }
 
@@ -44,13 +49,17 @@ impl Delegation {
 }
 
 impl Register {
-    /// One subject, the owner, and no delegation.
+    /// One subject, the owner, none retired, and no delegation.
     pub fn fresh() -> Register {
-        Register { marks: vec![0], delegations: Vec::new() }
+        Register { marks: vec![0], retired: 0, delegations: Vec::new() }
     }
 
     pub fn enrolled(&self, subject: u32) -> bool {
         (subject as usize) < self.marks.len()
+    }
+
+    pub fn is_retired(&self, subject: u32) -> bool {
+        subject < 64 && self.retired >> subject & 1 == 1
     }
 
     /// The marks of a subject; zero if it is not enrolled.
@@ -69,11 +78,11 @@ impl Register {
     }
 }
 
-/// A rule of well-formedness: its name and its test on 2,180 bytes.
+/// A rule of well-formedness: its name and its test on 2,188 bytes.
 /// Each test is meaningful whether or not the other rules hold.
 pub type Rule = (&'static str, fn(&[u8]) -> bool);
 
-pub const RULES: [Rule; 13] = [
+pub const RULES: [Rule; 17] = [
     ("subjects are 1 to 64", |b| b[SUBJECTS_AT] >= 1 && b[SUBJECTS_AT] <= 64),
     ("byte 1 is zero", |b| b[ZERO_AT] == 0),
     ("delegations are 0 to 256", |b| word(b, DELEGATIONS_AT) <= 256),
@@ -87,9 +96,13 @@ pub const RULES: [Rule; 13] = [
     ("a record's zero byte is zero", |b| records(b).all(|r| r[RECORD_ZERO] == 0)),
     ("need and bar share no mark", |b| records(b).all(|r| word(r, NEED) & word(r, BAR) == 0)),
     ("unused records are zero", |b| b[RECORDS_AT + RECORD_LEN * used(b)..].iter().all(|&x| x == 0)),
+    ("the retired are enrolled", |b| retired(b).all(|s| s < subjects(b))),
+    ("the owner is not retired", |b| retired(b).all(|s| s != 0)),
+    ("the marks of the retired are zero", |b| retired(b).all(|s| word(b, MARKS_AT + 2 * s) == 0)),
+    ("the retired have no record", retired_have_no_record),
 ];
 
-/// The rules that a block of 2,180 bytes breaks, as indices of `RULES`.
+/// The rules that a block of 2,188 bytes breaks, as indices of `RULES`.
 pub fn broken_rules(block: &[u8]) -> Vec<usize> {
     (0..RULES.len()).filter(|&at| !RULES[at].1(block)).collect()
 }
@@ -105,7 +118,7 @@ pub fn decode(block: &[u8]) -> Option<Register> {
     }
     let marks = (0..subjects(block)).map(|s| word(block, MARKS_AT + 2 * s)).collect();
     let delegations = records(block).map(read_record).collect();
-    Some(Register { marks, delegations })
+    Some(Register { marks, retired: retired_bits(block), delegations })
 }
 
 /// The block of a register. Every byte that is not used is zero.
@@ -113,6 +126,7 @@ pub fn encode(register: &Register) -> Vec<u8> {
     let mut block = vec![0; BLOCK_LEN];
     block[SUBJECTS_AT] = register.marks.len() as u8;
     set_word(&mut block, DELEGATIONS_AT, register.delegations.len() as u16);
+    block[RETIRED_AT..RECORDS_AT].copy_from_slice(&register.retired.to_le_bytes());
     for (subject, &marks) in register.marks.iter().enumerate() {
         set_word(&mut block, MARKS_AT + 2 * subject, marks);
     }
@@ -120,6 +134,17 @@ pub fn encode(register: &Register) -> Vec<u8> {
         write_record(&mut block[RECORDS_AT + RECORD_LEN * at..][..RECORD_LEN], delegation);
     }
     block
+}
+
+/// The block that an old one of 2,180 bytes becomes: the bytes of the retired, all
+/// zero, come between its marks and its records. Nothing if it was not well formed: with
+/// none retired, the rules are those of before.
+pub fn brought(old: &[u8]) -> Option<Vec<u8>> {
+    if old.len() != OLD_BLOCK_LEN {
+        return None;
+    }
+    let block = [&old[..RETIRED_AT], &[0; RECORDS_AT - RETIRED_AT], &old[RETIRED_AT..]].concat();
+    well_formed(&block).then_some(block)
 }
 
 /// A two-byte number, low byte first.
@@ -146,7 +171,24 @@ fn records(block: &[u8]) -> impl Iterator<Item = &[u8]> {
 }
 
 fn absent_marks_zero(block: &[u8]) -> bool {
-    block[MARKS_AT + 2 * subjects(block)..RECORDS_AT].iter().all(|&byte| byte == 0)
+    block[MARKS_AT + 2 * subjects(block)..RETIRED_AT].iter().all(|&byte| byte == 0)
+}
+
+/// Bit s is subject s: it is bit s % 8 of byte s / 8 of the eight.
+fn retired_bits(block: &[u8]) -> u64 {
+    let bytes = block[RETIRED_AT..RECORDS_AT].iter();
+    bytes.rev().fold(0, |bits, &byte| bits << 8 | byte as u64)
+}
+
+/// The subjects whose bit is set, enrolled or not.
+fn retired(block: &[u8]) -> impl Iterator<Item = usize> {
+    let bits = retired_bits(block);
+    (0..MOST_SUBJECTS).filter(move |subject| bits >> subject & 1 == 1)
+}
+
+fn retired_have_no_record(block: &[u8]) -> bool {
+    let has_record = |s: usize| records(block).any(|r| r[GIVER] as usize == s || r[RECEIVER] as usize == s);
+    !retired(block).any(has_record)
 }
 
 fn records_rise(block: &[u8]) -> bool {

@@ -1,11 +1,11 @@
 //! The calls, on any bytes and any numbers. Those that reckon reach may be lent
 //! a table's text; without one, or with an empty one, they reckon by ours.
 
-use crate::block::{encode, Delegation, Register, BLOCK_LEN};
+use crate::block::{brought, encode, Delegation, Register, BLOCK_LEN, OLD_BLOCK_LEN};
 use crate::cut::settle;
 use crate::engine::{Engine, FAST};
 use crate::order;
-use crate::refusal::{admit, Call, Passed, WRONG_LENGTH};
+use crate::refusal::{admit, Call, Passed, NOT_WELL_FORMED, WRONG_LENGTH};
 use crate::search::Search;
 use crate::table::Table;
 
@@ -50,6 +50,24 @@ pub fn downgrade(block: &mut [u8], by: u32, giver: u32, receiver: u32, weight: u
 /// Marks replaces all marks of the subject.
 pub fn set_marks(block: &mut [u8], by: u32, subject: u32, marks: u32) -> Outcome {
     run(&FAST, &Passed { by, receiver: subject, need: marks, ..blank(Call::SetMarks) }, block)
+}
+
+/// The subject has no delegations and no marks afterwards, and is named by no call.
+pub fn retire(block: &mut [u8], by: u32, subject: u32) -> Outcome {
+    run(&FAST, &Passed { by, receiver: subject, ..blank(Call::Retire) }, block)
+}
+
+/// Takes an old block of 2,180 bytes, well formed by the rules of before, into one of any
+/// content.
+pub fn bring_over(old: &[u8], block: &mut [u8]) -> Outcome {
+    if old.len() != OLD_BLOCK_LEN || block.len() != BLOCK_LEN {
+        return refused(WRONG_LENGTH);
+    }
+    let Some(new) = brought(old) else {
+        return refused(NOT_WELL_FORMED);
+    };
+    block.copy_from_slice(&new);
+    accepted([0, 0, 0])
 }
 
 pub fn reach(block: &[u8], giver: u32, receiver: u32) -> Outcome {
@@ -110,12 +128,14 @@ pub fn run(engine: &Engine, n: &Passed, block: &mut [u8]) -> Outcome {
     run_table(engine, n, b"", block)
 }
 
-/// The same, lent a table's text, which a call that reckons no reach ignores.
+/// The same, lent a table's text, which a call that reckons no reach ignores; lent the
+/// old block, one that brings it over.
 pub fn run_table(engine: &Engine, n: &Passed, text: &[u8], block: &mut [u8]) -> Outcome {
     match n.call {
         Call::Open => open(block),
+        Call::BringOver => bring_over(text, block),
         Call::Reach | Call::Use | Call::Chain | Call::Order => answer(engine, n, text, block),
-        Call::Enrol | Call::Grant | Call::Revoke | Call::Downgrade | Call::SetMarks => {
+        Call::Enrol | Call::Grant | Call::Revoke | Call::Downgrade | Call::SetMarks | Call::Retire => {
             change(engine, n, text, block)
         }
     }
@@ -169,16 +189,24 @@ fn set_delegation(n: &Passed, register: &mut Register) -> [i32; 3] {
     [register.delegations.len() as i32, 0, 0]
 }
 
-/// The named change of a cut, or the subject's new marks, then the rounds.
+/// The named change of a cut, the subject's new marks or its retirement, then the rounds.
 fn change_and_settle(engine: &Engine, table: &Table, n: &Passed, register: &mut Register) -> [i32; 3] {
     match (n.call, register.place(n.giver, n.receiver)) {
         (Call::SetMarks, _) => register.marks[n.receiver as usize] = n.need as u16,
+        (Call::Retire, _) => retire_subject(register, n.receiver),
         (Call::Revoke, Ok(at)) => drop(register.delegations.remove(at)),
         (Call::Downgrade, Ok(at)) => register.delegations[at].weight = n.weight as u8,
         _ => {}
     }
     let counts = settle(engine, table, register);
     [counts.dropped as i32, counts.lowered as i32, counts.rounds as i32]
+}
+
+/// The named change: all delegations to and from it, its marks and its bit.
+pub fn retire_subject(register: &mut Register, subject: u32) {
+    register.delegations.retain(|d| d.giver as u32 != subject && d.receiver as u32 != subject);
+    register.marks[subject as usize] = 0;
+    register.retired |= 1 << subject;
 }
 
 fn may_use(register: &Register, receiver: u32) -> bool {

@@ -96,6 +96,8 @@ pub fn used_columns(call: Call) -> [bool; 6] {
         Call::Chain => [0, 1, 1, 1, 0, 0],
         Call::Order => [0, 0, 1, 1, 0, 0],
         Call::SetMarks => [1, 0, 1, 0, 1, 0],
+        Call::Retire => [1, 0, 1, 0, 0, 0],
+        Call::BringOver => [0, 0, 0, 0, 0, 0],
     };
     columns.map(|used| used == 1)
 }

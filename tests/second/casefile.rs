@@ -20,6 +20,9 @@
 //! and the rest is kept; refused, 0 if nothing was written.
 //! In a file of the kind `marks`, whose lines are those of the kind `table`, 11 is
 //! set_marks: the subject is under receiver and the marks are under need.
+//! In a file of the kind `retire`, whose lines are those of the kind `table`, 12 is
+//! retire, with the subject under receiver, and 13 is bring_over: the old block is in the
+//! place of the text, and BLOCK is the one that it is brought into.
 
 use crate::call::{chain_table, order_table, run_table, Outcome, Written};
 use crate::callfile::{from_values, joined, lines, read_values, used_only, values_of};

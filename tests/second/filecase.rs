@@ -1,7 +1,7 @@
 //! Case files of the kind `file`: the calls of document 02's C-13, and others among
 //! them. A line is seven numbers, a register's file, a step table's text and a block:
-//! `call by giver receiver weight need bar FILE TABLE BLOCK`. Calls 0 to 7 are those
-//! of the other kinds, and those that take a table are lent the text; 8 is write,
+//! `call by giver receiver weight need bar FILE TABLE BLOCK`. Calls 0 to 7, 11 and 12 are
+//! those of the other kinds, and those that take a table are lent the text; 8 is write,
 //! with its buffer's length as the weight, and 9 is read. FILE, TABLE and BLOCK are
 //! `=`, the bytes that the line before left, or `LENGTH:BYTES`.
 //! The expected line is `refusal first second third LEFT`, where LEFT is the block,
@@ -17,7 +17,7 @@ use crate::call::Outcome;
 use crate::callfile::{from_values, joined, lines, read_values, values_of};
 use crate::casefile::{answer_table, block_text, left_line, read_sized, MOST_BYTES};
 use crate::engine::Engine;
-use crate::refusal::{Passed, CALLS};
+use crate::refusal::{Call, Passed};
 use crate::regfile;
 
 /// A file, and the buffer of a write, has at most so many bytes.
@@ -103,7 +103,7 @@ fn asked(values: [u32; 7]) -> Option<Asked> {
     let asked = match values[0] {
         WRITE => Asked::Write(values[4]),
         READ => Asked::Read,
-        _ => Asked::Call(from_values(values).filter(|n| CALLS.contains(&n.call))?),
+        _ => Asked::Call(from_values(values).filter(|n| !matches!(n.call, Call::Order | Call::BringOver))?),
     };
     (numbers(&asked) == values).then_some(asked)
 }

@@ -1,15 +1,15 @@
 //! The calls as a host makes them: the refusal number is returned, and only
 //! when it is 0 the three answers are in 12 lent bytes.
 
-use crate::call::{order_table, run_table, Outcome, Written};
+use crate::call::{bring_over, order_table, run_table, Outcome, Written};
 use crate::engine::Engine;
 use crate::refusal::{Passed, WRONG_LENGTH};
 use crate::regfile;
 
 pub const ANSWERS_LEN: usize = 12;
 
-/// Any call but chain, which has no entry point for hosts, and order, which has its own,
-/// without a table.
+/// Any call but chain, which has no entry point for hosts, and order and bring_over, which
+/// have their own, without a table.
 pub fn host_call(engine: &Engine, n: &Passed, block: &mut [u8], answers: &mut [u8]) -> u32 {
     host_call_table(engine, n, b"", block, answers)
 }
@@ -54,6 +54,14 @@ pub fn host_order(
     }
     let Written { refusal, filled } = order_table(engine, block, receiver, table, out);
     told(Outcome { refusal, answers: [filled as i32, 0, 0] }, answers)
+}
+
+/// Takes an old block into a new one; every answer is 0.
+pub fn host_bring_over(old: &[u8], block: &mut [u8], answers: &mut [u8]) -> u32 {
+    if answers.len() != ANSWERS_LEN {
+        return WRONG_LENGTH;
+    }
+    told(bring_over(old, block), answers)
 }
 
 /// The number returned; the answers are written only when it is 0.

@@ -4,11 +4,12 @@
 //! the list's numbers, nine for each call, and a full stop. The nine are the seven
 //! of the call file and, for a call that takes a table, where its text begins in
 //! the texts and how long it is. Call 6, which is none of the call file's, is
-//! set_marks: the subject is under receiver and the marks are under need.
+//! set_marks: the subject is under receiver and the marks are under need. Call 7 is
+//! retire: the subject is under receiver.
 //! A list is refused with 1 if its numbers are no whole calls, or a buffer has
 //! not the length of a block more than calls, a refusal a call, three answers a
 //! call, or a call's text is not within the texts; then with 7 if a call's number
-//! is above 6. A refused list writes nothing. Else block 0 is open's, and each call
+//! is above 7. A refused list writes nothing. Else block 0 is open's, and each call
 //! is made on a copy of the block before; columns that it does not use are not
 //! looked at.
 //! Expected is a line `refusal BLOCK` with block 0, `=` if it is not written,
@@ -26,8 +27,8 @@ use crate::refusal::{takes_table, Call, Passed, MALFORMED, WRONG_LENGTH};
 pub const NUMBERS: usize = 9;
 
 /// The calls of a list, in the order of their numbers there.
-pub const CALLS_IN_LIST: [Call; 7] =
-    [Call::Enrol, Call::Grant, Call::Revoke, Call::Downgrade, Call::Reach, Call::Use, Call::SetMarks];
+pub const CALLS_IN_LIST: [Call; 8] =
+    [Call::Enrol, Call::Grant, Call::Revoke, Call::Downgrade, Call::Reach, Call::Use, Call::SetMarks, Call::Retire];
 
 /// Texts have at most so many bytes.
 pub const MOST_TEXTS: usize = 8192;

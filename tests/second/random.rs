@@ -60,7 +60,7 @@ pub fn random_register(random: &mut Random, shape: &Shape) -> Register {
     for _ in 1..shape.subjects {
         marks.push(random.next() as u16 & shape.marks);
     }
-    let mut register = Register { marks, delegations: Vec::new() };
+    let mut register = Register { marks, retired: 0, delegations: Vec::new() };
     for _ in 0..shape.delegations {
         let new = random_delegation(random, shape);
         if new.giver == new.receiver {

@@ -2,7 +2,7 @@
 //! The refusal is the first that applies of: 1, passed in order, 7 and 17 for a
 //! lent table's text, 8, held in order. It is never a numeric minimum.
 
-use crate::block::{decode, Delegation, Register, BLOCK_LEN, MOST_DELEGATIONS, MOST_SUBJECTS};
+use crate::block::{brought, decode, Delegation, Register, BLOCK_LEN, MOST_DELEGATIONS, MOST_SUBJECTS, OLD_BLOCK_LEN};
 use crate::engine::Engine;
 use crate::table::{Table, OURS};
 
@@ -15,6 +15,8 @@ pub const NOT_WELL_FORMED: u32 = 8;
 pub const BAD_TABLE: u32 = 17;
 /// Some delegation of a register file is unsupported.
 pub const UNSUPPORTED: u32 = 18;
+/// A named subject is retired.
+pub const RETIRED: u32 = 19;
 pub const LEAST_BUFFER: usize = 126;
 /// The buffer of an order has just so many bytes.
 pub const ORDER_BUFFER: usize = 128;
@@ -34,6 +36,10 @@ pub enum Call {
     Order = 10,
     /// Document 02, C-15. The subject is the receiver.
     SetMarks,
+    /// Document 02, C-16. The subject is the receiver.
+    Retire,
+    /// A block of 2,180 bytes, lent in the place of a table's text, into one of 2,188.
+    BringOver,
 }
 
 /// Document 01's calls, in the order of their numbers.
@@ -42,9 +48,9 @@ pub const CALLS: [Call; 8] = [
 ];
 
 /// Those and document 02's.
-pub const ALL_CALLS: [Call; 10] = [
+pub const ALL_CALLS: [Call; 12] = [
     Call::Enrol, Call::Grant, Call::Revoke, Call::Downgrade, Call::Reach, Call::Use, Call::Open, Call::Chain,
-    Call::Order, Call::SetMarks,
+    Call::Order, Call::SetMarks, Call::Retire, Call::BringOver,
 ];
 
 /// A call and the numbers passed. Numbers that the call does not use are 0,
@@ -83,43 +89,49 @@ pub struct Tests {
 
 use HeldTest::{Numbers as N, Reach, Register as R};
 
+/// What every call that names subjects looks at first in the register.
+const NAMED: [(u32, HeldTest); 2] = [(9, R(not_enrolled)), (RETIRED, R(retired))];
+
+/// The same of a call that is the owner's alone.
+const BY_THE_OWNER: [(u32, HeldTest); 3] = [NAMED[0], NAMED[1], (14, N(not_owner))];
+
 /// The calls that reckon reach take a table: all but these.
 pub fn takes_table(call: Call) -> bool {
-    !matches!(call, Call::Open | Call::Enrol | Call::Use)
+    !matches!(call, Call::Open | Call::Enrol | Call::Use | Call::BringOver)
 }
 
 pub fn tests(call: Call) -> Tests {
     let table: &[u32] = if takes_table(call) { &[MALFORMED, BAD_TABLE] } else { &[] };
     let (passed, held): (&'static [(u32, PassedTest)], &'static [(u32, HeldTest)]) = match call {
-        Call::Open => (&[], &[]),
+        Call::Open | Call::BringOver => (&[], &[]),
         Call::Enrol => (&[(4, masks)], &[(10, R(all_enrolled))]),
         Call::Grant => (
             &[(2, subjects), (3, weight), (4, masks), (5, equal), (6, to_owner)],
-            &[(9, R(not_enrolled)), (11, R(stands)), (12, R(full)), (16, Reach(above_reach))],
+            &[NAMED[0], NAMED[1], (11, R(stands)), (12, R(full)), (16, Reach(above_reach))],
         ),
-        Call::Reach => (&[(2, subjects), (5, equal), (6, to_owner)], &[(9, R(not_enrolled))]),
-        Call::Use => (&[(2, subjects)], &[(9, R(not_enrolled))]),
+        Call::Reach => (&[(2, subjects), (5, equal), (6, to_owner)], &NAMED),
+        Call::Use => (&[(2, subjects)], &NAMED),
         Call::Revoke => (
             &[(2, subjects), (5, equal), (6, to_owner)],
-            &[(9, R(not_enrolled)), (13, R(stands_not)), (14, N(not_entitled))],
+            &[NAMED[0], NAMED[1], (13, R(stands_not)), (14, N(not_entitled))],
         ),
         Call::Downgrade => (
             &[(2, subjects), (3, weight), (5, equal), (6, to_owner)],
-            &[(9, R(not_enrolled)), (13, R(stands_not)), (14, N(not_entitled)), (15, R(not_below))],
+            &[NAMED[0], NAMED[1], (13, R(stands_not)), (14, N(not_entitled)), (15, R(not_below))],
         ),
         Call::Chain => (
             &[(2, subjects), (5, equal), (6, to_owner)],
-            &[(9, R(not_enrolled)), (13, R(stands_not)), (16, Reach(unsupported))],
+            &[NAMED[0], NAMED[1], (13, R(stands_not)), (16, Reach(unsupported))],
         ),
-        Call::Order => (&[(2, subjects), (6, to_owner)], &[(9, R(not_enrolled))]),
-        Call::SetMarks => {
-            (&[(2, subjects), (4, masks), (6, to_owner)], &[(9, R(not_enrolled)), (14, N(not_owner))])
-        }
+        Call::Order => (&[(2, subjects), (6, to_owner)], &NAMED),
+        Call::SetMarks => (&[(2, subjects), (4, masks), (6, to_owner)], &BY_THE_OWNER),
+        Call::Retire => (&[(2, subjects), (6, to_owner)], &BY_THE_OWNER),
     };
     Tests { passed, table, held }
 }
 
-/// The table to reckon by and the decoded register, or the refusal. Not for open.
+/// The table to reckon by and the decoded register, or the refusal. Not for open, nor
+/// for a block that is brought over.
 pub fn admit(engine: &Engine, n: &Passed, text: &[u8], block: &[u8], buffer: usize) -> Result<(Table, Register), u32> {
     if wrong_length(n, block, buffer) {
         return Err(WRONG_LENGTH);
@@ -140,9 +152,12 @@ pub fn admit(engine: &Engine, n: &Passed, text: &[u8], block: &[u8], buffer: usi
 }
 
 /// Every refusal that applies, each judged on its own. Tests of the register
-/// are judged on well-formed blocks only, 8 on 2,180 bytes only, the reach under
+/// are judged on well-formed blocks only, 8 on 2,188 bytes only, the reach under
 /// tables that pass only, and 17 on texts of the form only.
 pub fn applying(engine: &Engine, n: &Passed, text: &[u8], block: &[u8], buffer: usize) -> Vec<u32> {
+    if n.call == Call::BringOver {
+        return applying_to_bring_over(text, block);
+    }
     let tests = tests(n.call);
     let mut numbers = Vec::new();
     if wrong_length(n, block, buffer) {
@@ -158,6 +173,15 @@ pub fn applying(engine: &Engine, n: &Passed, text: &[u8], block: &[u8], buffer: 
     let reach = || Some((engine.reach)(&table.ok()?, register.as_ref()?, n.giver, n.receiver));
     let held = tests.held.iter().filter(|(_, test)| applies(*test, n, register.as_ref(), reach));
     numbers.extend(held.map(|(number, _)| *number));
+    numbers
+}
+
+/// The same of a block that is brought over; 8 on 2,180 bytes only.
+fn applying_to_bring_over(old: &[u8], block: &[u8]) -> Vec<u32> {
+    let sized = old.len() == OLD_BLOCK_LEN;
+    let mut numbers = Vec::new();
+    numbers.extend((!sized || block.len() != BLOCK_LEN).then_some(WRONG_LENGTH));
+    numbers.extend((sized && brought(old).is_none()).then_some(NOT_WELL_FORMED));
     numbers
 }
 
@@ -205,7 +229,7 @@ fn equal(n: &Passed) -> bool {
     n.giver == n.receiver
 }
 
-/// 6: receiver is the owner, or the subject whose marks are set.
+/// 6: receiver is the owner, or the subject whose marks are set or that retires.
 fn to_owner(n: &Passed) -> bool {
     n.receiver == 0
 }
@@ -213,6 +237,11 @@ fn to_owner(n: &Passed) -> bool {
 /// 9: a named subject, by included, is not enrolled.
 fn not_enrolled(n: &Passed, register: &Register) -> bool {
     [n.by, n.giver, n.receiver].iter().any(|&subject| !register.enrolled(subject))
+}
+
+/// 19: a named subject, by included, is retired.
+fn retired(n: &Passed, register: &Register) -> bool {
+    [n.by, n.giver, n.receiver].iter().any(|&subject| register.is_retired(subject))
 }
 
 /// 10: 64 subjects enrolled.
@@ -245,7 +274,7 @@ fn not_entitled(n: &Passed) -> bool {
     n.by != n.giver && not_owner(n)
 }
 
-/// 14 for set_marks: by is not the owner.
+/// 14 for set_marks and retire: by is not the owner.
 fn not_owner(n: &Passed) -> bool {
     n.by != 0
 }

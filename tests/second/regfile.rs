@@ -1,5 +1,5 @@
-//! The register as a file: document 02, C-13. The line `subject marks`, a line for
-//! each enrolled subject in order, an empty line, the line `giver receiver weight
+//! The register as a file: document 02, C-13 and C-16. The line `subject marks retired`,
+//! a line for each enrolled subject in order, an empty line, the line `giver receiver weight
 //! need bar`, a line for each delegation in the order of the block, and nothing
 //! after them.
 
@@ -10,7 +10,7 @@ use crate::engine::Engine;
 use crate::refusal::{BAD_TABLE, MALFORMED, NOT_WELL_FORMED, UNSUPPORTED, WRONG_LENGTH};
 use crate::table::Table;
 
-pub const SUBJECT_NAMES: &[u8] = b"subject marks\n";
+pub const SUBJECT_NAMES: &[u8] = b"subject marks retired\n";
 pub const EMPTY_LINE: &[u8] = b"\n";
 pub const DELEGATION_NAMES: &[u8] = b"giver receiver weight need bar\n";
 
@@ -24,7 +24,7 @@ pub const READ_REFUSALS: [u32; 5] = [WRONG_LENGTH, MALFORMED, BAD_TABLE, NOT_WEL
 /// The numbers of a file: those of each subject's line and of each delegation's.
 #[derive(Clone, Debug, PartialEq, Eq)]
 pub struct Rows {
-    pub subjects: Vec<[u32; 2]>,
+    pub subjects: Vec<[u32; 3]>,
     pub delegations: Vec<[u32; 5]>,
 }
 
@@ -65,7 +65,7 @@ fn admit(engine: &Engine, block: &[u8], text: &[u8], table: &[u8]) -> Result<Reg
     if all_supported(engine, &table, &register) { Ok(register) } else { Err(UNSUPPORTED) }
 }
 
-/// Every refusal of a write that applies, each judged on its own; 8 on 2,180 bytes only.
+/// Every refusal of a write that applies, each judged on its own; 8 on 2,188 bytes only.
 pub fn applying_to_write(block: &[u8], buffer: usize) -> Vec<u32> {
     let sized = block.len() == BLOCK_LEN;
     let apply = [!sized || buffer < LEAST_TEXT, sized && decode(block).is_none()];
@@ -105,12 +105,13 @@ pub fn file_text(register: &Register) -> Vec<u8> {
 
 impl Rows {
     pub fn of(register: &Register) -> Rows {
-        let subject = |(number, &marks): (usize, &u16)| [number as u32, marks as u32];
+        let retired = |number: u32| register.is_retired(number) as u32;
+        let subject = |(&marks, number): (&u16, u32)| [number, marks as u32, retired(number)];
         let delegation = |d: &Delegation| {
             [d.giver as u32, d.receiver as u32, d.weight as u32, d.need as u32, d.bar as u32]
         };
         Rows {
-            subjects: register.marks.iter().enumerate().map(subject).collect(),
+            subjects: register.marks.iter().zip(0..).map(subject).collect(),
             delegations: register.delegations.iter().map(delegation).collect(),
         }
     }
@@ -142,14 +143,16 @@ impl Rows {
     /// The register of these numbers, judged by its block; nothing if they are no
     /// well-formed register's.
     pub fn register(&self) -> Option<Register> {
-        let in_order = self.subjects.iter().zip(0..).all(|(&[number, _], due)| number == due);
+        let in_order = self.subjects.iter().zip(0..).all(|(&[number, ..], due)| number == due);
         let too_many = self.subjects.len() > MOST_SUBJECTS || self.delegations.len() > MOST_DELEGATIONS;
-        if !in_order || too_many {
+        let not_told = self.subjects.iter().any(|&[.., retired]| retired > 1);
+        if !in_order || too_many || not_told {
             return None;
         }
-        let marks = self.subjects.iter().map(|&[_, marks]| marks.try_into().ok()).collect::<Option<_>>()?;
+        let marks = self.subjects.iter().map(|&[_, marks, _]| marks.try_into().ok()).collect::<Option<_>>()?;
+        let retired = self.subjects.iter().fold(0, |bits, &[number, _, retired]| bits | (retired as u64) << number);
         let delegations = self.delegations.iter().map(delegation_of).collect::<Option<_>>()?;
-        decode(&encode(&Register { marks, delegations }))
+        decode(&encode(&Register { marks, retired, delegations }))
     }
 }
 

@@ -41,11 +41,11 @@ fn advance(start: &Register, weights: &mut [i16]) -> bool {
     false
 }
 
-/// The same subjects, marks and conditions with these weights.
+/// The same subjects, marks, retired ones and conditions with these weights.
 pub fn with_weights(start: &Register, weights: &[i16]) -> Register {
     let present = start.delegations.iter().zip(weights).filter(|(_, &weight)| weight != NONE);
     let delegations = present.map(|(d, &weight)| Delegation { weight: weight as u8, ..*d }).collect();
-    Register { marks: start.marks.clone(), delegations }
+    Register { delegations, ..start.clone() }
 }
 
 /// Every delegation is supported within the register itself.
@@ -60,7 +60,8 @@ pub fn is_remainder(table: &Table, start: &Register, left: &Register) -> bool {
         let before = start.standing(d.giver as u32, d.receiver as u32);
         before.is_some_and(|b| b.need == d.need && b.bar == d.bar && d.weight <= b.weight)
     };
-    left.marks == start.marks && left.delegations.iter().all(stands) && is_supported(table, left)
+    let same_subjects = left.marks == start.marks && left.retired == start.retired;
+    same_subjects && left.delegations.iter().all(stands) && is_supported(table, left)
 }
 
 /// Checks that `left` is the best remainder, against all others.

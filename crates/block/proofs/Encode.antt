@@ -5,7 +5,7 @@ use Rattle.rules.specs.Register.{Register}
 use Rattle.rules.specs.WellFormed.{WellFormed}
 use Rattle.block.specs.Layout.{blockSize, markSize, marksAt, recordsAt}
 use Rattle.block.specs.Bytes.{IsBytes, readAll}
-use Rattle.block.specs.Block.{marksIn, subjectsIn, countIn, decode, encode}
+use Rattle.block.specs.Block.{marksIn, subjectsIn, countIn, retiredIn, decode, encode}
 use Rattle.block.specs.Records.{delegationsTo}
 use Rattle.block.proofs.Fitting.{recordsPart, formed-fits}
 use Rattle.block.proofs.Fitting as fitting
@@ -25,6 +25,9 @@ module _ (R : Register) (f : WellFormed R) where
 
   pub marks-encode : readAll marksIn markSize (drop marksAt (encode R)) (subjectsIn (encode R)) ≡ R .marks
   marks-encode = fitting.marks-encode R (formed-fits R f)
+
+  pub retired-encode : retiredIn (encode R) ≡ R .retired
+  retired-encode = fitting.retired-encode R (formed-fits R f)
 
   pub delegations-encode : delegationsTo (encode R) (countIn (encode R)) ≡ R .delegations
   delegations-encode = fitting.delegations-encode R (formed-fits R f)

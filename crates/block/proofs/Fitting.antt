@@ -2,30 +2,36 @@
 use mathlib.Core.Path.{_≡_, refl, sym, ap, subst, _∙_}
 use mathlib.Core.List.{List, [], _∷_, _++_, append-assoc, List·Memᴰ·head, List·Memᴰ·tail}
 use Prim.Native.Nat.{ℕ, zero, suc, _+_, _-_, _/_, _≤_}
-use native.Mathlib.Nat.{mod-lt}
+use native.Mathlib.Nat.{mod-lt, lt-of-lt-of-le}
 use native.Mathlib.Omega.{arith}
 use lib.ListN.{length, take, drop, replicate, length-append, length-replicate}
+use lib.Pow.{pow-mono}
 use lib.Seq.{take-at, drop-at}
 use Rattle.rules.specs.List.{_∈_, concatMap}
 use Rattle.rules.specs.Register.{Delegation, Register}
 use Rattle.rules.specs.WellFormed.{WellFormed}
-use Rattle.block.specs.Layout.{blockSize, markSize, recordSize, marksSize, recordsSize, marksAt, recordsAt}
-use Rattle.block.specs.Bytes.{IsBytes, twoBytes, readAll, padded}
-use Rattle.block.specs.Block.{marksIn, delegationIn, recordBytes, subjectsIn, countIn, decode, encode}
+use Rattle.rules.proofs.Retired.{retired-room}
+use Rattle.block.specs.Layout.{blockSize, markSize, recordSize, marksSize, retiredSize, recordsSize, marksAt, retiredAt, recordsAt}
+use Rattle.block.specs.Bytes.{IsBytes, twoBytes, wide, wideBytes, readAll, padded}
+use Rattle.block.specs.Block.{marksIn, delegationIn, recordBytes, subjectsIn, countIn, retiredIn, decode, encode}
 use Rattle.block.specs.Fits.{DelegationFits, Fits, Fitting}
 use Rattle.block.proofs.Bytes.{two-twoBytes, bytes-append, bytes-zeros, length-written, read-written}
+use Rattle.block.proofs.Wide.{wide-drop, length-wideBytes, bytes-wideBytes, wide-bytes}
 use Rattle.block.specs.Records.{delegationsTo}
 
 -- the head: subjects, zero, the count
 abbrev pub headOf : ℕ → ℕ → List ℕ
 headOf n c = n ∷ 0 ∷ twoBytes c
 
--- the bytes of the marks; what stands between the head and the records; the bytes of the records; what stands after the marks
+-- the bytes of the marks, and those of the retired subjects' bits; what stands between the head and the records; the bytes of the records; what stands after the marks
 abbrev pub marksPart : Register → List ℕ
 marksPart R = padded marksSize (concatMap twoBytes (R .marks))
 
+abbrev pub retiredPart : Register → List ℕ
+retiredPart R = wideBytes retiredSize (R .retired)
+
 abbrev pub middlePart : Register → List ℕ
-middlePart R = marksPart R
+middlePart R = marksPart R ++ retiredPart R
 
 abbrev pub middleSize : ℕ
 middleSize = recordsAt - marksAt
@@ -34,12 +40,12 @@ abbrev pub recordsPart : Register → List ℕ
 recordsPart R = padded recordsSize (concatMap recordBytes (R .delegations))
 
 abbrev pub afterMarks : Register → List ℕ
-afterMarks R = recordsPart R
+afterMarks R = retiredPart R ++ recordsPart R
 
 -- ── the block from its parts, cut where the records begin, and where the marks end ──
 pub encode-records : (R : Register) → encode R ≡ headOf (R .subjects) (length (R .delegations)) ++ (middlePart R ++ recordsPart R)
 unfolding encode
-encode-records R = refl
+encode-records R = ap (λ (s : List ℕ). headOf (R .subjects) (length (R .delegations)) ++ s) (sym (append-assoc (marksPart R) (retiredPart R) (recordsPart R)))
 
 pub encode-marks : (R : Register) → encode R ≡ headOf (R .subjects) (length (R .delegations)) ++ (marksPart R ++ afterMarks R)
 unfolding encode
@@ -81,11 +87,11 @@ module _ (R : Register) (f : Fits R) where
   records-most : length (concatMap recordBytes (R .delegations)) ≤ recordsSize
   records-most = omega (arith, length-written recordBytes recordSize record-wide (R .delegations), f .few)
 
-  length-marksPart : length (marksPart R) ≡ marksSize
+  pub length-marksPart : length (marksPart R) ≡ marksSize
   length-marksPart = length-padded marksSize (concatMap twoBytes (R .marks)) marks-most
 
   pub length-middlePart : length (middlePart R) ≡ middleSize
-  length-middlePart = length-marksPart
+  length-middlePart = length-append (marksPart R) (retiredPart R) ∙ omega (arith, length-marksPart, length-wideBytes retiredSize (R .retired))
 
   length-recordsPart : length (recordsPart R) ≡ recordsSize
   length-recordsPart = length-padded recordsSize (concatMap recordBytes (R .delegations)) records-most
@@ -114,6 +120,12 @@ module _ (R : Register) (f : Fits R) where
       ∙ ap (λ (n : ℕ). readAll marksIn markSize (concatMap twoBytes (R .marks) ++ (replicate (marksSize - length (concatMap twoBytes (R .marks))) 0 ++ afterMarks R)) n) (sym (f .marked))
       ∙ read-written twoBytes markSize two-wide marksIn (R .marks) (replicate (marksSize - length (concatMap twoBytes (R .marks))) 0 ++ afterMarks R) (λ m i r. two-twoBytes m (f .marks m i))
 
+  pub retired-drop : drop retiredAt (encode R) ≡ afterMarks R
+  retired-drop = ap (drop retiredAt) (encode-marks R) ∙ drop-at (marksPart R) (afterMarks R) marksSize length-marksPart
+
+  pub retired-encode : retiredIn (encode R) ≡ R .retired
+  retired-encode = sym (wide-drop retiredSize (encode R) retiredAt 0) ∙ ap (λ (s : List ℕ). wide retiredSize s 0) retired-drop ∙ wide-bytes retiredSize (R .retired) (recordsPart R) (lt-of-lt-of-le (f .bits) (pow-mono (f .most)))
+
   pub delegations-encode : delegationsTo (encode R) (countIn (encode R)) ≡ R .delegations
   delegations-encode =
       ap (λ (s : List ℕ). readAll delegationIn recordSize s (countIn (encode R))) records-encode
@@ -124,7 +136,7 @@ module _ (R : Register) (f : Fits R) where
   -- what was written is read back
   pub decode-encode : decode (encode R) ≡ R
   unfolding decode
-  decode-encode = λ i. record { subjects = subjects-encode i; marks = marks-encode i; delegations = delegations-encode i }
+  decode-encode = λ i. record { subjects = subjects-encode i; marks = marks-encode i; retired = retired-encode i; delegations = delegations-encode i }
 
   record-bytes : (d : Delegation) → DelegationFits d → IsBytes (recordBytes d)
   record-bytes d k zero = omega (arith, k .giver)
@@ -139,7 +151,8 @@ module _ (R : Register) (f : Fits R) where
   bytes-head (suc (suc i)) = two-bytes (length (R .delegations)) i
 
   bytes-middle : IsBytes (middlePart R)
-  bytes-middle = bytes-padded marksSize (concatMap twoBytes (R .marks)) (all-bytes twoBytes (R .marks) (λ m j. two-bytes m))
+  bytes-middle =
+      bytes-append (marksPart R) (retiredPart R) (bytes-padded marksSize (concatMap twoBytes (R .marks)) (all-bytes twoBytes (R .marks) (λ m j. two-bytes m))) (bytes-wideBytes retiredSize (R .retired))
 
   bytes-records : IsBytes (recordsPart R)
   bytes-records = bytes-padded recordsSize (concatMap recordBytes (R .delegations)) (all-bytes recordBytes (R .delegations) (λ d m. record-bytes d (f .each d m)))
@@ -169,6 +182,7 @@ formed-fits R f = record {
   most = f .most;
   marked = f .marked;
   marks = f .marks;
+  bits = retired-room R f;
   few = f .few;
   each = λ d m. let k = f .each d m in record { giver = omega (arith, k .giver, f .most); receiver = omega (arith, k .receiver, f .most); weight = k .weight; need = k .need; bar = k .bar };
 }

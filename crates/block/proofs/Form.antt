@@ -1,29 +1,35 @@
 -- A well-formed block holds a well-formed register and is that register written; a well-formed register written is a well-formed block. Assumes nothing.
 use mathlib.Core.Path.{_≡_, refl, sym, ap, subst, _∙_}
+use mathlib.Core.Logic.{_≢_, _⊎_, inl, inr}
+use mathlib.Core.Bool.{Bool, true, false, not, _&&_, _||_}
 use mathlib.Core.List.{List, [], _∷_, _++_, append-assoc, append-nil, List·Memᴰ·head, List·Memᴰ·tail, List·Memᴰ·not-nil}
 use Prim.Native.Nat.{ℕ, zero, suc, _+_, _*_, _-_, _≤_, _<_}
 use native.Mathlib.Nat.{zero-add, le-of-suc-le-suc, not-suc-le-zero}
 use native.Mathlib.Omega.{arith}
 use lib.Bits.{bitAnd}
-use lib.Dec.{T, eqb, eqb→eq, ltb→lt, lt→ltb, leb→le, le→leb, not-T}
+use lib.Dec.{T, eqb, eqb→eq, ltb, ltb→lt, lt→ltb, nltb→le, leb→le, le→leb, not-T}
 use lib.ListN.{length, getD, take, drop, replicate, length-drop, length-replicate, getD-replicate, take-append-drop, List·getD-append}
-use lib.Seq.{getD-drop, getD-append-add, drop-drop, take-all}
+use lib.Seq.{getD-drop, getD-append-add, drop-drop, take-all, take-add}
 use Rattle.rules.specs.List.{_∈_, tabulate, concatMap}
-use Rattle.rules.specs.Register.{Delegation, Register}
+use Rattle.rules.specs.Bits.{isSet}
+use Rattle.rules.specs.Register.{Delegation, Register, marksOf}
 use Rattle.rules.specs.WellFormed.{Before, Rising, DelegationFormed, WellFormed}
 use Rattle.rules.specs.CallStep.{before}
-use Rattle.rules.proofs.Lists.{T-left, T-right, T-both, eq→eqb, test-ne}
+use Rattle.rules.proofs.Lists.{T-left, T-right, T-both, eq→eqb, either, test-ne, getD-tabulate}
+use Rattle.rules.proofs.Bits.{bit-zero, bit-high}
+use Rattle.rules.proofs.Retired.{bit-set}
 use Rattle.rules.proofs.WellFormed.{Before-trans}
 use Rattle.rules.proofs.Pairs.{before-Before, Before-before}
-use Rattle.block.specs.Layout.{blockSize, mostSubjects, mostRecords, freeAt, countAt, markSize, recordSize, marksSize, recordsSize, marksAt, recordsAt, giverByte, receiverByte, weightByte, restByte, needByte, barByte}
-use Rattle.block.specs.Bytes.{IsBytes, two, twoBytes, readAll, padded, zeros}
-use Rattle.block.specs.Block.{marksIn, delegationIn, recordBytes, subjectsIn, countIn, decode, encode}
-use Rattle.block.specs.WellFormed.{allPass, delegationTests, delegationFormed, recordTests, recordFormed, restUnmarked, recordsFormed, rises, recordsRise, restZero, blockTests, wellFormed}
-use Rattle.block.proofs.Bytes.{tabulate-suc, twoBytes-two, two-most, bytes-drop, length-tabulate, tabulate-mem, length-written, written-at, written-read, allFrom-at, allFrom-all, padded-zeros, getD-mem}
+use Rattle.block.specs.Layout.{blockSize, mostSubjects, mostRecords, freeAt, countAt, markSize, recordSize, marksSize, retiredSize, recordsSize, marksAt, retiredAt, recordsAt, giverByte, receiverByte, weightByte, restByte, needByte, barByte}
+use Rattle.block.specs.Bytes.{IsBytes, two, twoBytes, readAll, padded, allFrom, zeros}
+use Rattle.block.specs.Block.{marksIn, delegationIn, recordBytes, subjectsIn, countIn, retiredIn, decode, encode}
+use Rattle.block.specs.WellFormed.{allPass, delegationTests, delegationFormed, recordTests, recordFormed, restUnmarked, retiredTests, subjectFormed, retiredFormed, recordsFormed, rises, recordsRise, isApart, recordsApart, restZero, blockTests, wellFormed}
+use Rattle.block.proofs.Bytes.{tabulate-suc, twoBytes-two, two-most, bytes-drop, length-tabulate, tabulate-mem, mem-tabulate, length-written, written-at, written-read, allFrom-at, allFrom-all, padded-zeros, getD-mem}
+use Rattle.block.proofs.Wide.{wide-most, bytes-wide}
 use Rattle.block.proofs.Tests.{Each, end, _▸_, each, every}
 use Rattle.block.proofs.Fitting.{marksPart, middlePart, middleSize, afterMarks, encode-records, encode-marks, record-wide, record-read}
-use Rattle.block.proofs.Encode.{marks-encode, length-encode, subjects-encode, count-encode, records-encode, delegations-encode}
-use Rattle.block.specs.Records.{delegationAt, delegationsTo, recordFrom}
+use Rattle.block.proofs.Encode.{marks-encode, length-encode, subjects-encode, count-encode, retired-encode, records-encode, delegations-encode}
+use Rattle.block.specs.Records.{marksFor, delegationAt, delegationsTo, recordFrom}
 
 -- ── the rules of a well-formed block, each by itself ──
 pub record Parts (b : List ℕ) : Type 0 where
@@ -34,8 +40,10 @@ pub record Parts (b : List ℕ) : Type 0 where
   pub few : countIn b ≤ mostRecords
   pub owner : two b marksAt ≡ 0
   pub unmarked : T (restUnmarked b)
+  pub retired : T (retiredFormed b)
   pub formed : T (recordsFormed b)
   pub rise : T (recordsRise b)
+  pub apart : T (recordsApart b)
   pub rest : T (restZero b)
 
 pub parts : (b : List ℕ) → T (wellFormed b) → Parts b
@@ -43,7 +51,7 @@ unfolding wellFormed
 parts b h = go (each blockTests b h)
   where
     go : Each b blockTests → Parts b
-    go (size ▸ some ▸ most ▸ free ▸ few ▸ owner ▸ unmarked ▸ formed ▸ rise ▸ rest ▸ end) = record {
+    go (size ▸ some ▸ most ▸ free ▸ few ▸ owner ▸ unmarked ▸ formed ▸ rise ▸ retired ▸ apart ▸ rest ▸ end) = record {
       size = eqb→eq (length b) blockSize size;
       some = leb→le 1 (subjectsIn b) some;
       most = leb→le (subjectsIn b) mostSubjects most;
@@ -51,8 +59,10 @@ parts b h = go (each blockTests b h)
       few = leb→le (countIn b) mostRecords few;
       owner = eqb→eq (two b marksAt) 0 owner;
       unmarked = unmarked;
+      retired = retired;
       formed = formed;
       rise = rise;
+      apart = apart;
       rest = rest;
     }
 
@@ -68,6 +78,8 @@ whole b p = every blockTests b (
     ▸ p .unmarked
     ▸ p .formed
     ▸ p .rise
+    ▸ p .retired
+    ▸ p .apart
     ▸ p .rest
     ▸ end)
 
@@ -138,6 +150,34 @@ first-marks : (b : List ℕ) (n : ℕ) → 1 ≤ n → getD (readAll marksIn mar
 first-marks b zero l = absurd (not-suc-le-zero l)
 first-marks b (suc n) l = λ j. getD-drop marksAt b 0 0 j + getD-drop marksAt b 1 0 j * 256
 
+-- ── a retired subject, and a delegation that is not one's, as tests and as statements ──
+set-formed : (n : ℕ) (b : List ℕ) (s : ℕ) → T (isSet n s) → T (subjectFormed n b s) → (s < subjectsIn b) × (s ≢ 0) × (marksFor b s ≡ 0)
+set-formed n b s h k = go (isSet n s) h k
+  where
+    parts-of : Each s (retiredTests b) → (s < subjectsIn b) × (s ≢ 0) × (marksFor b s ≡ 0)
+    parts-of (enrolled ▸ notOwner ▸ unmarked ▸ end) = (ltb→lt s (subjectsIn b) enrolled, test-ne s 0 notOwner, eqb→eq (marksFor b s) 0 unmarked)
+
+    go : (x : Bool) → T x → T (not x || allPass (retiredTests b) s) → (s < subjectsIn b) × (s ≢ 0) × (marksFor b s ≡ 0)
+    go true h k = parts-of (each (retiredTests b) s k)
+    go false h k = absurd h
+
+formed-set : (n : ℕ) (b : List ℕ) (s : ℕ) → (T (isSet n s) → (s < subjectsIn b) × (s ≢ 0) × (marksFor b s ≡ 0)) → T (subjectFormed n b s)
+formed-set n b s h = go (isSet n s) h
+  where
+    go : (x : Bool) → (T x → (s < subjectsIn b) × (s ≢ 0) × (marksFor b s ≡ 0)) → T (not x || allPass (retiredTests b) s)
+    go false k = tt
+    go true k = let (l, n, m) = k tt in every (retiredTests b) s (lt→ltb s (subjectsIn b) l ▸ not-T (eqb s 0) (λ q. n (eqb→eq s 0 q)) ▸ eq→eqb m ▸ end)
+
+apart-ends : (n : ℕ) (d : Delegation) → T (isApart n d) → T (not (isSet n (d .giver))) × T (not (isSet n (d .receiver)))
+apart-ends n d h = (T-left (not (isSet n (d .giver))) (not (isSet n (d .receiver))) h, T-right (not (isSet n (d .giver))) (not (isSet n (d .receiver))) h)
+
+-- where none is retired
+pub none-retired-formed : (b : List ℕ) (s : ℕ) → subjectFormed 0 b s ≡ true
+none-retired-formed b s = ap (λ (n : ℕ). not (eqb n 1) || allPass (retiredTests b) s) (bit-zero s)
+
+pub none-retired-apart : (d : Delegation) → isApart 0 d ≡ true
+none-retired-apart d = λ j. not (eqb (bit-zero (d .giver) j) 1) && not (eqb (bit-zero (d .receiver) j) 1)
+
 -- ── a well-formed block holds a well-formed register ──
 module _ (b : List ℕ) (bytes : IsBytes b) (p : Parts b) where
   -- record k passes its test
@@ -150,6 +190,14 @@ module _ (b : List ℕ) (bytes : IsBytes b) (p : Parts b) where
       let h = bytes-drop (recordSize * k) (drop recordsAt b) (bytes-drop recordsAt b bytes) in
       formed-of (subjectsIn b) (delegationIn s) (omega (arith, h weightByte)) (two-most s h needByte) (two-most s h barByte) (record-parts (subjectsIn b) s (record-at k l) .0)
 
+  -- a retired subject passes its test
+  subject-at : (s : ℕ) → T (isSet (retiredIn b) s) → T (subjectFormed (retiredIn b) b s)
+  subject-at s h = go (either (ltb s mostSubjects))
+    where
+      go : T (ltb s mostSubjects) ⊎ T (not (ltb s mostSubjects)) → T (subjectFormed (retiredIn b) b s)
+      go (inl l) = subst (λ (j : ℕ). T (subjectFormed (retiredIn b) b j)) (zero-add s) (allFrom-at (subjectFormed (retiredIn b) b) 0 mostSubjects (p .retired) s (ltb→lt s mostSubjects l))
+      go (inr l) = absurd (omega (arith, bit-set (retiredIn b) s h, bit-high (retiredIn b) 64 s (wide-most retiredSize b bytes retiredAt) (nltb→le s mostSubjects l)))
+
   pub decode-formed : WellFormed (decode b)
   unfolding decode
   decode-formed = record {
@@ -161,6 +209,8 @@ module _ (b : List ℕ) (bytes : IsBytes b) (p : Parts b) where
     few = subst (λ (n : ℕ). n ≤ mostRecords) (sym (length-tabulate (delegationAt b) 0 (countIn b))) (p .few);
     rising = rises-Rising (delegationsTo b (countIn b)) (p .rise);
     each = λ d i. one d (tabulate-mem (delegationAt b) 0 (countIn b) i);
+    retired = λ s h. subject s h (subject-at s h);
+    apart = λ d i. free d (tabulate-mem (delegationAt b) 0 (countIn b) i);
   }
     where
       mark : (m : ℕ) → (k : ℕ) × (k < subjectsIn b) × (m ≡ marksIn (drop (markSize * (0 + k)) (drop marksAt b))) → m ≤ 65535
@@ -168,6 +218,16 @@ module _ (b : List ℕ) (bytes : IsBytes b) (p : Parts b) where
 
       one : (d : Delegation) → (k : ℕ) × (k < countIn b) × (d ≡ delegationAt b (0 + k)) → DelegationFormed (subjectsIn b) d
       one d r = subst (λ (x : Delegation). DelegationFormed (subjectsIn b) x) (sym (r .2)) (delegation-at (0 + r .0) (omega (arith, r .1)))
+
+      subject : (s : ℕ) → T (isSet (retiredIn b) s) → T (subjectFormed (retiredIn b) b s) → (s < subjectsIn b) × (s ≢ 0) × (getD (readAll marksIn markSize (drop marksAt b) (subjectsIn b)) s 0 ≡ 0)
+      subject s h k =
+          let (l, n, m) = set-formed (retiredIn b) b s h k in
+          (l, n, getD-tabulate (marksFor b) 0 0 (subjectsIn b) s l ∙ ap (marksFor b) (zero-add s) ∙ m)
+
+      free : (d : Delegation) → (k : ℕ) × (k < countIn b) × (d ≡ delegationAt b (0 + k)) → T (not (isSet (retiredIn b) (d .giver))) × T (not (isSet (retiredIn b) (d .receiver)))
+      free d r =
+          subst (λ (x : Delegation). T (not (isSet (retiredIn b) (x .giver))) × T (not (isSet (retiredIn b) (x .receiver)))) (sym (r .2))
+          (apart-ends (retiredIn b) (delegationAt b (0 + r .0)) (allFrom-at (λ k. isApart (retiredIn b) (delegationAt b k)) 0 (countIn b) (p .apart) (r .0) (r .1)))
 
 -- ── a well-formed block is its register written ──
 take-tabulate : (n : ℕ) (s : List ℕ) → n ≤ length s → take n s ≡ tabulate (λ i. getD s i 0) 0 n
@@ -206,7 +266,11 @@ module _ (b : List ℕ) (bytes : IsBytes b) (p : Parts b) where
   -- what stands between the head and the records
   middle-written : middlePart (decode b) ≡ take middleSize (drop marksAt b)
   unfolding decode
-  middle-written = marks-written
+  middle-written =
+      let written = bytes-wide retiredSize b bytes retiredAt (omega (arith, p .size)) in
+      (λ j. marks-written j ++ written j)
+      ∙ ap (λ (s : List ℕ). take marksSize (drop marksAt b) ++ take retiredSize s) (sym (drop-drop marksSize marksAt b))
+      ∙ sym (take-add marksSize retiredSize (drop marksAt b))
 
   records-written : padded recordsSize (concatMap recordBytes (delegationsTo b (countIn b))) ≡ drop recordsAt b
   records-written =
@@ -289,6 +353,27 @@ module _ (R : Register) (f : WellFormed R) where
           subst (λ (s : List ℕ). T (recordFormed (subjectsIn (encode R)) s)) (sym ((λ j. drop (recordSize * z j) (records-encode R f j)) ∙ e))
           (subst (λ (n : ℕ). T (recordFormed n (recordBytes d ++ r))) (sym (subjects-encode R f)) (record-test (R .subjects) d r (f .each d i)))
 
+  marks-read : (s : ℕ) → s < R .subjects → marksFor (encode R) s ≡ marksOf R s
+  marks-read s l =
+      ap (marksFor (encode R)) (sym (zero-add s))
+      ∙ sym (getD-tabulate (marksFor (encode R)) 0 0 (subjectsIn (encode R)) s (subst (λ (n : ℕ). s < n) (sym (subjects-encode R f)) l))
+      ∙ ap (λ (ms : List ℕ). getD ms s 0) (marks-encode R f)
+
+  retired-formed : T (allFrom (subjectFormed (R .retired) (encode R)) 0 mostSubjects)
+  retired-formed = allFrom-all (subjectFormed (R .retired) (encode R)) 0 mostSubjects (λ k l. formed-set (R .retired) (encode R) (0 + k) (one (0 + k)))
+    where
+      one : (s : ℕ) → T (isSet (R .retired) s) → (s < subjectsIn (encode R)) × (s ≢ 0) × (marksFor (encode R) s ≡ 0)
+      one s h = let (l, n, m) = f .retired s h in (subst (λ (x : ℕ). s < x) (sym (subjects-encode R f)) l, n, marks-read s l ∙ m)
+
+  records-apart : T (allFrom (λ k. isApart (R .retired) (delegationAt (encode R) k)) 0 (countIn (encode R)))
+  records-apart = allFrom-all (λ k. isApart (R .retired) (delegationAt (encode R) k)) 0 (countIn (encode R)) one
+    where
+      one : (k : ℕ) → k < countIn (encode R) → T (isApart (R .retired) (delegationAt (encode R) (0 + k)))
+      one k l =
+          let d = delegationAt (encode R) (0 + k) in
+          let (g, r) = f .apart d (subst (λ (ds : List Delegation). d ∈ ds) (delegations-encode R f) (mem-tabulate (delegationAt (encode R)) 0 (countIn (encode R)) k l)) in
+          T-both (not (isSet (R .retired) (d .giver))) (not (isSet (R .retired) (d .receiver))) g r
+
   pub encode-formed : T (wellFormed (encode R))
   encode-formed = whole (encode R) record {
     size = length-encode R f;
@@ -298,8 +383,10 @@ module _ (R : Register) (f : WellFormed R) where
     few = subst (λ (n : ℕ). n ≤ mostRecords) (sym (count-encode R f)) (f .few);
     owner = owner-zero;
     unmarked = unmarked-zero;
+    retired = subst (λ (n : ℕ). T (allFrom (subjectFormed n (encode R)) 0 mostSubjects)) (sym (retired-encode R f)) retired-formed;
     formed = records-formed;
     rise = subst (λ (ds : List Delegation). T (rises ds)) (sym (delegations-encode R f)) (Rising-rises (R .delegations) (f .rising));
+    apart = subst (λ (n : ℕ). T (allFrom (λ k. isApart n (delegationAt (encode R) k)) 0 (countIn (encode R)))) (sym (retired-encode R f)) records-apart;
     rest = rest-zero;
   }
     where

@@ -18,7 +18,7 @@ use Rattle.rules.specs.Register.{Delegation, Register, marksOf, granted, noDele
 use Rattle.rules.proofs.Lists.{clash, either, getD-tabulate}
 use Rattle.block.specs.Layout.{blockSize, mostRecords}
 use Rattle.block.specs.Bytes.{IsBytes, readAll, leading}
-use Rattle.block.specs.Block.{subjectsIn, countIn, decode, encode}
+use Rattle.block.specs.Block.{subjectsIn, countIn, retiredIn, decode, encode}
 use Rattle.block.specs.WellFormed.{wellFormed}
 use Rattle.block.specs.Fits.{Fits, Fitting}
 use Rattle.block.proofs.Bytes.{length-tabulate, mem-tabulate}
@@ -73,6 +73,10 @@ module _ (b : List ℕ) (bytes : IsBytes b) (formed : wellFormed b ≡ true) whe
   pub subjects-held : decode b .subjects ≡ subjectsIn b
   unfolding decode
   subjects-held = refl
+
+  pub retired-held : decode b .retired ≡ retiredIn b
+  unfolding decode
+  retired-held = refl
 
   pub delegations-held : decode b .delegations ≡ delegationsTo b (countIn b)
   unfolding decode

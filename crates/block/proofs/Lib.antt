@@ -1,10 +1,13 @@
 pub mod Bytes
+pub mod Wide
 pub mod Tests
 pub mod Fitting
 pub mod Encode
 pub mod Form
 pub mod PairPlace
 pub mod Held
+pub mod Left
+pub mod Older
 pub mod Fields
 pub mod Loops
 pub mod Rise

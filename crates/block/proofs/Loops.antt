@@ -25,6 +25,11 @@ module _ {x : Bool} (f : ℕ → Bool) (i n : ℕ) (e : x ≡ allFrom f i (n - i
   pub all-on : i < n → f i ≡ true → x ≡ allFrom f (i + 1) (n - (i + 1))
   all-on h t = let z : n - i ≡ suc (n - (i + 1)) = omega arith in rw (z, t, ← add-one i) at e
 
+-- a test that every place passes
+pub all-true : (f : ℕ → Bool) (i n : ℕ) → ((k : ℕ) → f k ≡ true) → true ≡ allFrom f i n
+all-true f i zero h = refl
+all-true f i (suc n) h = rw (h i) (all-true f (suc i) n h)
+
 -- a number that is 0 as long as every value is
 pub or-none : (a b : ℕ) → eqb (bitOr a b) 0 ≡ (eqb a 0 && eqb b 0)
 or-none zero b = ap (λ (n : ℕ). eqb n 0) (or-zero-l b)

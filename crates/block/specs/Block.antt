@@ -1,11 +1,11 @@
--- A register as a block of bytes, and back (document 01, 'The block'). Assumes nothing.
+-- A register as a block of bytes, and back (document 01, 'The block'; document 02, C-16). Assumes nothing.
 use mathlib.Core.List.{List, _∷_, _++_}
 use Prim.Native.Nat.{ℕ, _*_}
 use lib.ListN.{length, getD, take, drop}
 use Rattle.rules.specs.List.{concatMap}
 use Rattle.rules.specs.Register.{Delegation, Register}
-use Rattle.block.specs.Layout.{countAt, marksAt, recordsAt, markSize, recordSize, marksSize, recordsSize, giverByte, receiverByte, weightByte, needByte, barByte}
-use Rattle.block.specs.Bytes.{two, twoBytes, readAll, padded}
+use Rattle.block.specs.Layout.{countAt, marksAt, retiredAt, recordsAt, markSize, recordSize, marksSize, retiredSize, recordsSize, giverByte, receiverByte, weightByte, needByte, barByte}
+use Rattle.block.specs.Bytes.{two, twoBytes, wide, wideBytes, readAll, padded}
 
 -- the marks that begin a list of bytes
 abbrev pub marksIn : List ℕ → ℕ
@@ -25,6 +25,10 @@ subjectsIn b = getD b 0 0
 abbrev pub countIn : List ℕ → ℕ
 countIn b = two b countAt
 
+-- the retired subjects: bit s of the number is subject s
+abbrev pub retiredIn : List ℕ → ℕ
+retiredIn b = wide retiredSize b retiredAt
+
 -- the bytes of the records that stand
 abbrev pub recordsIn : List ℕ → List ℕ
 recordsIn b = take (recordSize * countIn b) (drop recordsAt b)
@@ -34,11 +38,12 @@ unfoldable pub decode : List ℕ → Register
 decode b = record {
   subjects = subjectsIn b;
   marks = readAll marksIn markSize (drop marksAt b) (subjectsIn b);
+  retired = retiredIn b;
   delegations = readAll delegationIn recordSize (drop recordsAt b) (countIn b);
 }
 
--- the block that holds a register: four bytes, the marks, the records
+-- the block that holds a register: four bytes, the marks, the bits of the retired subjects, the records
 unfoldable pub encode : Register → List ℕ
 encode R =
     (R .subjects ∷ 0 ∷ twoBytes (length (R .delegations)))
-    ++ (padded marksSize (concatMap twoBytes (R .marks)) ++ padded recordsSize (concatMap recordBytes (R .delegations)))
+    ++ (padded marksSize (concatMap twoBytes (R .marks)) ++ (wideBytes retiredSize (R .retired) ++ padded recordsSize (concatMap recordBytes (R .delegations))))

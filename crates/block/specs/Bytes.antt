@@ -1,4 +1,4 @@
--- Two-byte numbers, and values of a fixed width one after another. Assumes nothing.
+-- Two-byte numbers, numbers of any width, and values of a fixed width one after another. Assumes nothing.
 use mathlib.Core.Bool.{Bool, true, cond, _&&_}
 use mathlib.Core.List.{List, [], _∷_, _++_}
 use Prim.Native.Nat.{ℕ, zero, suc, _+_, _*_, _-_, _/_, _%_, _<_}
@@ -17,6 +17,15 @@ two s i = getD s i 0 + getD s (i + 1) 0 * 256
 -- the two bytes of a number
 abbrev pub twoBytes : ℕ → List ℕ
 twoBytes n = (n % 256) ∷ (n / 256 % 256) ∷ []
+
+-- the number of k bytes at i, low byte first, and its k bytes
+abbrev pub wide : ℕ → List ℕ → ℕ → ℕ
+wide zero s i = 0
+wide (suc k) s i = getD s i 0 + 256 * wide k s (suc i)
+
+abbrev pub wideBytes : ℕ → ℕ → List ℕ
+wideBytes zero n = []
+wideBytes (suc k) n = (n % 256) ∷ wideBytes k (n / 256)
 
 -- the first n values of width w, each read from where it begins
 abbrev pub readAll : {A : Type 0} → (List ℕ → A) → ℕ → List ℕ → ℕ → List A

@@ -1,8 +1,8 @@
--- The sizes and offsets of the block (document 01, 'The block'). Assumes nothing.
+-- The sizes and offsets of the block (document 01, 'The block'; document 02, C-16). Assumes nothing.
 use Prim.Native.Nat.{ℕ, _+_, _*_}
 
 abbrev pub blockSize : ℕ
-blockSize = 2180
+blockSize = 2188
 
 -- the most subjects, and the most delegations
 abbrev pub mostSubjects : ℕ
@@ -18,14 +18,17 @@ markSize = 2
 abbrev pub recordSize : ℕ
 recordSize = 8
 
--- the bytes of all marks, and of all records
+-- the bytes of all marks, of the bits of the retired subjects, and of all records
 abbrev pub marksSize : ℕ
 marksSize = markSize * mostSubjects
+
+abbrev pub retiredSize : ℕ
+retiredSize = 8
 
 abbrev pub recordsSize : ℕ
 recordsSize = recordSize * mostRecords
 
--- where the unused byte of the head, the count of delegations, the marks and the records begin
+-- where the unused byte of the head, the count of delegations, the marks, the bits of the retired subjects and the records begin
 abbrev pub freeAt : ℕ
 freeAt = 1
 
@@ -35,8 +38,11 @@ countAt = 2
 abbrev pub marksAt : ℕ
 marksAt = 4
 
+abbrev pub retiredAt : ℕ
+retiredAt = marksAt + marksSize
+
 abbrev pub recordsAt : ℕ
-recordsAt = marksAt + marksSize
+recordsAt = retiredAt + retiredSize
 
 -- where each field of a record begins; its fourth byte is zero
 abbrev pub giverByte : ℕ

@@ -5,3 +5,4 @@ pub mod Records
 pub mod WellFormed
 pub mod Pass
 pub mod Fits
+pub mod Older

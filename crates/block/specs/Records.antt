@@ -5,7 +5,7 @@ use lib.IntN.{ℤ, pos}
 use lib.ListN.{length, getD, drop}
 use Rattle.rules.specs.Register.{Delegation}
 use Rattle.rules.specs.Round.{placed}
-use Rattle.block.specs.Layout.{marksAt, recordsAt, markSize, recordSize}
+use Rattle.block.specs.Layout.{marksAt, retiredAt, recordsAt, markSize, retiredSize, recordSize}
 use Rattle.block.specs.Bytes.{readAll}
 use Rattle.block.specs.Block.{marksIn, delegationIn}
 
@@ -16,12 +16,15 @@ markPlace v = marksAt + markSize * v
 abbrev pub recordPlace : ℕ → ℕ
 recordPlace k = recordsAt + recordSize * k
 
--- the bytes reach as far as the head, the marks of subject v, record k, the first n records
+-- the bytes reach as far as the head, the marks of subject v, the bits of the retired subjects, record k, the first n records
 abbrev pub HasHead : List ℕ → Type 0
 HasHead b = marksAt ≤ length b
 
 abbrev pub HasMarks : List ℕ → ℕ → Type 0
 HasMarks b v = markPlace v + markSize ≤ length b
+
+abbrev pub HasRetired : List ℕ → Type 0
+HasRetired b = retiredAt + retiredSize ≤ length b
 
 abbrev pub HasRecord : List ℕ → ℕ → Type 0
 HasRecord b k = recordPlace k + recordSize ≤ length b

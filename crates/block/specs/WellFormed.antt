@@ -1,16 +1,17 @@
--- Well-formed blocks (document 01, 'The block'): a list of named tests, for any list of bytes of any length. Assumes nothing.
-use mathlib.Core.Bool.{Bool, true, not, _&&_}
+-- Well-formed blocks (document 01, 'The block'; document 02, C-16): a list of named tests, for any list of bytes of any length. Assumes nothing.
+use mathlib.Core.Bool.{Bool, true, not, _&&_, _||_}
 use mathlib.Core.List.{List, [], _∷_, _++_}
 use Prim.Native.Nat.{ℕ, _+_, _-_}
 use lib.Bits.{bitAnd}
 use lib.Dec.{eqb, ltb, leb}
 use lib.ListN.{length, getD}
+use Rattle.rules.specs.Bits.{isSet}
 use Rattle.rules.specs.Register.{Delegation}
 use Rattle.rules.specs.CallStep.{before}
 use Rattle.block.specs.Layout.{blockSize, mostSubjects, mostRecords, freeAt, marksAt, marksSize, restByte}
 use Rattle.block.specs.Bytes.{two, allFrom, zeros}
-use Rattle.block.specs.Block.{delegationIn, subjectsIn, countIn}
-use Rattle.block.specs.Records.{markPlace, recordPlace, recordFrom, delegationsTo}
+use Rattle.block.specs.Block.{delegationIn, subjectsIn, countIn, retiredIn}
+use Rattle.block.specs.Records.{markPlace, recordPlace, marksFor, recordFrom, delegationAt, delegationsTo}
 
 -- every test of a list passes
 abbrev pub allPass : {A : Type 0} → List (A → Bool) → A → Bool
@@ -96,12 +97,39 @@ rises (d ∷ ds) = follows d ds && rises ds
 abbrev pub recordsRise : List ℕ → Bool
 recordsRise b = rises (delegationsTo b (countIn b))
 
+-- a retired subject is enrolled, is not the owner and has no marks
+abbrev pub isEnrolled : List ℕ → ℕ → Bool
+isEnrolled b s = ltb s (subjectsIn b)
+
+abbrev pub isNotOwner : ℕ → Bool
+isNotOwner s = not (eqb s 0)
+
+abbrev pub isUnmarked : List ℕ → ℕ → Bool
+isUnmarked b s = eqb (marksFor b s) 0
+
+abbrev pub retiredTests : List ℕ → List (ℕ → Bool)
+retiredTests b = isEnrolled b ∷ isNotOwner ∷ isUnmarked b ∷ []
+
+-- with the bits n: where subject s is retired, it is so
+abbrev pub subjectFormed : ℕ → List ℕ → ℕ → Bool
+subjectFormed n b s = not (isSet n s) || allPass (retiredTests b) s
+
+abbrev pub retiredFormed : List ℕ → Bool
+retiredFormed b = allFrom (subjectFormed (retiredIn b) b) 0 mostSubjects
+
+-- with the bits n: the delegation is neither to nor from a retired subject
+abbrev pub isApart : ℕ → Delegation → Bool
+isApart n d = not (isSet n (d .giver)) && not (isSet n (d .receiver))
+
+abbrev pub recordsApart : List ℕ → Bool
+recordsApart b = allFrom (λ k. isApart (retiredIn b) (delegationAt b k)) 0 (countIn b)
+
 -- all bytes after the used records are zero
 abbrev pub restZero : List ℕ → Bool
 restZero b = let a = recordPlace (countIn b) in zeros b a (blockSize - a)
 
 abbrev pub blockTests : List (List ℕ → Bool)
-blockTests = rightSize ∷ (headTests ++ (ownerUnmarked ∷ restUnmarked ∷ recordsFormed ∷ recordsRise ∷ restZero ∷ []))
+blockTests = rightSize ∷ (headTests ++ (ownerUnmarked ∷ restUnmarked ∷ recordsFormed ∷ recordsRise ∷ retiredFormed ∷ recordsApart ∷ restZero ∷ []))
 
 unfoldable pub wellFormed : List ℕ → Bool
 wellFormed b = allPass blockTests b

@@ -1,4 +1,4 @@
-// The block of 2,180 bytes: its layout and its reads.
+// The block of 2,188 bytes: its layout and its reads.
 pub mod layout;
 mod read;
 
@@ -7,6 +7,7 @@ pub use read::count;
 pub use read::find;
 pub use read::giver;
 pub use read::is_pair;
+pub use read::is_retired;
 pub use read::marks;
 pub use read::need;
 pub use read::place;
@@ -15,6 +16,7 @@ pub use read::receiver;
 pub use read::receives;
 pub use read::record_place;
 pub use read::records;
+pub use read::retired;
 pub use read::subjects;
 pub use read::weight;
 pub use read::well_formed;

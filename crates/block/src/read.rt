@@ -1,16 +1,17 @@
 // Reads of a block: its fields, whether it is well formed, and where a record is.
 ghost use mathlib.Core.Path.{_≡_};
 ghost use mathlib.Core.Bool.{not, _&&_};
-ghost use Prim.Native.Nat.{_+_, _-_, _≤_};
+ghost use Prim.Native.Nat.{_+_, _-_, _≤_, _<_};
 ghost use lib.ListN.{length, getD};
+ghost use Rattle.rules.specs.Bits.{isSet};
 ghost use Rattle.rules.specs.Pair.{isPair, receives};
 ghost use Rattle.rules.specs.Register.{granted};
 ghost use Rattle.rules.specs.CallStep.{before};
-ghost use Rattle.block.specs.Layout.{mostRecords, recordSize};
+ghost use Rattle.block.specs.Layout.{mostSubjects, mostRecords, recordSize};
 ghost use Rattle.block.specs.Bytes.{two, allFrom, zeros, leading};
-ghost use Rattle.block.specs.Block.{subjectsIn, countIn, recordsIn};
-ghost use Rattle.block.specs.Records.{HasHead, HasMarks, HasRecord, HasRecords, marksFor, recordPlace, recordFrom, delegationAt, delegationsTo};
-ghost use Rattle.block.specs.WellFormed.{headFormed, recordFormed, rises, wellFormed};
+ghost use Rattle.block.specs.Block.{subjectsIn, countIn, retiredIn, recordsIn};
+ghost use Rattle.block.specs.Records.{HasHead, HasMarks, HasRetired, HasRecord, HasRecords, marksFor, recordPlace, recordFrom, delegationAt, delegationsTo};
+ghost use Rattle.block.specs.WellFormed.{headFormed, subjectFormed, retiredFormed, recordFormed, rises, isApart, wellFormed};
 ghost use Rattle.block.specs.Pass.{formedButGiver};
 use crate::layout::BAR;
 use crate::layout::BLOCK_SIZE;
@@ -19,7 +20,6 @@ use crate::layout::FREE_AT;
 use crate::layout::GIVER;
 use crate::layout::MARK_SIZE;
 use crate::layout::MARKS_AT;
-use crate::layout::MARKS_END;
 use crate::layout::MOST_RECORDS;
 use crate::layout::MOST_SUBJECTS;
 use crate::layout::NEED;
@@ -27,6 +27,7 @@ use crate::layout::RECEIVER;
 use crate::layout::RECORD_SIZE;
 use crate::layout::RECORDS_AT;
 use crate::layout::REST;
+use crate::layout::RETIRED_AT;
 use crate::layout::WEIGHT;
 
 // The two-byte number at `at`, low byte first.
@@ -73,6 +74,26 @@ pub fn marks(b: &[u8], subject: usize) -> u16
     ensures { λ r. ⌜ r ≡ marksFor (now (b .entry)) subject ⌝ }
 {
     read_two(b, MARKS_AT + MARK_SIZE * subject)
+}
+
+// The bits of the retired subjects: bit `s` is subject `s`.
+pub fn retired(b: &[u8]) -> u64
+    requires { ⌜ HasRetired (now b) ⌝ }
+    ensures { λ r. ⌜ r ≡ retiredIn (now (b .entry)) ⌝ }
+{
+    let low = (read_two(b, RETIRED_AT) as u64) + (read_two(b, RETIRED_AT + 2) as u64) * 65536;
+    let high = (read_two(b, RETIRED_AT + 4) as u64) + (read_two(b, RETIRED_AT + 6) as u64) * 65536;
+    low + high * 4294967296
+}
+
+// The bit of a subject is set; none is past the last bit.
+pub fn is_retired(retired: u64, subject: u32) -> bool
+    ensures { λ r. ⌜ r ≡ isSet retired subject ⌝ }
+{
+    if subject >= MOST_SUBJECTS as u32 {
+        return false;
+    }
+    (retired >> subject) % 2 == 1
 }
 
 // Where record `k` begins.
@@ -186,6 +207,79 @@ fn records_formed(b: &[u8], count: usize, subjects: u8) -> bool
     last < (subjects as u16) * 256
 }
 
+// A subject is formed: where it is retired, it is enrolled, is not the owner and has no marks.
+fn subject_formed(b: &[u8], retired: u64, subject: u8) -> bool
+    requires { ⌜ HasRetired (now b) × (subject < mostSubjects) ⌝ }
+    ensures { λ r. ⌜ r ≡ subjectFormed retired (now (b .entry)) subject ⌝ }
+{
+    if !is_retired(retired, subject as u32) {
+        return true;
+    }
+    if subject >= subjects(b) {
+        return false;
+    }
+    if subject == 0 {
+        return false;
+    }
+    marks(b, subject as usize) == 0
+}
+
+// Every subject is formed.
+fn subjects_formed(b: &[u8], retired: u64) -> bool
+    requires { ⌜ HasRetired (now b) ⌝ }
+    ensures { λ r. ⌜ r ≡ allFrom (subjectFormed retired (now (b .entry))) 0 mostSubjects ⌝ }
+{
+    let mut s: u8 = 0;
+    while s < MOST_SUBJECTS {
+        if !subject_formed(b, retired, s) {
+            return false;
+        }
+        s += 1;
+    }
+    true
+}
+
+// Record `k` is neither to nor from a retired subject.
+fn is_apart(b: &[u8], k: usize, retired: u64) -> bool
+    requires { ⌜ HasRecord (now b) k ⌝ }
+    ensures { λ r. ⌜ r ≡ isApart retired (delegationAt (now (b .entry)) k) ⌝ }
+{
+    if is_retired(retired, giver(b, k) as u32) {
+        return false;
+    }
+    !is_retired(retired, receiver(b, k) as u32)
+}
+
+// So for the first `count` records.
+fn records_apart(b: &[u8], count: usize, retired: u64) -> bool
+    requires { ⌜ HasRecords (now b) count ⌝ }
+    ensures { λ r. ⌜ r ≡ allFrom (λ k. isApart retired (delegationAt (now (b .entry)) k)) 0 count ⌝ }
+{
+    let mut k: usize = 0;
+    while k < count {
+        if !is_apart(b, k, retired) {
+            return false;
+        }
+        k += 1;
+    }
+    true
+}
+
+// The bits are formed: where somebody is retired, every subject is formed, and none of the first `count` records is to or from a retired one.
+fn retired_formed(b: &[u8], count: usize) -> bool
+    requires { ⌜ HasRetired (now b) × HasRecords (now b) count ⌝ }
+    ensures { λ r. ⌜ r ≡ (retiredFormed (now (b .entry)) && allFrom (λ k. isApart (retiredIn (now (b .entry))) (delegationAt (now (b .entry)) k)) 0 count) ⌝ }
+{
+    let retired = self::retired(b);
+    if retired == 0 {
+        return true;
+    }
+    if !subjects_formed(b, retired) {
+        return false;
+    }
+    records_apart(b, count, retired)
+}
+
 // Record `k` is of this pair.
 pub fn is_pair(b: &[u8], k: usize, giver: u8, receiver: u8) -> bool
     requires { ⌜ HasRecord (now b) k ⌝ }
@@ -243,10 +337,13 @@ pub fn well_formed(b: &[u8]) -> bool
     if read_two(b, MARKS_AT) != 0 {
         return false;
     }
-    if !zero_range(b, MARKS_AT + MARK_SIZE * (n as usize), MARKS_END) {
+    if !zero_range(b, MARKS_AT + MARK_SIZE * (n as usize), RETIRED_AT) {
         return false;
     }
     if !records_formed(b, records, n) {
+        return false;
+    }
+    if !retired_formed(b, records) {
         return false;
     }
     zero_range(b, RECORDS_AT + RECORD_SIZE * records, BLOCK_SIZE)

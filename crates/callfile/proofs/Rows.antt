@@ -104,7 +104,7 @@ module _ (by giver receiver weight need bar : ℕ) where
           clash (sym (rw (ne-eqb n 0 (λ e. omega arith), ne-eqb n 1 (λ e. omega arith), ne-eqb n 2 (λ e. omega arith), ne-eqb n 3 (λ e. omega arith), ne-eqb n 4 (λ e. omega arith), ne-eqb n 5 (λ e. omega arith))) ∙ h)
 
 pub row-call : (number by giver receiver weight need bar : ℕ) → isRow number by giver receiver weight need bar ≡ true → T (isCall number)
-row-call number by giver receiver weight need bar e = subst T (sym (le-leb number 6 (omega (arith, row-known by giver receiver weight need bar number e)))) tt
+row-call number by giver receiver weight need bar e = subst T (sym (le-leb number 7 (omega (arith, row-known by giver receiver weight need bar number e)))) tt
 
 pub row-named : (number by giver receiver weight need bar : ℕ) → isRow number by giver receiver weight need bar ≡ true
     → (row number by giver receiver weight need bar ≡ values (fileCallOf number by giver receiver weight need bar))

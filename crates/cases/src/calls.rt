@@ -48,7 +48,7 @@ pub fn read_columns(text: &[u8], from: usize, has_table: bool) -> Columns {
 }
 
 // One arm for each call that reckons reach, by its number in the files; it is lent the table's text where the line has one. Only read
-// takes a file. Marks has its subject under receiver, the marks under need.
+// takes a file. Marks has its subject under receiver, the marks under need; retire has its subject under receiver.
 pub fn make(c: Columns, file: &[u8], table: &[u8], block: &mut [u8]) -> Answer {
     let call = c.call;
     match call {
@@ -59,17 +59,19 @@ pub fn make(c: Columns, file: &[u8], table: &[u8], block: &mut [u8]) -> Answer {
         7 => chain(c, table, block),
         9 => transfer::read_file(block, file, table),
         11 => register::set_marks(block, c.by, c.receiver, c.need, table),
-        _ => make_other(c, block),
+        12 => register::retire(block, c.by, c.receiver, table),
+        _ => make_other(c, table, block),
     }
 }
 
-// The calls that take no table.
-fn make_other(c: Columns, block: &mut [u8]) -> Answer {
+// The calls that take no table. To bring an old block over, it stands in the table's place.
+fn make_other(c: Columns, old: &[u8], block: &mut [u8]) -> Answer {
     let call = c.call;
     match call {
         0 => register::enrol(block, c.need),
         5 => register::use_right(block, c.receiver),
         6 => register::open(block),
+        13 => register::bring_over(old, block),
         _ => no_answer(),
     }
 }

@@ -43,10 +43,19 @@ fn run_file(name: &[u8]) -> bool {
     let mut space = zeros();
     let got = io::read_full(fd, &mut space);
     libc::close(fd);
-    run_text(reading::byte_at(name, 0), &space[..got])
+    run_text(kind_of(name), &space[..got])
 }
 
-// Runs a text by the first byte of its file's name, a digit for a call file, `l` for lists, else cases, `t` and `o` for those with tables and `f` for those with files; false where it cannot be read to its end.
+// The first byte of a file's name; `t` for those of the kind `retire`, which have tables and begin as kinds without them do.
+fn kind_of(name: &[u8]) -> u8 {
+    let first = reading::byte_at(name, 0);
+    if first == b'r' && reading::byte_at(name, 2) == b't' {
+        return b't';
+    }
+    first
+}
+
+// Runs a text by its kind, a digit for a call file, `l` for lists, else cases, `t`, `o` and `m` for those with tables and `f` for those with files; false where it cannot be read to its end.
 fn run_text(kind: u8, text: &[u8]) -> bool {
     if kind <= b'9' {
         print_calls(text);

@@ -30,8 +30,8 @@ fn nowhere() -> Place {
     }
 }
 
-// Runs every line, by the first byte of the text's name: `t`, `o` and `m` where lines have a table's text, `f` where they have a file and
-// a table's text; false where one cannot be read.
+// Runs every line, by the text's kind: `t`, `o` and `m` where lines have a table's text, `f` where they have a file and a table's text;
+// false where one cannot be read.
 pub fn run_lines(
     text: &[u8],
     kind: u8,

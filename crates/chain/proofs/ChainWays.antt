@@ -7,7 +7,7 @@ use Prim.Native.Nat.{ℕ, zero, suc, _*_, _≤_, _<_}
 use native.Mathlib.Nat.{le-of-suc-le-suc, not-suc-le-zero}
 use native.Mathlib.Omega.{arith}
 use borrow.Author.Tests.{lt-ltb, le-ltb, ltb-false}
-use lib.Dec.{T, eqb, ltb, leb}
+use lib.Dec.{T, eqb, ltb}
 use lib.ListN.{length, getD, take, drop, length-append}
 use lib.Seq.{take-at}
 use lib.IntN.{ℤ, pos}
@@ -22,14 +22,14 @@ use Rattle.rules.specs.Support.{ChainFor, allowed}
 use Rattle.rules.specs.Pair.{isPair, weightAt, stands}
 use Rattle.rules.specs.WellFormed.{Rising}
 use Rattle.rules.specs.Call.{askReach}
-use Rattle.rules.specs.Refusal.{firstOf, passed, chainPassed, chainHeld}
+use Rattle.rules.specs.Refusal.{firstOf, subjectsHeld, noPair, overweight, passed, chainPassed, chainHeld}
 use Rattle.rules.proofs.Lists.{eqOr}
 use Rattle.rules.proofs.Refusals.{numbered, firstOf-none, firstOf-some}
 use Rattle.rules.proofs.Pairs.{test-pair}
 use Rattle.rules.proofs.Support.{allowed-reach}
 use Rattle.block.specs.Layout.{blockSize, mostSubjects}
 use Rattle.block.specs.Bytes.{IsBytes, leading}
-use Rattle.block.specs.Block.{subjectsIn, countIn, recordsIn, decode}
+use Rattle.block.specs.Block.{countIn, recordsIn, decode}
 use Rattle.block.specs.WellFormed.{wellFormed}
 use Rattle.block.proofs.Held.{held-formed, at-place, place-inside, stands-found, stands-missing}
 use Rattle.block.proofs.PairPlace.{pairPlace, others}
@@ -45,7 +45,7 @@ use Rattle.steptable.specs.declared.Given.{Given}
 use Rattle.refusals.specs.Early.{textRefused, notWellFormed, early}
 use Rattle.chain.specs.ChainOn.{chainRefusalOn, unwrittenBy, ChainLeft, ChainMade, ChainFront}
 use Rattle.chain.specs.declared.ChainAnswer.{ChainAnswer}
-use Rattle.refusals.proofs.Holding.{or-false, weight-stands, enrolled-test}
+use Rattle.refusals.proofs.Holding.{or-false, weight-stands}
 
 -- a refused call leaves the buffer
 left-refused : (t : List ℤ) (R : Register) (g r : ℕ) (w : ℤ) (n m : ℕ) (buf : List ℕ) → n ≡ m → m ≢ 0 → ChainLeft t R g r w n buf (unwrittenBy m) buf
@@ -113,23 +113,27 @@ module _ (g r : ℕ) where
 
 -- ── refused by what the register holds ──
 module _ (t : List ℤ) (b : List ℕ) (bytes : IsBytes b) (formed : wellFormed b ≡ true) (g r : ℕ) where
-  -- the three tests one after another
-  chain-first : (x1 x2 x3 : Bool) → (leb (subjectsIn b) g || leb (subjectsIn b) r) ≡ x1 → stands (decode b) g r ≡ x2
-      → any (λ d. ltb (code (allowed t (decode b) d)) (suc (d .weight))) (filter (isPair g r) (decode b .delegations)) ≡ x3
-      → firstOf (chainHeld t (decode b) g r) ≡ cond x1 9 (cond (not x2) 13 (cond x3 16 0))
-  chain-first x1 x2 x3 e1 e2 e3 = let p1 = enrolled-test b bytes formed g r ∙ e1 in λ j. cond (p1 j) 9 (cond (not (e2 j)) 13 (cond (e3 j) 16 0))
+  -- 9 and 19 of the pair
+  abbrev named : List (ℕ × Bool)
+  named = subjectsHeld (decode b) (g ∷ r ∷ [])
 
-  pub chain-unenrolled : (leb (subjectsIn b) g || leb (subjectsIn b) r) ≡ true → (buf : List ℕ)
-      → ChainLeft t (decode b) g r (weightAt (decode b .delegations) g r) (firstOf (chainHeld t (decode b) g r)) buf (unwrittenBy 9) buf
-  chain-unenrolled e buf =
-      left-refused t (decode b) g r (weightAt (decode b .delegations) g r) (firstOf (chainHeld t (decode b) g r)) 9 buf
-      (chain-first true (stands (decode b) g r) (any (λ d. ltb (code (allowed t (decode b) d)) (suc (d .weight))) (filter (isPair g r) (decode b .delegations))) e refl refl) (λ z. omega arith)
+  -- the tests that follow them
+  abbrev later : List (ℕ × Bool)
+  later = noPair (decode b) g r ∷ overweight t (decode b) (filter (isPair g r) (decode b .delegations)) ∷ []
 
-  module _ (both : (leb (subjectsIn b) g || leb (subjectsIn b) r) ≡ false) (k : ℕ) (place : k ≡ leading (λ d. not (isPair g r d)) (delegationsTo b (countIn b))) where
+  pub chain-unnamed : (n : ℕ) → n ≡ firstOf named → n ≢ 0 → (buf : List ℕ)
+      → ChainLeft t (decode b) g r (weightAt (decode b .delegations) g r) (firstOf (chainHeld t (decode b) g r)) buf (unwrittenBy n) buf
+  chain-unnamed n e z buf = left-refused t (decode b) g r (weightAt (decode b .delegations) g r) (firstOf (chainHeld t (decode b) g r)) n buf (firstOf-some named later n tt (sym e) z) z
+
+  module _ (both : firstOf named ≡ 0) (k : ℕ) (place : k ≡ leading (λ d. not (isPair g r d)) (delegationsTo b (countIn b))) where
+    chain-first : (x2 x3 : Bool) → stands (decode b) g r ≡ x2 → any (λ d. ltb (code (allowed t (decode b) d)) (suc (d .weight))) (filter (isPair g r) (decode b .delegations)) ≡ x3
+        → firstOf (chainHeld t (decode b) g r) ≡ cond (not x2) 13 (cond x3 16 0)
+    chain-first x2 x3 e2 e3 = firstOf-none named later tt both ∙ (λ j. cond (not (e2 j)) 13 (cond (e3 j) 16 0))
+
     pub chain-missing : countIn b ≤ k → (buf : List ℕ) → ChainLeft t (decode b) g r (weightAt (decode b .delegations) g r) (firstOf (chainHeld t (decode b) g r)) buf (unwrittenBy 13) buf
     chain-missing l buf =
         left-refused t (decode b) g r (weightAt (decode b .delegations) g r) (firstOf (chainHeld t (decode b) g r)) 13 buf
-        (chain-first false false (any (λ d. ltb (code (allowed t (decode b) d)) (suc (d .weight))) (filter (isPair g r) (decode b .delegations))) both (stands-missing b bytes formed g r k place l) refl) (λ z. omega arith)
+        (chain-first false (any (λ d. ltb (code (allowed t (decode b) d)) (suc (d .weight))) (filter (isPair g r) (decode b .delegations))) (stands-missing b bytes formed g r k place l) refl) (λ z. omega arith)
 
     module _ (found : k < countIn b) where
       -- the test of 16, as the code makes it
@@ -144,14 +148,14 @@ module _ (t : List ℤ) (b : List ℕ) (bytes : IsBytes b) (formed : wellFormed 
           ∙ ap (λ (l : ℤ). ltb (code l) (suc (delegationAt b k .weight))) (allowed-reach t (decode b) (delegationAt b k) ∙ (λ j. reach t (decode b) (q .0 j) (q .1 j)))
           ∙ sym (below-weight (reach t (decode b) g r) (delegationAt b k .weight))
 
-      -- past 9 and 13 what is left is what the search leaves
+      -- past 9, 19 and 13 what is left is what the search leaves
       pub chain-carried : (w : ℕ) → w ≡ delegationAt b k .weight → (buf : List ℕ) (o : ChainAnswer) (after : List ℕ)
           → ChainLeft t (decode b) g r (pos w) (cond (ltZ (reach t (decode b) g r) (pos w)) 16 0) buf o after
           → ChainLeft t (decode b) g r (weightAt (decode b .delegations) g r) (firstOf (chainHeld t (decode b) g r)) buf o after
       chain-carried w e buf o after q =
           let v : pos w ≡ weightAt (decode b .delegations) g r = ap pos e ∙ sym (weight-stands b bytes formed g r k place found) in
           let n : cond (ltZ (reach t (decode b) g r) (pos w)) 16 0 ≡ firstOf (chainHeld t (decode b) g r) =
-          ap (λ (x : ℕ). cond (ltZ (reach t (decode b) g r) (pos x)) 16 0) e ∙ sym (chain-first false true (ltZ (reach t (decode b) g r) (pos (delegationAt b k .weight))) both (stands-found b bytes formed g r k place found) heavy-test) in
+          ap (λ (x : ℕ). cond (ltZ (reach t (decode b) g r) (pos x)) 16 0) e ∙ sym (chain-first true (ltZ (reach t (decode b) g r) (pos (delegationAt b k .weight))) (stands-found b bytes formed g r k place found) heavy-test) in
           subst (λ (x : ℕ). ChainLeft t (decode b) g r (weightAt (decode b .delegations) g r) x buf o after) n
           (subst (λ (x : ℤ). ChainLeft t (decode b) g r x (cond (ltZ (reach t (decode b) g r) (pos w)) 16 0) buf o after) v q)
 

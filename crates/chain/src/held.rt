@@ -20,7 +20,7 @@ use crate::ChainAnswer;
 use crate::links;
 use crate::unwritten;
 use block::layout;
-use refusals::both_enrolled;
+use refusals::pair_held;
 use rules::refusal;
 
 // The most links of a chain.
@@ -73,8 +73,9 @@ pub fn write_held(
     requires { ⌜ Checked (now block) (askReach giver receiver) × TableRule (now table) × (chainSize ≤ length (now buf)) ⌝ }
     ensures { λ r. ⌜ ChainLeft (now (table .entry)) (decode (now (block .entry))) giver receiver (weightAt (decode (now (block .entry)) .delegations) giver receiver) (firstOf (chainHeld (now (table .entry)) (decode (now (block .entry))) giver receiver)) (now (buf .entry)) r (now (buf .exit)) ⌝ }
 {
-    if !both_enrolled(block, giver, receiver) {
-        return unwritten(refusal::NOT_ENROLLED);
+    let number = pair_held(block, giver, receiver);
+    if number != 0 {
+        return unwritten(number);
     }
     let n = block::count(block);
     let k = block::find(block, n, giver as u8, receiver as u8);

@@ -4,3 +4,5 @@ pub mod Rewrite
 pub mod Changing
 pub mod Filling
 pub mod Writing
+pub mod Leaving
+pub mod Bringing

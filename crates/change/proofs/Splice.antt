@@ -71,7 +71,7 @@ module _ (P : List ℕ) (at : ℕ) (here : length P ≡ at) where
       ∙ append-assoc P Y (rec ++ Z)
 
 -- bytes over as many others
-sets-over : (P X Y Z : List ℕ) (at : ℕ) → length P ≡ at → length X ≡ length Y → sets (P ++ (X ++ Z)) at Y ≡ P ++ (Y ++ Z)
+pub sets-over : (P X Y Z : List ℕ) (at : ℕ) → length P ≡ at → length X ≡ length Y → sets (P ++ (X ++ Z)) at Y ≡ P ++ (Y ++ Z)
 sets-over P X Y Z at here e =
     let b = P ++ (X ++ Z) in
     let room : at + length Y ≤ length b = omega (arith, length-append P (X ++ Z), length-append X Z) in

@@ -1,13 +1,15 @@
 // Changes of a block, each as the change of the register that it holds.
 mod left;
+mod retiring;
 mod write;
 
 ghost use mathlib.Core.Path.{_≡_};
 ghost use mathlib.Core.Bool.{true, false};
 ghost use mathlib.Core.List.{[], _∷_, _++_};
-ghost use Prim.Native.Nat.{_<_};
+ghost use Prim.Native.Nat.{_^_, _<_};
+ghost use lib.Bits.{bitOr};
 ghost use lib.ListN.{length};
-ghost use Rattle.rules.specs.Register.{withDelegations, granted};
+ghost use Rattle.rules.specs.Register.{withDelegations, withRetired, granted};
 ghost use Rattle.rules.specs.Pair.{stands, reweighed};
 ghost use Rattle.rules.specs.Cut.{removal, named, marking, changed};
 ghost use Rattle.rules.specs.Call.{fresh, enrolled};
@@ -16,19 +18,24 @@ ghost use Rattle.block.specs.Layout.{blockSize, mostSubjects, mostRecords};
 ghost use Rattle.block.specs.Block.{subjectsIn, countIn, decode, encode};
 ghost use Rattle.block.specs.WellFormed.{wellFormed};
 ghost use Rattle.block.specs.Fits.{Fitting, empty};
+ghost use Rattle.block.specs.Older.{oldSize, brought};
 ghost use Rattle.change.specs.Place.{IsPlace};
 use block::count;
 use block::find;
 use block::is_pair;
 use block::layout::COUNT_AT;
+use block::layout::RECORDS_AT;
+use block::layout::RETIRED_AT;
 use block::layout::WEIGHT;
 use block::place;
 use block::record_place;
 use block::subjects;
 pub use left::write_left;
+pub use retiring::retire;
 pub use write::copy;
 use write::put_marks;
 use write::put_record;
+use write::put_retired;
 use write::put_two;
 use write::shift_down;
 use write::shift_up;
@@ -51,6 +58,16 @@ pub fn write_empty(b: &mut [u8])
     zero_all(b);
 }
 
+// A block of the layout before, in the present one, over any bytes.
+pub fn write_brought(old: &[u8], b: &mut [u8])
+    requires { ⌜ (length (now old) ≡ oldSize) × (length (now b) ≡ blockSize) ⌝ }
+    ensures { λ _. ⌜ now (b .exit) ≡ brought (now (old .entry)) ⌝ }
+{
+    copy(&old[..RETIRED_AT], &mut b[..RETIRED_AT]);
+    zero_all(&mut b[RETIRED_AT..RECORDS_AT]);
+    copy(&old[RETIRED_AT..], &mut b[RECORDS_AT..]);
+}
+
 // One more subject.
 pub fn add_subject(b: &mut [u8], marks: u16)
     requires { ⌜ Fitting (now b) × (subjectsIn (now b) < mostSubjects) ⌝ }
@@ -67,6 +84,15 @@ pub fn set_marks(b: &mut [u8], subject: u8, marks: u16)
     ensures { λ _. ⌜ now (b .exit) ≡ encode (changed (decode (now (b .entry))) (marking subject marks)) ⌝ }
 {
     put_marks(b, subject, marks);
+}
+
+// The bit of an enrolled subject set.
+pub fn set_retired(b: &mut [u8], subject: u8)
+    requires { ⌜ Fitting (now b) × (subject < subjectsIn (now b)) ⌝ }
+    ensures { λ _. ⌜ now (b .exit) ≡ encode (withRetired (decode (now (b .entry))) (bitOr (decode (now (b .entry)) .retired) (2 ^ subject))) ⌝ }
+{
+    let retired = block::retired(b);
+    put_retired(b, retired | (1u64 << subject));
 }
 
 // One more delegation, after all others.

@@ -4,10 +4,10 @@ ghost use Prim.Native.Nat.{_+_, _-_, _≤_, _<_};
 ghost use lib.ListN.{length, replicate};
 ghost use lib.Seq.{sets};
 ghost use Rattle.rules.specs.Register.{granted};
-ghost use Rattle.block.specs.Layout.{recordSize};
-ghost use Rattle.block.specs.Bytes.{twoBytes};
+ghost use Rattle.block.specs.Layout.{retiredAt, retiredSize, recordSize};
+ghost use Rattle.block.specs.Bytes.{twoBytes, wideBytes};
 ghost use Rattle.block.specs.Block.{recordBytes};
-ghost use Rattle.block.specs.Records.{markPlace, HasMarks};
+ghost use Rattle.block.specs.Records.{markPlace, HasMarks, HasRetired};
 ghost use Rattle.change.specs.Shift.{movedUp, movedDown};
 use block::layout::BAR;
 use block::layout::GIVER;
@@ -17,6 +17,8 @@ use block::layout::NEED;
 use block::layout::RECEIVER;
 use block::layout::RECORD_SIZE;
 use block::layout::REST;
+use block::layout::RETIRED_AT;
+use block::layout::RETIRED_SIZE;
 use block::layout::WEIGHT;
 
 // Zeros everywhere.
@@ -57,6 +59,20 @@ pub fn put_marks(b: &mut [u8], subject: u8, marks: u16)
     ensures { λ _. ⌜ now (b .exit) ≡ sets (now (b .entry)) (markPlace subject) (twoBytes marks) ⌝ }
 {
     put_two(b, MARKS_AT + MARK_SIZE * (subject as usize), marks);
+}
+
+// The bits of the retired subjects.
+pub fn put_retired(b: &mut [u8], bits: u64)
+    requires { ⌜ HasRetired (now b) ⌝ }
+    ensures { λ _. ⌜ now (b .exit) ≡ sets (now (b .entry)) retiredAt (wideBytes retiredSize bits) ⌝ }
+{
+    let mut rest = bits;
+    let mut i: usize = 0;
+    while i < RETIRED_SIZE {
+        b[RETIRED_AT + i] = (rest % 256) as u8;
+        rest = rest / 256;
+        i += 1;
+    }
 }
 
 // The record of a delegation.

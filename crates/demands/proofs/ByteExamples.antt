@@ -4,24 +4,38 @@ use mathlib.Core.Path.{_≡_, refl, ap, _∙_}
 use mathlib.Core.List.{List, [], _∷_, _++_, map}
 use Prim.Native.Nat.{ℕ, zero, suc}
 use lib.ListN.{length, take, drop}
+use lib.Seq.{take-at}
 use Rattle.rules.specs.List.{At}
-use Rattle.rules.specs.Table.{steps}
+use Rattle.rules.specs.Limit.{larger}
+use Rattle.rules.specs.Table.{next, step, steps}
 use Rattle.rules.specs.Register.{Register}
+use Rattle.rules.specs.Condition.{meets}
+use Rattle.rules.specs.Chain.{limitFrom}
+use Rattle.rules.specs.Reach.{goesOn, chains, reach}
+use Rattle.rules.specs.Support.{allowed}
+use Rattle.rules.specs.Round.{settle}
+use Rattle.rules.specs.Cut.{named}
 use Rattle.rules.specs.WellFormed.{WellFormed}
-use Rattle.rules.specs.Call.{Call, fresh}
-use Rattle.rules.specs.CallStep.{callStep}
+use Rattle.rules.specs.Call.{Call, retire, fresh}
+use Rattle.rules.specs.Refusal.{passed, held, refusalOf}
+use Rattle.rules.specs.CallStep.{cut, accepted, callStep}
 use Rattle.rules.specs.Trace.{Entry, allAsked, traceFrom, stateFrom, History}
-use Rattle.rules.specs.History.{leftBy, trace}
-use Rattle.rules.specs.Examples.{Example, lastLeft, computed, said, examples}
+use Rattle.rules.specs.History.{leftBy, trace, registerAt}
+use Rattle.rules.specs.Examples.{Example, lastLeft, computed, said, leaving, leaving-idle, examples}
 use Rattle.rules.proofs.Calls.{fresh-formed, callStep-formed}
 use Rattle.rules.proofs.Trace.{trace-at, history-from}
+use Rattle.rules.proofs.History.{demand3-steps}
 use Rattle.rules.proofs.Answers.{examples-hold}
+use Rattle.block.specs.Layout.{retiredAt, retiredSize}
+use Rattle.block.specs.Bytes.{wideBytes}
 use Rattle.block.specs.Block.{decode, encode}
+use Rattle.block.proofs.Wide.{length-wideBytes}
+use Rattle.block.proofs.Fitting.{recordsPart, retired-drop, formed-fits}
 use Rattle.block.proofs.Encode.{decode-encode}
 use Rattle.steptable.specs.declared.Given.{Given}
 use Rattle.register.specs.CallOn.{Result, callOn}
 use Rattle.demands.specs.History.{Asked, asks, askedOn, bytesLeft, traceOn, blockAt}
-use Rattle.demands.specs.Examples.{lineOn, computedOn}
+use Rattle.demands.specs.Examples.{lineOn, computedOn, bitsAfter, RetiredBytes}
 use Rattle.demands.proofs.History.{lent-ours}
 use Rattle.register.proofs.OnBytes.{onBytes, callOn-encode}
 
@@ -97,3 +111,33 @@ computed-all es = λ i. map (λ (e : Example). computed-on e i) es
 -- P1 TO P8, on bytes
 pub examples-on-bytes : map computedOn examples ≡ map said examples
 examples-on-bytes = computed-all examples ∙ examples-hold
+
+-- ── the bytes of the bits ──
+blocks-written : (R : Register) → WellFormed R → (cs : List Call) (n : ℕ) → stateFrom askedOn bytesLeft (encode R) (map (asks []) cs) n ≡ encode (stateFrom (callStep steps) leftBy R cs n)
+blocks-written R f cs zero = refl
+blocks-written R f [] (suc n) = refl
+blocks-written R f (c ∷ cs) (suc n) =
+    ap (λ (r : Result). stateFrom askedOn bytesLeft (r .bytes) (map (asks []) cs) n) (asked-encode R f c) ∙ blocks-written (callStep steps R c .left) (callStep-formed steps R c f) cs n
+
+bits-after : (cs : List Call) (n : ℕ) → bitsAfter cs n ≡ wideBytes retiredSize (registerAt steps cs n .retired)
+bits-after cs n =
+    let S = registerAt steps cs n in
+    let f = formed-fits S (demand3-steps .wellFormed cs n) in
+    ap (λ (b : List ℕ). take retiredSize (drop retiredAt b)) (blocks-written fresh fresh-formed cs n)
+    ∙ ap (take retiredSize) (retired-drop S f)
+    ∙ take-at (wideBytes retiredSize (S .retired)) (recordsPart S) retiredSize (length-wideBytes retiredSize (S .retired))
+
+-- those retired after each
+one-retired : registerAt steps (leaving .given ++ (retire 0 1 ∷ [])) 10 .retired ≡ 2
+unfolding larger next step steps meets limitFrom goesOn chains reach allowed settle named passed held refusalOf cut accepted callStep
+one-retired = refl
+
+nine-retired : registerAt steps (leaving-idle .given ++ (retire 0 9 ∷ [])) 10 .retired ≡ 512
+unfolding larger next step steps meets limitFrom goesOn chains reach allowed settle named passed held refusalOf cut accepted callStep
+nine-retired = refl
+
+pub retired-bytes : RetiredBytes
+retired-bytes = record {
+  one = bits-after (leaving .given ++ (retire 0 1 ∷ [])) 10 ∙ ap (wideBytes retiredSize) one-retired;
+  nine = bits-after (leaving-idle .given ++ (retire 0 9 ∷ [])) 10 ∙ ap (wideBytes retiredSize) nine-retired;
+}

@@ -17,7 +17,7 @@ use Rattle.rules.specs.Reach.{IsReach, reach}
 use Rattle.rules.specs.Support.{allowed, Carried}
 use Rattle.rules.specs.Pair.{isPair, stands, raises}
 use Rattle.rules.specs.Call.{grant, askReach, setMarks}
-use Rattle.rules.specs.Refusal.{firstOf, held, notEnrolled, pairStands, allStand, overweight}
+use Rattle.rules.specs.Refusal.{firstOf, held, subjectsHeld, pairStands, allStand, overweight}
 use Rattle.rules.specs.CallStep.{accepted}
 use Rattle.rules.specs.Granted.{GrantedIn, Raises}
 use Rattle.rules.proofs.Table.{steps-rule}
@@ -47,7 +47,7 @@ use Rattle.register.proofs.Through.{accepted-through}
 module _ (g : Given) (rule : TableRule (g .steps)) (b : List ℕ) (d : Delegation) where
   -- the tests before 16, and 16
   abbrev tests : List (ℕ × Bool)
-  tests = notEnrolled (decode b) (d .giver ∷ d .receiver ∷ []) ∷ pairStands (decode b) d ∷ allStand (decode b) d ∷ []
+  tests = subjectsHeld (decode b) (d .giver ∷ d .receiver ∷ []) ++ (pairStands (decode b) d ∷ allStand (decode b) d ∷ [])
 
   abbrev last : List (ℕ × Bool)
   last = overweight (g .steps) (decode b) (d ∷ []) ∷ []
@@ -81,8 +81,8 @@ module _ (g : Given) (rule : TableRule (g .steps)) (b : List ℕ) (d : Delegatio
 
   -- ── e stands for the pair ──
   module _ (bytes : IsBytes b) (e : Delegation) (m : e ∈ decode b .delegations) (p : T (isPair (d .giver) (d .receiver) e)) where
-    abbrev enrolled : List (ℕ × Bool)
-    enrolled = notEnrolled (decode b) (d .giver ∷ d .receiver ∷ []) ∷ []
+    abbrev named : List (ℕ × Bool)
+    named = subjectsHeld (decode b) (d .giver ∷ d .receiver ∷ [])
 
     pair : stands (decode b) (d .giver) (d .receiver) ≡ true
     pair = pair-stands (decode b) (d .giver) (d .receiver) e m (test-pair (d .giver) (d .receiver) e p)
@@ -96,7 +96,7 @@ module _ (g : Given) (rule : TableRule (g .steps)) (b : List ℕ) (d : Delegatio
         let k = grant-only z in
         let h = subst (λ (x : Bool). T (not (x && not (raises (decode b) d)))) pair (passes-of tests tt (k .held) 11) in
         record {
-          before = record { early = k .early; enrolled = firstOf-left enrolled (pairStands (decode b) d ∷ allStand (decode b) d ∷ []) tt (k .held) };
+          before = record { early = k .early; named = firstOf-left named (pairStands (decode b) d ∷ allStand (decode b) d ∷ []) tt (k .held) };
           raises = raise-one (accepted-through g b (grant d) z .early .formed) (not-not (raises (decode b) d) h);
           carried = k .carried;
         }
@@ -106,11 +106,11 @@ module _ (g : Given) (rule : TableRule (g .steps)) (b : List ℕ) (d : Delegatio
       raise-test = T-true (raises (decode b) d) (raising (decode b) d e m x)
 
       raise-whenever : Before11 g b d → Carried (g .steps) (decode b) d → callOn g b (grant d) .refusal ≡ 0
-      raise-whenever k c = grant-whenever record { early = k .early; held = firstOf-none enrolled (pairStands (decode b) d ∷ allStand (decode b) d ∷ []) tt (k .enrolled) ∙ rw (pair, raise-test); carried = c }
+      raise-whenever k c = grant-whenever record { early = k .early; held = firstOf-none named (pairStands (decode b) d ∷ allStand (decode b) d ∷ []) tt (k .named) ∙ rw (pair, raise-test); carried = c }
 
       raise-sixteen : Before11 g b d → (Carried (g .steps) (decode b) d → ⊥) → callOn g b (grant d) .refusal ≡ 16
       unfolding held
-      raise-sixteen k c = refused-with k 16 (firstOf-none enrolled (pairStands (decode b) d ∷ allStand (decode b) d ∷ last) tt (k .enrolled) ∙ rw (pair, raise-test, heavy (either over))) (λ z. omega arith)
+      raise-sixteen k c = refused-with k 16 (firstOf-none named (pairStands (decode b) d ∷ allStand (decode b) d ∷ last) tt (k .named) ∙ rw (pair, raise-test, heavy (either over))) (λ z. omega arith)
         where
           over : Bool
           over = ltb (code (allowed (g .steps) (decode b) d)) (suc (d .weight))
@@ -121,7 +121,7 @@ module _ (g : Given) (rule : TableRule (g .steps)) (b : List ℕ) (d : Delegatio
 
     raise-eleven : Before11 g b d → (Raises d e → ⊥) → callOn g b (grant d) .refusal ≡ 11
     unfolding held
-    raise-eleven k n = refused-with k 11 (firstOf-none enrolled (pairStands (decode b) d ∷ allStand (decode b) d ∷ last) tt (k .enrolled) ∙ rw (pair, other)) (λ z. omega arith)
+    raise-eleven k n = refused-with k 11 (firstOf-none named (pairStands (decode b) d ∷ allStand (decode b) d ∷ last) tt (k .named) ∙ rw (pair, other)) (λ z. omega arith)
       where
         other : raises (decode b) d ≡ false
         other = unset (raises (decode b) d) (not-T (raises (decode b) d) (λ h. n (raise-one (early-none (g .refusal) b (grant d) (k .early) .formed) h)))

@@ -12,7 +12,7 @@ use Rattle.rules.specs.Table.{TableRule, Below, steps}
 use Rattle.rules.specs.Register.{Register}
 use Rattle.rules.specs.Support.{Supported}
 use Rattle.rules.specs.WellFormed.{WellFormed}
-use Rattle.rules.specs.Call.{Call, enrol, grant, revoke, downgrade, askReach, askUse, setMarks, fresh}
+use Rattle.rules.specs.Call.{Call, enrol, grant, revoke, downgrade, askReach, askUse, setMarks, retire, fresh}
 use Rattle.rules.specs.Refusal.{firstOf, held, refusalOf}
 use Rattle.rules.specs.CallStep.{accepted, callStep}
 use Rattle.rules.proofs.Table.{steps-rule}
@@ -78,6 +78,7 @@ leaves-right b (asks text (downgrade y g r w)) bytes = cuts-left (given text) (g
 leaves-right b (asks text (askReach g r)) bytes = λ k i. absurd i
 leaves-right b (asks text (askUse r)) bytes = λ k i. absurd i
 leaves-right b (asks text (setMarks y s m)) bytes = cuts-left (given text) (given-keeps text) b bytes (setMarks y s m)
+leaves-right b (asks text (retire y s)) bytes = cuts-left (given text) (given-keeps text) b bytes (retire y s)
 leaves-right b (reads text table) bytes = λ e. (read-text text table b e, read-supported text table b e)
 
 -- what holds of the block before a read, and after it where it is accepted, holds after it
@@ -123,6 +124,7 @@ same-step t m R (downgrade y g r w) e = absurd (subst T e tt)
 same-step t m R (askReach g r) e = absurd (subst T e tt)
 same-step t m R (askUse r) e = refl
 same-step t m R (setMarks y s n) e = absurd (subst T e tt)
+same-step t m R (retire y s) e = absurd (subst T e tt)
 
 -- a text that no test refuses passes
 passes : (text : List ℕ) → firstOf (textRefused (given text .refusal)) ≡ 0 → given text .refusal ≡ 0

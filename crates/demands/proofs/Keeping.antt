@@ -2,13 +2,13 @@
 use mathlib.Core.Path.{_≡_, refl, sym, ap, subst, _∙_}
 use mathlib.Core.Logic.{_≢_, _⊎_, inl, inr}
 use mathlib.Core.Bool.{Bool, true, false, cond, not}
-use mathlib.Core.List.{List, _++_}
-use Prim.Native.Nat.{ℕ, _*_, _≤_}
+use mathlib.Core.List.{List, [], _∷_, _++_}
+use Prim.Native.Nat.{ℕ, _*_, _≤_, _<_}
 use native.Mathlib.Omega.{arith}
 use borrow.Author.Tests.{eq-eqb, ne-eqb}
-use lib.Dec.{T, eqb, eqb→eq, T-not}
-use lib.ListN.{length, drop, length-append, length-drop}
-use lib.Seq.{drop-at}
+use lib.Dec.{T, eqb, ltb, eqb→eq, ltb→lt, nltb→le, T-not}
+use lib.ListN.{length, getD, take, drop, replicate, length-append, length-take, length-drop, List·getD-eq-default}
+use lib.Seq.{getD-take, drop-at}
 use lib.IntN.{pos}
 use Rattle.rules.specs.Table.{TableRule}
 use Rattle.rules.specs.WellFormed.{WellFormed}
@@ -20,12 +20,16 @@ use Rattle.rules.specs.Order.{orderBytes}
 use Rattle.rules.proofs.Table.{steps-rule}
 use Rattle.rules.proofs.Calls.{fresh-formed, callStep-formed}
 use Rattle.rules.proofs.Ranges.{callStep-range}
-use Rattle.rules.proofs.Lists.{T-true, eqOr}
+use Rattle.rules.proofs.Lists.{T-true, either, not-not, not-or-left, eqOr}
+use Rattle.rules.proofs.Refusals.{passes-of}
 use Rattle.rules.proofs.Order.{order-some, order-few, order-length}
-use Rattle.block.specs.Layout.{blockSize}
+use Rattle.block.specs.Layout.{blockSize, retiredAt, retiredSize}
 use Rattle.block.specs.Bytes.{IsBytes}
 use Rattle.block.specs.Block.{decode, encode}
 use Rattle.block.specs.WellFormed.{wellFormed}
+use Rattle.block.specs.Older.{oldSize, oldDecode, brought}
+use Rattle.block.proofs.Older.{brought-same}
+use Rattle.block.proofs.Bytes.{bytes-drop, bytes-append, bytes-zeros}
 use Rattle.block.proofs.Encode.{bytes-encode}
 use Rattle.block.proofs.Form.{encode-formed}
 use Rattle.block.proofs.Held.{held-formed}
@@ -34,8 +38,9 @@ use Rattle.steptable.specs.declared.Given.{Given}
 use Rattle.steptable.proofs.Right.{given-keeps}
 use Rattle.regfile.specs.FileText.{fileText, filed}
 use Rattle.regfile.proofs.Sizes.{file-some, file-short}
-use Rattle.refusals.specs.Early.{early}
+use Rattle.refusals.specs.Early.{notWellFormed, early}
 use Rattle.register.specs.CallOn.{Result, turned, written, callOn, openOn}
+use Rattle.register.specs.Bring.{wrongSizes, bringRefusal, bringOn}
 use Rattle.transfer.specs.FileOn.{WriteMade}
 use Rattle.transfer.specs.declared.Filled.{Filled}
 use Rattle.transfer.proofs.Writing.{write-through}
@@ -45,7 +50,7 @@ use Rattle.order.specs.Items.{itemSize, orderSize}
 use Rattle.order.specs.OrderOn.{OrderMade}
 use Rattle.order.specs.declared.Listed.{Listed}
 use Rattle.order.proofs.OrderWays.{order-through}
-use Rattle.demands.specs.Kept.{Kept, KeptOpen, KeptRead, KeptFilled, mostWritten, KeptWrite, KeptOrder}
+use Rattle.demands.specs.Kept.{Kept, KeptOpen, KeptBring, KeptRead, KeptFilled, mostWritten, KeptWrite, KeptOrder}
 use Rattle.register.proofs.Through.{accepted-through, accepted-step, accepted-left}
 
 module _ (g : Given) (b : List ℕ) (c : Call) where
@@ -117,6 +122,47 @@ open-unused b = go (eqb (length b) blockSize)
 
 pub kept-open : (b : List ℕ) → KeptOpen b
 kept-open b = record { refused = open-refused b; formed = open-formed b; range = λ _. open-unused b }
+
+-- ── a block of the layout before ──
+module _ (old b : List ℕ) where
+  -- what an accepted one returns and leaves
+  abbrev over : Result
+  over = record { refusal = 0; first = pos 0; second = pos 0; third = pos 0; bytes = brought old }
+
+  -- refused, or brought
+  bring-cases : (P : Result → Type 0) → (bringRefusal old b ≡ 0 → P over) → (bringRefusal old b ≢ 0 → P (turned (bringRefusal old b) b)) → P (bringOn old b)
+  unfolding bringOn
+  bring-cases P done turn = go (eqb (bringRefusal old b) 0) refl
+    where
+      go : (x : Bool) → eqb (bringRefusal old b) 0 ≡ x → P (cond x over (turned (bringRefusal old b) b))
+      go true e = done (eqb→eq (bringRefusal old b) 0 (subst T (sym e) tt))
+      go false e = turn (λ z. T-not true (subst (λ (x : Bool). T (not x)) (sym (sym (eq-eqb (bringRefusal old b) 0 z) ∙ e)) tt) tt)
+
+  brought-bytes : IsBytes old → IsBytes (brought old)
+  unfolding brought
+  brought-bytes h = bytes-append (take retiredAt old) (replicate retiredSize 0 ++ drop retiredAt old) (front (λ i. h i)) (bytes-append (replicate retiredSize 0) (drop retiredAt old) (bytes-zeros retiredSize) (bytes-drop retiredAt old h))
+    where
+      front : IsBytes old → IsBytes (take retiredAt old)
+      front h i = go (either (ltb i retiredAt))
+        where
+          go : T (ltb i retiredAt) ⊎ T (not (ltb i retiredAt)) → getD (take retiredAt old) i 0 < 256
+          go (inl l) = subst (λ (n : ℕ). n < 256) (sym (getD-take retiredAt old i 0 (ltb→lt i retiredAt l))) (h i)
+          go (inr l) = subst (λ (n : ℕ). n < 256) (sym (List·getD-eq-default (take retiredAt old) 0 (omega (arith, nltb→le i retiredAt l, length-take retiredAt old)))) (omega arith)
+
+  -- none of its tests applies
+  bring-through : bringRefusal old b ≡ 0 → (length old ≡ oldSize) × (wellFormed (brought old) ≡ true)
+  bring-through z =
+      let p = passes-of (wrongSizes old b ∷ notWellFormed (brought old) ∷ []) tt z in
+      (eqb→eq (length old) oldSize (not-not (eqb (length old) oldSize) (not-or-left (not (eqb (length old) oldSize)) (not (eqb (length b) blockSize)) (p 1))), T-true (wellFormed (brought old)) (not-not (wellFormed (brought old)) (p 8)))
+
+  pub kept-bring : KeptBring old b
+  kept-bring = record {
+    refused = bring-cases (λ (r : Result). r .refusal ≢ 0 → r .bytes ≡ b) (λ z n. absurd (n refl)) (λ z n. refl);
+    formed = bring-cases (λ (r : Result). r .refusal ≡ 0 → wellFormed (r .bytes) ≡ true) (λ z e. bring-through z .1) (λ z e. absurd (z e));
+    range = bring-cases (λ (r : Result). r .refusal ≡ 0 → Unused (r .first) × Unused (r .second) × Unused (r .third)) (λ z e. (refl, refl, refl)) (λ z e. (refl, refl, refl));
+    bytes = λ x y. bring-cases (λ (r : Result). IsBytes (r .bytes)) (λ z. brought-bytes x) (λ z. y);
+    same = bring-cases (λ (r : Result). r .refusal ≡ 0 → decode (r .bytes) ≡ oldDecode old) (λ z e. let (l, w) = bring-through z in brought-same old l w) (λ z e. absurd (z e));
+  }
 
 -- ── read ──
 pub kept-read : (text table b : List ℕ) → KeptRead text table b

@@ -3,3 +3,4 @@ pub mod Exactly
 pub mod ByteExamples
 pub mod Keeping
 pub mod BadLists
+pub mod Leaving

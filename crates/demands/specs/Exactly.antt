@@ -1,8 +1,8 @@
 -- Demand 2: when exactly a grant is accepted, what it leaves, what exactly reach answers, and what setting the marks that stand leaves, on any bytes and by any step table (document 01, 'Calls'; document 02,
--- C-11, C-12 and C-15). Assumes nothing.
+-- C-11, C-12, C-15 and C-16). Assumes nothing.
 use mathlib.Core.Path.{_≡_}
 use mathlib.Core.Bool.{true}
-use mathlib.Core.List.{List, [], _∷_}
+use mathlib.Core.List.{List, [], _∷_, _++_}
 use Prim.Native.Nat.{ℕ, _+_, _<_}
 use lib.Dec.{T}
 use lib.ListN.{set}
@@ -14,7 +14,7 @@ use Rattle.rules.specs.Chain.{limit, IsChain}
 use Rattle.rules.specs.Support.{Carried, Supported}
 use Rattle.rules.specs.Pair.{isPair, stands}
 use Rattle.rules.specs.Call.{grant, askReach, setMarks}
-use Rattle.rules.specs.Refusal.{firstOf, notEnrolled, pairStands, allStand}
+use Rattle.rules.specs.Refusal.{firstOf, subjectsHeld, pairStands, allStand}
 use Rattle.rules.specs.Granted.{GrantedIn, Raises}
 use Rattle.block.specs.Layout.{weightByte}
 use Rattle.block.specs.Block.{countIn, decode}
@@ -26,7 +26,7 @@ use Rattle.register.specs.CallOn.{callOn}
 -- no refusal of a grant but 16 applies, and some chain carries the weight
 pub record Grantable (g : Given) (b : List ℕ) (d : Delegation) : Type 0 where
   pub early : firstOf (early (g .refusal) b (grant d)) ≡ 0
-  pub held : firstOf (notEnrolled (decode b) (d .giver ∷ d .receiver ∷ []) ∷ pairStands (decode b) d ∷ allStand (decode b) d ∷ []) ≡ 0
+  pub held : firstOf (subjectsHeld (decode b) (d .giver ∷ d .receiver ∷ []) ++ (pairStands (decode b) d ∷ allStand (decode b) d ∷ [])) ≡ 0
   pub carried : Carried (g .steps) (decode b) d
 
 -- a grant is accepted exactly when it is grantable
@@ -37,7 +37,7 @@ pub record GrantExactly (g : Given) (b : List ℕ) (d : Delegation) : Type 0 whe
 -- no refusal of a grant before 11 applies
 pub record Before11 (g : Given) (b : List ℕ) (d : Delegation) : Type 0 where
   pub early : firstOf (early (g .refusal) b (grant d)) ≡ 0
-  pub enrolled : firstOf (notEnrolled (decode b) (d .giver ∷ d .receiver ∷ []) ∷ []) ≡ 0
+  pub named : firstOf (subjectsHeld (decode b) (d .giver ∷ d .receiver ∷ [])) ≡ 0
 
 -- d can raise e: none of these applies, all but the weight is the same, that is larger, and some chain carries it
 pub record Raisable (g : Given) (b : List ℕ) (d e : Delegation) : Type 0 where

@@ -1,7 +1,11 @@
--- P1 to P8 of document 01, and the examples of raises and of marks, on bytes: the calls on bytes followed down a list from the block that open writes. Assumes nothing.
-use mathlib.Core.List.{[], _++_, map}
+-- P1 to P8 of document 01, and the examples of raises, of marks and of retirements, on bytes: the calls on bytes followed down a list from the block that open writes. Assumes nothing.
+use mathlib.Core.Path.{_≡_}
+use mathlib.Core.List.{List, [], _∷_, _++_, map}
+use Prim.Native.Nat.{ℕ}
 use lib.ListN.{length, take, drop}
-use Rattle.rules.specs.Examples.{Line, line, Example, Shown}
+use Rattle.rules.specs.Call.{Call, retire}
+use Rattle.rules.specs.Examples.{Line, line, Example, leaving, leaving-idle, Shown}
+use Rattle.block.specs.Layout.{retiredAt, retiredSize}
 use Rattle.block.specs.Block.{decode}
 use Rattle.register.specs.CallOn.{Result}
 use Rattle.demands.specs.History.{asks, traceOn, blockAt}
@@ -20,3 +24,12 @@ computedOn e =
       printed = map lineOn (drop (length (e .given)) rs);
       standing = decode (blockAt qs (length qs)) .delegations;
     }
+
+-- the bytes of the bits after the first n calls
+abbrev pub bitsAfter : List Call → ℕ → List ℕ
+bitsAfter cs n = take retiredSize (drop retiredAt (blockAt (map (asks []) cs) n))
+
+-- subject 1 is retired by the tenth call, subject 9 by another tenth: bit 1 of the first byte, bit 1 of the second
+pub record RetiredBytes : Type 0 where
+  pub one : bitsAfter (leaving .given ++ (retire 0 1 ∷ [])) 10 ≡ 2 ∷ 0 ∷ 0 ∷ 0 ∷ 0 ∷ 0 ∷ 0 ∷ 0 ∷ []
+  pub nine : bitsAfter (leaving-idle .given ++ (retire 0 9 ∷ [])) 10 ≡ 0 ∷ 2 ∷ 0 ∷ 0 ∷ 0 ∷ 0 ∷ 0 ∷ 0 ∷ []

@@ -1,5 +1,5 @@
 -- Demand 3 in its byte form: one claim about a whole list of calls on the block that open writes, each lent a step table as a text of its own, reads of a register's text among them (document 01,
--- 'Calls'; document 02, C-11, C-13 and C-15). Assumes nothing.
+-- 'Calls'; document 02, C-11, C-13, C-15 and C-16). Assumes nothing.
 use mathlib.Core.Path.{_≡_}
 use mathlib.Core.Bool.{Bool, true, false, cond}
 use mathlib.Core.List.{List}
@@ -10,7 +10,7 @@ use lib.IntN.{ℤ}
 use Rattle.rules.specs.List.{_∈_}
 use Rattle.rules.specs.Table.{TableRule, Below}
 use Rattle.rules.specs.Support.{Supported}
-use Rattle.rules.specs.Call.{Call, enrol, grant, revoke, downgrade, askReach, askUse, setMarks, fresh}
+use Rattle.rules.specs.Call.{Call, enrol, grant, revoke, downgrade, askReach, askUse, setMarks, retire, fresh}
 use Rattle.rules.specs.Trace.{traceFrom, stateFrom, AtEveryPlace, PlaceRight}
 use Rattle.block.specs.Block.{decode, encode}
 use Rattle.block.specs.WellFormed.{wellFormed}
@@ -40,6 +40,7 @@ reckons (downgrade y g r w) = true
 reckons (askReach g r) = true
 reckons (askUse r) = false
 reckons (setMarks y s m) = true
+reckons (retire y s) = true
 
 -- what a call is given with its text; one that takes no table looks at neither, and is given ours
 abbrev pub lentTo : Call → List ℕ → Given

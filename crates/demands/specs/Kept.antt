@@ -1,4 +1,4 @@
--- Demand 1, as what holds of every call on every list of bytes (document 01, 'Turned back by what was passed'; document 02, C-11, C-13 and C-14): a refused call changes no byte, an accepted one leaves a
+-- Demand 1, as what holds of every call on every list of bytes (document 01, 'Turned back by what was passed'; document 02, C-11, C-13, C-14 and C-16): a refused call changes no byte, an accepted one leaves a
 -- well-formed block and answers in range. Assumes nothing.
 use mathlib.Core.Path.{_≡_}
 use mathlib.Core.Logic.{_≢_}
@@ -9,9 +9,12 @@ use lib.ListN.{length, drop}
 use Rattle.rules.specs.Call.{Call}
 use Rattle.rules.specs.Ranges.{Unused, InRange}
 use Rattle.block.specs.Bytes.{IsBytes}
+use Rattle.block.specs.Block.{decode}
 use Rattle.block.specs.WellFormed.{wellFormed}
+use Rattle.block.specs.Older.{oldDecode}
 use Rattle.steptable.specs.declared.Given.{Given}
 use Rattle.register.specs.CallOn.{callOn, openOn}
+use Rattle.register.specs.Bring.{bringOn}
 use Rattle.transfer.specs.RoundTrip.{reading}
 use Rattle.transfer.specs.declared.Filled.{Filled}
 use Rattle.order.specs.Items.{itemSize, orderSize}
@@ -28,6 +31,15 @@ pub record KeptOpen (b : List ℕ) : Type 0 where
   pub refused : openOn b .refusal ≢ 0 → openOn b .bytes ≡ b
   pub formed : openOn b .refusal ≡ 0 → wellFormed (openOn b .bytes) ≡ true
   pub range : openOn b .refusal ≡ 0 → Unused (openOn b .first) × Unused (openOn b .second) × Unused (openOn b .third)
+
+-- bringing a block of the layout before over, into any bytes
+pub record KeptBring (old b : List ℕ) : Type 0 where
+  pub refused : bringOn old b .refusal ≢ 0 → bringOn old b .bytes ≡ b
+  pub formed : bringOn old b .refusal ≡ 0 → wellFormed (bringOn old b .bytes) ≡ true
+  pub range : bringOn old b .refusal ≡ 0 → Unused (bringOn old b .first) × Unused (bringOn old b .second) × Unused (bringOn old b .third)
+  pub bytes : IsBytes old → IsBytes b → IsBytes (bringOn old b .bytes)
+  -- the register is the old block's, and nobody is retired
+  pub same : bringOn old b .refusal ≡ 0 → decode (bringOn old b .bytes) ≡ oldDecode old
 
 -- a read of a register's text with a step table's, over any bytes
 pub record KeptRead (text table b : List ℕ) : Type 0 where
@@ -46,7 +58,7 @@ pub record KeptFilled (most : ℕ) (before : List ℕ) (n k : ℕ) (after : List
 
 -- the bytes of the longest text of a register
 abbrev pub mostWritten : ℕ
-mostWritten = 6240
+mostWritten = 6376
 
 -- a write of a register's text
 abbrev pub KeptWrite : List ℕ → Filled → List ℕ → Type 0

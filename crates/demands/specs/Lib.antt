@@ -2,3 +2,4 @@ pub mod History
 pub mod Exactly
 pub mod Examples
 pub mod Kept
+pub mod Retired

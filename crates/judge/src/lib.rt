@@ -15,14 +15,14 @@ const OTHER_FILL: u8 = 85;
 // No chain has more links: each receiver is another subject.
 const MOST_LINKS: usize = 63;
 
-// The block, as document 01 lays it out.
+// The block, as document 01 lays it out, with the eight bytes of the retired before the records.
 const COUNT_AT: usize = 2;
 
 const MARKS_AT: usize = 4;
 
 const MARK_SIZE: usize = 2;
 
-const RECORDS_AT: usize = 132;
+const RECORDS_AT: usize = 140;
 
 const RECORD_SIZE: usize = 8;
 

@@ -5,9 +5,10 @@ use mathlib.Core.Path.{_≡_}
 use mathlib.Core.Logic.{_≢_, _⊎_}
 use mathlib.Core.Bool.{cond}
 use mathlib.Core.List.{List}
-use Prim.Native.Nat.{ℕ, zero, suc, _*_, _-_, _/_, _%_, _<_}
+use Prim.Native.Nat.{ℕ, suc, _*_, _-_, _/_, _<_}
 use lib.Dec.{eqb}
 use lib.ListN.{length, getD}
+use Rattle.rules.specs.Bits.{bit}
 use Rattle.queue.specs.declared.Sets.{Sets}
 
 -- the levels: the limits from 0 to 255
@@ -21,16 +22,6 @@ groups = 64
 -- the bits of a set: the subjects that can wait are those below this number
 abbrev pub setBits : ℕ
 setBits = 64
-
--- bit y of n
-abbrev pub bit : ℕ → ℕ → ℕ
-bit n zero = n % 2
-bit n (suc y) = bit (n / 2) y
-
--- m is n but for bit y, which is b
-pub record BitPut (n y b m : ℕ) : Type 0 where
-  pub here : bit m y ≡ b
-  pub others : (w : ℕ) → y ≢ w → bit m w ≡ bit n w
 
 -- m has the members of n that r does not have
 abbrev pub Without : ℕ → ℕ → ℕ → Type 0

@@ -4,7 +4,8 @@ ghost use mathlib.Core.Logic.{_≢_};
 ghost use mathlib.Core.List.{_∷_};
 ghost use Prim.Native.Nat.{_<_};
 ghost use lib.ListN.{length};
-ghost use Rattle.queue.specs.Queue.{levels, groups, setBits, BitPut, Without, Lowest, BitSet, groupOf, placeOf, Covered, IsQueue, Taken, ownerHere};
+ghost use Rattle.rules.specs.Bits.{BitPut};
+ghost use Rattle.queue.specs.Queue.{levels, groups, setBits, Without, Lowest, BitSet, groupOf, placeOf, Covered, IsQueue, Taken, ownerHere};
 
 // The levels: the limits from 0 to 255.
 const LEVELS: usize = 256;

@@ -25,8 +25,9 @@ use Rattle.block.specs.WellFormed.{wellFormed}
 use Rattle.block.specs.Records.{delegationAt}
 use Rattle.block.proofs.Bytes.{length-tabulate, tabulate-mem}
 use Rattle.block.proofs.Held.{delegations-held, record-held}
-use Rattle.queue.specs.Queue.{bit, BitPut, Lowest}
-use Rattle.queue.proofs.Buckets.{bit-zero, bit-or, bit-shr}
+use Rattle.rules.specs.Bits.{bit, BitPut}
+use Rattle.queue.specs.Queue.{Lowest}
+use Rattle.rules.proofs.Bits.{bit-zero, bit-or, bit-shr}
 use Rattle.runs.specs.Lent.{delegationsIn}
 use Rattle.search.specs.Search.{underMarks}
 use Rattle.search.specs.Found.{Searched}

@@ -2,16 +2,16 @@
 use mathlib.Core.Path.{_≡_, refl, sym, ap, subst, _∙_}
 use mathlib.Core.Logic.{_≢_}
 use mathlib.Core.Bool.{Bool, true, false, cond}
-use mathlib.Core.List.{List, [], _∷_, _++_, append-assoc, append-nil}
-use Prim.Native.Nat.{ℕ, zero, suc, _+_, _≤_, _<_, min}
-use native.Mathlib.Nat.{add-zero, add-suc, suc-add, zero-add}
+use mathlib.Core.List.{List, [], _∷_}
+use Prim.Native.Nat.{ℕ, suc, _≤_, _<_, min}
+use native.Mathlib.Nat.{zero-add}
 use native.Mathlib.Omega.{arith}
 use borrow.Author.Tests.{ltb-true, ltb-false, le-ltb}
 use lib.Dec.{ltb}
 use lib.IntN.{ℤ, pos, negsuc}
 use lib.Signed.{ltZ}
 use lib.ListN.{length, getD}
-use Rattle.rules.specs.List.{_∈_, tabulate, concatMap}
+use Rattle.rules.specs.List.{_∈_, concatMap}
 use Rattle.rules.specs.Limit.{code, _≼_}
 use Rattle.rules.specs.Register.{Delegation, reweigh, withDelegations}
 use Rattle.rules.specs.Support.{allowed}
@@ -23,24 +23,9 @@ use Rattle.block.specs.Block.{countIn, decode}
 use Rattle.block.specs.WellFormed.{wellFormed}
 use Rattle.block.proofs.Bytes.{tabulate-mem}
 use Rattle.block.proofs.Held.{held-formed, delegations-held, record-held}
+use Rattle.block.proofs.Left.{left-all}
 use Rattle.block.specs.Records.{delegationAt, leftTo}
 use Rattle.reckoning.specs.Reckoned.{reachCount, reachAt, Tabled, lesser, weightLeft, RunLowered, Reckoned}
-
--- ── lists ──
-tabulate-last : {A : Type 0} (f : ℕ → A) (i n : ℕ) → tabulate f i (suc n) ≡ tabulate f i n ++ (f (i + n) ∷ [])
-tabulate-last f i zero = λ j. f (sym (add-zero i) j) ∷ []
-tabulate-last f i (suc n) = ap (λ (xs : List _). f i ∷ xs) (tabulate-last f (suc i) n) ∙ ap (λ (m : ℕ). f i ∷ (tabulate f (suc i) n ++ (f m ∷ []))) (suc-add i n ∙ sym (add-suc i n))
-
-concatMap-last : {A B : Type 0} (g : A → List B) (xs : List A) (y : A) → concatMap g (xs ++ (y ∷ [])) ≡ concatMap g xs ++ g y
-concatMap-last g [] y = append-nil (g y)
-concatMap-last g (x ∷ xs) y = ap (λ (ys : List _). g x ++ ys) (concatMap-last g xs y) ∙ sym (append-assoc (g x) (concatMap g xs) (g y))
-
--- what is left of all
-left-all : (f : ℕ → Delegation) (g : Delegation → List Delegation) (w : List ℤ) (n : ℕ) → ((k : ℕ) → k < n → placed (f k) (getD w k (pos 0)) ≡ g (f k)) → leftTo f w n ≡ concatMap g (tabulate f 0 n)
-left-all f g w zero h = refl
-left-all f g w (suc n) h =
-    (λ j. left-all f g w n (λ k q. h k (omega arith)) j ++ h n (omega arith) j)
-    ∙ sym (ap (concatMap g) (tabulate-last f 0 n) ∙ concatMap-last g (tabulate f 0 n) (f (0 + n)) ∙ ap (λ (m : ℕ). concatMap g (tabulate f 0 n) ++ g (f m)) (zero-add n))
 
 -- ── one delegation ──
 -- the weight lowered to a reach is the weight capped by it

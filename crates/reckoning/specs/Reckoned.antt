@@ -16,7 +16,8 @@ use Rattle.rules.specs.Round.{round}
 use Rattle.block.specs.Layout.{mostSubjects, mostRecords}
 use Rattle.block.specs.Records.{HasRecords, delegationAt, leftTo}
 use Rattle.block.specs.Block.{subjectsIn, countIn, recordsIn, decode}
-use Rattle.queue.specs.Queue.{bit, Empty}
+use Rattle.rules.specs.Bits.{bit}
+use Rattle.queue.specs.Queue.{Empty}
 use Rattle.runs.specs.Steps.{Starts}
 use Rattle.search.specs.Found.{Prepared}
 use Rattle.search.specs.Named.{MarksAmong, AllNamed}

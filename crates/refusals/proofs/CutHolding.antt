@@ -1,6 +1,6 @@
--- Refusals of a cut by what the register holds, test by test as the code makes them; and what a cut, or a setting of marks, that is not refused may rely on. Assumes nothing.
+-- Refusals of a cut by what the register holds, test by test as the code makes them; and what a call that makes a change and is not refused may rely on. Assumes nothing.
 use mathlib.Core.Path.{_≡_, refl, sym, ap, _∙_}
-use mathlib.Core.Bool.{true, false, not, _||_}
+use mathlib.Core.Bool.{Bool, true, not}
 use mathlib.Core.List.{List, [], _∷_, _++_}
 use Prim.Native.Nat.{ℕ, suc, _≤_, _<_, zero-le}
 use borrow.Author.Tests.{le-leb}
@@ -9,9 +9,9 @@ use lib.IntN.{ℤ, pos}
 use Rattle.rules.specs.Limit.{code}
 use Rattle.rules.specs.Register.{Register}
 use Rattle.rules.specs.Pair.{isPair, stands}
-use Rattle.rules.specs.Call.{revoke, downgrade, setMarks}
-use Rattle.rules.specs.Refusal.{firstOf, held, notBelow}
-use Rattle.rules.proofs.Lists.{not-not, not-or-left, not-or-right, T-true}
+use Rattle.rules.specs.Call.{revoke, downgrade, setMarks, retire}
+use Rattle.rules.specs.Refusal.{firstOf, subjectsHeld, ownerOnly, held, notBelow}
+use Rattle.rules.proofs.Lists.{not-not, second-not, T-true}
 use Rattle.rules.proofs.Refusals.{numbered, firstOf-append, passes-of}
 use Rattle.block.specs.Bytes.{IsBytes, leading}
 use Rattle.block.specs.Block.{countIn, decode}
@@ -43,12 +43,27 @@ module _ (t : List ℤ) (R : Register) (y g r : ℕ) where
     unfolding held
     downgrade-stands e = let p = passes-of (held t R (downgrade y g r w)) tt e in T-true (stands R g r) (not-not (stands R g r) (p 13))
 
--- the subject whose marks are set is enrolled
-pub marks-enrolled : (t : List ℤ) (R : Register) (y s m : ℕ) → firstOf (held t R (setMarks y s m)) ≡ 0 → s < R .subjects
-unfolding held
-marks-enrolled t R y s m e =
-    let p = passes-of (held t R (setMarks y s m)) tt e in
-    nleb→lt (R .subjects) s (not-or-left (leb (R .subjects) s) false (not-or-right (leb (R .subjects) y) (leb (R .subjects) s || false) (p 9)))
+-- the tests of what only the owner may do to a subject, who is enrolled where none applies
+module _ (t : List ℤ) (R : Register) (y s : ℕ) where
+  abbrev owners : List (ℕ × Bool)
+  owners = subjectsHeld R (y ∷ s ∷ []) ++ (ownerOnly y ∷ [])
+
+  pub marks-owners : (m : ℕ) → firstOf owners ≡ firstOf (held t R (setMarks y s m))
+  unfolding held
+  marks-owners m = refl
+
+  pub retire-owners : firstOf owners ≡ firstOf (held t R (retire y s))
+  unfolding held
+  retire-owners = refl
+
+  owners-enrolled : firstOf owners ≡ 0 → s < R .subjects
+  owners-enrolled e = nleb→lt (R .subjects) s (second-not (leb (R .subjects) y) (leb (R .subjects) s) (passes-of owners tt e 9))
+
+  pub marks-enrolled : (m : ℕ) → firstOf (held t R (setMarks y s m)) ≡ 0 → s < R .subjects
+  marks-enrolled m e = owners-enrolled (marks-owners m ∙ e)
+
+  pub retire-enrolled : firstOf (held t R (retire y s)) ≡ 0 → s < R .subjects
+  retire-enrolled e = owners-enrolled (retire-owners ∙ e)
 
 -- the test of 15, as the code makes it; k is the pair's place
 module _ (b : List ℕ) (bytes : IsBytes b) (formed : wellFormed b ≡ true) (g r k : ℕ) (place : k ≡ leading (λ d. not (isPair g r d)) (delegationsTo b (countIn b))) where

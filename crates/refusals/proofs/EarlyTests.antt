@@ -9,7 +9,7 @@ use borrow.Author.Tests.{eq-eqb}
 use lib.Dec.{T, leb, eqb, eqb→eq, nleb→lt}
 use lib.ListN.{length}
 use lib.IntN.{ℤ}
-use Rattle.rules.specs.Call.{Call, enrol, grant, revoke, downgrade, askReach, askUse, setMarks}
+use Rattle.rules.specs.Call.{Call, enrol, grant, revoke, downgrade, askReach, askUse, setMarks, retire}
 use Rattle.rules.specs.Refusal.{firstOf, passed, held, orderPassed, orderHeld}
 use Rattle.rules.proofs.Refusals.{numbered, passed-numbered, passes-of, firstOf-append, firstOf-none, firstOf-some, firstOf-left}
 use Rattle.rules.proofs.Lists.{not-or-left, eqOr}
@@ -96,6 +96,7 @@ early-numbered n b (downgrade y g r w) = tt
 early-numbered n b (askReach g r) = tt
 early-numbered n b (askUse r) = tt
 early-numbered n b (setMarks y s m) = tt
+early-numbered n b (retire y s) = tt
 
 -- no refusal applies
 pub record Through (g : Given) (b : List ℕ) (c : Call) : Type 0 where

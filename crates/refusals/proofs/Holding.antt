@@ -1,26 +1,30 @@
 -- Refusals by what the register holds, test by test as the code makes them. Assumes nothing.
 use mathlib.Core.Path.{_≡_, refl, sym, ap, subst, _∙_}
 use mathlib.Core.Logic.{_⊎_, inl, inr}
-use mathlib.Core.Bool.{Bool, true, false, not, _&&_, _||_}
-use mathlib.Core.List.{List, [], _∷_}
+use mathlib.Core.Bool.{Bool, true, false, not, cond, _&&_, _||_}
+use mathlib.Core.List.{List, [], _∷_, _++_}
 use Prim.Native.Nat.{ℕ, suc, _≤_, _<_}
 use native.Mathlib.Omega.{arith}
-use borrow.Author.Tests.{leb-false, lt-ltb, le-ltb, le-leb, lt-leb}
-use lib.Dec.{T, leb, ltb, eqb, leb→le, nleb→lt, ltb→lt, nltb→le}
+use borrow.Author.Tests.{lt-ltb, le-ltb, lt-leb}
+use lib.Dec.{T, leb, ltb, eqb, nleb→lt, ltb→lt, nltb→le, not-T}
 use lib.ListN.{length}
 use lib.IntN.{ℤ, pos}
 use lib.Signed.{ltZ}
+use Rattle.rules.specs.List.{any}
+use Rattle.rules.specs.Bits.{isSet}
 use Rattle.rules.specs.Limit.{none, code}
-use Rattle.rules.specs.Register.{Delegation, Register, granted, noDelegation}
+use Rattle.rules.specs.Register.{Delegation, Register, isRetired, granted, noDelegation}
 use Rattle.rules.specs.Reach.{reach}
 use Rattle.rules.specs.Pair.{isPair, weightAt, stands, isRaise, raises}
+use Rattle.rules.specs.WellFormed.{WellFormed}
 use Rattle.rules.specs.Call.{grant}
-use Rattle.rules.specs.Refusal.{firstOf, pairStands, allStand, overweight, held}
-use Rattle.rules.proofs.Lists.{either, T-true, any-mem}
+use Rattle.rules.specs.Refusal.{firstOf, subjectsHeld, pairStands, allStand, overweight, held}
+use Rattle.rules.proofs.Lists.{either, T-true, unset, not-or-left, second-not, any-mem}
+use Rattle.rules.proofs.Bits.{bit-zero}
 use Rattle.rules.proofs.Refusals.{passes-of}
 use Rattle.rules.proofs.Support.{allowed-reach}
 use Rattle.block.specs.Bytes.{IsBytes, leading}
-use Rattle.block.specs.Block.{subjectsIn, countIn, decode}
+use Rattle.block.specs.Block.{countIn, decode}
 use Rattle.block.specs.WellFormed.{wellFormed}
 use Rattle.block.proofs.Held.{held-formed, subjects-held, count-held, record-held, place-held, place-inside, at-place, pair-held, stands-found, stands-missing}
 use Rattle.block.proofs.PairPlace.{weightAt-found, weightAt-missing}
@@ -30,30 +34,39 @@ use Rattle.rules.proofs.Granting.{raises-test, one-raised}
 use Rattle.rules.proofs.Pairs.{pair-test, test-pair}
 use Rattle.refusals.specs.Joined.{orElse}
 use Rattle.refusals.specs.Checked.{BothEnrolled}
-use Rattle.refusals.proofs.Joining.{else-none}
+use Rattle.refusals.proofs.Joining.{else-none, joined, joined-first, any-tests}
 
 pub or-false : (x : Bool) → (x || false) ≡ x
 or-false true = refl
 or-false false = refl
 
--- a strict order, tested the other way round
-pub ltb-leb : (m n : ℕ) → ltb m n ≡ not (leb n m)
-ltb-leb m n = go (either (leb n m))
+-- neither 9 nor 19 applies to the owner
+pub owner-held : (R : Register) → WellFormed R → (xs : List ℕ) → subjectsHeld R xs ≡ subjectsHeld R (0 ∷ xs)
+owner-held R f xs =
+    let enrolled : false ≡ leb (R .subjects) 0 = sym (lt-leb (R .subjects) 0 (f .some)) in
+    let unretired : false ≡ isRetired R 0 = sym (unset (isRetired R 0) (not-T (isRetired R 0) (λ h. f .retired 0 h .1 refl))) in
+    λ j. (9, enrolled j || any (λ x. leb (R .subjects) x) xs) ∷ (19, unretired j || any (isRetired R) xs) ∷ []
+
+-- 9 and 19 of three subjects, tested one after another
+abbrev three : ℕ → (ℕ → Bool) → ℕ → ℕ → ℕ → List (ℕ × Bool)
+three n f x y z = (n, f x || false) ∷ (n, f y || false) ∷ (n, f z || false) ∷ []
+
+pub held-joined : (R : Register) (x y z : ℕ) → joined 0 (three 9 (λ v. leb (R .subjects) v) x y z ++ three 19 (isRetired R) x y z) ≡ firstOf (subjectsHeld R (x ∷ y ∷ z ∷ []))
+held-joined R x y z =
+    joined-first (three 9 (λ v. leb (R .subjects) v) x y z ++ three 19 (isRetired R) x y z) tt ∙ any-tests 9 (λ v. leb (R .subjects) v) (x ∷ y ∷ z ∷ []) (three 19 (isRetired R) x y z)
+    ∙ ap (λ (n : ℕ). cond (any (λ v. leb (R .subjects) v) (x ∷ y ∷ z ∷ [])) 9 n) (any-tests 19 (isRetired R) (x ∷ y ∷ z ∷ []) [])
+
+-- where nobody is retired, 9 alone
+pub held-unretired : (R : Register) (x y z : ℕ) → R .retired ≡ 0 → joined 0 (three 9 (λ v. leb (R .subjects) v) x y z) ≡ firstOf (subjectsHeld R (x ∷ y ∷ z ∷ []))
+held-unretired R x y z e =
+    joined-first (three 9 (λ v. leb (R .subjects) v) x y z) tt ∙ any-tests 9 (λ v. leb (R .subjects) v) (x ∷ y ∷ z ∷ []) []
+    ∙ ap (λ (b : Bool). cond (any (λ v. leb (R .subjects) v) (x ∷ y ∷ z ∷ [])) 9 (cond b 19 0)) (sym unretired)
   where
-    go : T (leb n m) ⊎ T (not (leb n m)) → ltb m n ≡ not (leb n m)
-    go (inl q) = let h = leb→le n m q in rw (le-ltb m n h, le-leb n m h)
-    go (inr q) = let h = nleb→lt n m q in rw (lt-ltb m n h, lt-leb n m h)
+    unset-all : (v : ℕ) → isRetired R v ≡ false
+    unset-all v = ap (λ (n : ℕ). isSet n v) e ∙ ap (λ (n : ℕ). eqb n 1) (bit-zero v)
 
-not-or : (x y : Bool) → not (x || y) ≡ true → (x ≡ false) × (y ≡ false)
-not-or true y e = absurd (subst T (sym e) tt)
-not-or false true e = absurd (subst T (sym e) tt)
-not-or false false e = (refl, refl)
-
--- both are enrolled, as the code tests it
-pub both-in : {b : List ℕ} {g r : ℕ} → wellFormed b ≡ true → not (leb (subjectsIn b) g || leb (subjectsIn b) r) ≡ true → BothEnrolled b g r
-both-in {b} {g} {r} formed e =
-    let (p, q) = not-or (leb (subjectsIn b) g) (leb (subjectsIn b) r) e in
-    record { formed = formed; giver = leb-false (subjectsIn b) g p; receiver = leb-false (subjectsIn b) r q }
+    unretired : any (isRetired R) (x ∷ y ∷ z ∷ []) ≡ false
+    unretired = λ j. unset-all x j || (unset-all y j || (unset-all z j || false))
 
 -- the pair stands, as the code tests it
 pub stands-test : (b : List ℕ) (bytes : IsBytes b) (formed : wellFormed b ≡ true) (g r k : ℕ) → k ≡ leading (λ d. not (isPair g r d)) (delegationsTo b (countIn b)) → ltb k (countIn b) ≡ stands (decode b) g r
@@ -74,14 +87,15 @@ pub weight-missing : (b : List ℕ) (bytes : IsBytes b) (formed : wellFormed b �
     → weightAt (decode b .delegations) g r ≡ none
 weight-missing b bytes formed g r k place l = weightAt-missing g r (decode b .delegations) (omega (arith, place-held b bytes formed g r k place, count-held b bytes formed))
 
-module _ (b : List ℕ) (bytes : IsBytes b) (formed : wellFormed b ≡ true) (g r : ℕ) where
-  -- the test of 9, as the code makes it
-  pub enrolled-test : (leb (decode b .subjects) g || (leb (decode b .subjects) r || false)) ≡ (leb (subjectsIn b) g || leb (subjectsIn b) r)
-  enrolled-test = ap (λ (s : ℕ). leb s g || (leb s r || false)) (subjects-held b bytes formed) ∙ ap (λ (y : Bool). leb (subjectsIn b) g || y) (or-false (leb (subjectsIn b) r))
-
-  -- past the test of 9
-  pub both-of : T (not (leb (decode b .subjects) g || (leb (decode b .subjects) r || false))) → BothEnrolled b g r
-  both-of h = both-in formed (ap not (sym enrolled-test) ∙ T-true _ h)
+-- past the test of 9
+pub both-of : (b : List ℕ) (bytes : IsBytes b) (formed : wellFormed b ≡ true) (g r : ℕ) → T (not (leb (decode b .subjects) g || (leb (decode b .subjects) r || false))) → BothEnrolled b g r
+both-of b bytes formed g r h =
+    let n = subjects-held b bytes formed in
+    record {
+      formed = formed;
+      giver = subst (λ (m : ℕ). g < m) n (nleb→lt (decode b .subjects) g (not-or-left (leb (decode b .subjects) g) (leb (decode b .subjects) r || false) h));
+      receiver = subst (λ (m : ℕ). r < m) n (nleb→lt (decode b .subjects) r (second-not (leb (decode b .subjects) g) (leb (decode b .subjects) r) h));
+    }
 
 -- the test of 16, as the code makes it
 pub heavy-test : (t : List ℤ) (R : Register) (d : Delegation) → overweight t R (d ∷ []) .1 ≡ ltZ (reach t R (d .giver) (d .receiver)) (pos (d .weight))

@@ -6,7 +6,7 @@ use Prim.Native.Nat.{ℕ}
 use lib.Bits.{bitAnd}
 use lib.Dec.{T, eqb, ltb, nltb→le}
 use Rattle.rules.specs.List.{any}
-use Rattle.rules.specs.Call.{Call, enrol, grant, revoke, downgrade, askReach, askUse, setMarks}
+use Rattle.rules.specs.Call.{Call, enrol, grant, revoke, downgrade, askReach, askUse, setMarks, retire}
 use Rattle.rules.specs.Refusal.{firstOf, passed}
 use Rattle.rules.proofs.Lists.{not-or-left, not-or-right}
 use Rattle.rules.proofs.Refusals.{Passes, passes-of, passed-numbered}
@@ -29,6 +29,7 @@ passes-in-limits (downgrade y g r w) p = (subjects (y ∷ g ∷ r ∷ []) (p 2),
 passes-in-limits (askReach g r) p = subjects (g ∷ r ∷ []) (p 2)
 passes-in-limits (askUse r) p = subjects (r ∷ []) (p 2)
 passes-in-limits (setMarks y s m) p = (subjects (y ∷ s ∷ []) (p 2), nltb→le 65535 m (p 4))
+passes-in-limits (retire y s) p = subjects (y ∷ s ∷ []) (p 2)
 
 pub in-limits : (c : Call) → firstOf (passed c) ≡ 0 → InLimits c
 in-limits c e = passes-in-limits c (passes-of (passed c) (passed-numbered c) e)

@@ -1,5 +1,5 @@
 -- Tests joined one after another give the first that applies. Assumes nothing.
-use mathlib.Core.Path.{_≡_, refl, sym, subst, _∙_}
+use mathlib.Core.Path.{_≡_, refl, sym, ap, subst, _∙_}
 use mathlib.Core.Logic.{_≢_}
 use mathlib.Core.Bool.{Bool, true, false, cond, _||_}
 use mathlib.Core.List.{List, [], _∷_, _++_, map}
@@ -10,7 +10,7 @@ use lib.Dec.{T, ltb, eqb, ltb→lt, eqb→eq}
 use Rattle.rules.specs.List.{any}
 use Rattle.rules.specs.Refusal.{firstOf}
 use Rattle.rules.proofs.Lists.{T-left, T-right}
-use Rattle.rules.proofs.Refusals.{numbered}
+use Rattle.rules.proofs.Refusals.{numbered, firstOf-append}
 use Rattle.refusals.specs.Joined.{orElse}
 
 -- a test that does not apply
@@ -21,7 +21,7 @@ else-none n k = go (eqb n 0) refl
     go true e = eqb→eq n 0 (subst T (sym e) tt)
     go false e = refl
 
-abbrev joined : ℕ → List (ℕ × Bool) → ℕ
+abbrev pub joined : ℕ → List (ℕ × Bool) → ℕ
 joined n [] = n
 joined n (p ∷ ps) = joined (orElse n p) ps
 
@@ -37,9 +37,17 @@ joined-on n (p ∷ ps) h = joined-on (orElse n p) ps (T-right (ltb 0 (p .0)) (nu
     go true false e = refl
     go false x e = rw e
 
+-- three tests, each joined to the one before
+pub three-joined : (n : ℕ) (p q r : ℕ × Bool) {n₁ n₂ n₃ : ℕ} → n₁ ≡ orElse n p → n₂ ≡ orElse n₁ q → n₃ ≡ orElse n₂ r → n₃ ≡ joined n (p ∷ q ∷ r ∷ [])
+three-joined n p q r e₁ e₂ e₃ = e₃ ∙ ap (λ (m : ℕ). orElse m r) (e₂ ∙ ap (λ (m : ℕ). orElse m q) e₁)
+
 -- from the first test on
 pub joined-first : (ps : List (ℕ × Bool)) → T (numbered ps) → joined 0 ps ≡ firstOf ps
 joined-first ps h = joined-on 0 ps h
+
+-- after the first that applies of others
+pub joined-after : (ps qs : List (ℕ × Bool)) → T (numbered ps) → T (numbered qs) → joined (firstOf ps) qs ≡ firstOf (ps ++ qs)
+joined-after ps qs h k = joined-on (firstOf ps) qs k ∙ sym (firstOf-append ps qs h)
 
 -- a test of any of several numbers, made one after another
 pub any-tests : (n : ℕ) (f : ℕ → Bool) (xs : List ℕ) (ps : List (ℕ × Bool)) → firstOf (map (λ x. (n, f x || false)) xs ++ ps) ≡ firstOf ((n, any f xs) ∷ ps)

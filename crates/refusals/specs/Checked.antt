@@ -3,7 +3,7 @@ use mathlib.Core.Path.{_≡_}
 use mathlib.Core.Bool.{true}
 use mathlib.Core.List.{List, [], _∷_}
 use Prim.Native.Nat.{ℕ, _≤_, _<_}
-use Rattle.rules.specs.Call.{Call, enrol, grant, revoke, downgrade, askReach, askUse, setMarks}
+use Rattle.rules.specs.Call.{Call, enrol, grant, revoke, downgrade, askReach, askUse, setMarks, retire}
 use Rattle.block.specs.Block.{subjectsIn}
 use Rattle.block.specs.WellFormed.{wellFormed}
 
@@ -21,6 +21,7 @@ InLimits (downgrade y g r w) = Subjects (y ∷ g ∷ r ∷ []) × (w ≤ 255)
 InLimits (askReach g r) = Subjects (g ∷ r ∷ [])
 InLimits (askUse r) = Subjects (r ∷ [])
 InLimits (setMarks y s m) = Subjects (y ∷ s ∷ []) × (m ≤ 65535)
+InLimits (retire y s) = Subjects (y ∷ s ∷ [])
 
 -- past 1, the refusals by what was passed, and 8
 pub record Checked (b : List ℕ) (c : Call) : Type 0 where

@@ -11,7 +11,7 @@ use Rattle.block.specs.Block.{decode}
 use Rattle.block.specs.WellFormed.{wellFormed}
 use Rattle.steptable.specs.declared.Given.{Given}
 
--- 1: the block is not 2,180 bytes
+-- 1: the block is not 2,188 bytes
 abbrev pub wrongLength : List ℕ → ℕ × Bool
 wrongLength b = (1, not (eqb (length b) blockSize))
 

@@ -1,16 +1,16 @@
 // Refusals by what the register holds, on a well-formed block: the number of the first that applies, or 0. Each test has one number and is joined to those before it.
 ghost use mathlib.Core.Path.{_≡_};
-ghost use mathlib.Core.Bool.{true, not, _||_};
-ghost use mathlib.Core.List.{List, [], _∷_};
-ghost use Prim.Native.Nat.{ℕ, _≤_};
-ghost use lib.Dec.{leb};
+ghost use mathlib.Core.Bool.{true, false, _||_};
+ghost use mathlib.Core.List.{List, [], _∷_, _++_};
+ghost use Prim.Native.Nat.{_≤_};
 ghost use lib.IntN.{ℤ};
+ghost use Rattle.rules.specs.Bits.{isSet};
 ghost use Rattle.rules.specs.Table.{TableRule};
 ghost use Rattle.rules.specs.Pair.{stands, isRaise};
 ghost use Rattle.rules.specs.Register.{granted};
-ghost use Rattle.rules.specs.Call.{grant, revoke, downgrade, askReach, setMarks};
-ghost use Rattle.rules.specs.Refusal.{firstOf, notEnrolled, allEnrolled, pairStands, allStand, mayNot, notBelow, overweight, held};
-ghost use Rattle.block.specs.Block.{subjectsIn, decode};
+ghost use Rattle.rules.specs.Call.{grant, revoke, downgrade};
+ghost use Rattle.rules.specs.Refusal.{firstOf, notEnrolled, subjectsHeld, allEnrolled, pairStands, allStand, mayNot, ownerOnly, notBelow, overweight, held};
+ghost use Rattle.block.specs.Block.{decode};
 ghost use Rattle.block.specs.Records.{HasRecord, delegationAt};
 ghost use Rattle.block.specs.WellFormed.{wellFormed};
 ghost use Rattle.refusals.specs.Joined.{orElse};
@@ -19,17 +19,8 @@ use crate::tested;
 use block::layout;
 use rules::refusal;
 
-// Giver and receiver are enrolled.
-pub fn both_enrolled(block: &[u8], giver: u32, receiver: u32) -> bool
-    requires { ⌜ wellFormed (now block) ≡ true ⌝ }
-    ensures { λ r. ⌜ r ≡ not (leb (subjectsIn (now (block .entry))) giver || leb (subjectsIn (now (block .entry))) receiver) ⌝ }
-{
-    let n = block::subjects(block) as u32;
-    if giver >= n {
-        return false;
-    }
-    receiver < n
-}
+// The owner's number.
+const OWNER: u32 = 0;
 
 // The pair stands.
 fn stands(block: &[u8], giver: u32, receiver: u32) -> bool
@@ -41,7 +32,7 @@ fn stands(block: &[u8], giver: u32, receiver: u32) -> bool
 }
 
 // 9: a subject is not enrolled.
-pub fn not_enrolled(n: u32, block: &[u8], subject: u32) -> u32
+fn not_enrolled(n: u32, block: &[u8], subject: u32) -> u32
     requires { ⌜ wellFormed (now block) ≡ true ⌝ }
     ensures { λ r. ⌜ r ≡ orElse n (notEnrolled (decode (now (block .entry))) (subject ∷ [])) ⌝ }
 {
@@ -50,6 +41,46 @@ pub fn not_enrolled(n: u32, block: &[u8], subject: u32) -> u32
         refusal::NOT_ENROLLED,
         subject >= block::subjects(block) as u32,
     )
+}
+
+// 19: a subject is retired, by the bits of the retired ones.
+fn gone(n: u32, retired: u64, subject: u32) -> u32
+    ensures { λ r. ⌜ r ≡ orElse n (19, isSet retired subject || false) ⌝ }
+{
+    tested(n, refusal::RETIRED, block::is_retired(retired, subject))
+}
+
+// 9 and 19 of the three subjects that a call names: 9 of any comes first. A call that names fewer passes the owner, to whom neither applies.
+pub fn subjects_held(block: &[u8], first: u32, second: u32, third: u32) -> u32
+    requires { ⌜ wellFormed (now block) ≡ true ⌝ }
+    ensures { λ r. ⌜ r ≡ firstOf (subjectsHeld (decode (now (block .entry))) (first ∷ second ∷ third ∷ [])) ⌝ }
+{
+    let n = not_enrolled(0, block, first);
+    let n = not_enrolled(n, block, second);
+    let n = not_enrolled(n, block, third);
+    let retired = block::retired(block);
+    if retired == 0 {
+        return n;
+    }
+    let n = gone(n, retired, first);
+    let n = gone(n, retired, second);
+    gone(n, retired, third)
+}
+
+// Of a use, and of the order call.
+pub fn subject_held(block: &[u8], subject: u32) -> u32
+    requires { ⌜ wellFormed (now block) ≡ true ⌝ }
+    ensures { λ r. ⌜ r ≡ firstOf (subjectsHeld (decode (now (block .entry))) (subject ∷ [])) ⌝ }
+{
+    subjects_held(block, OWNER, OWNER, subject)
+}
+
+// Of a reach, and of every call that names a pair.
+pub fn pair_held(block: &[u8], giver: u32, receiver: u32) -> u32
+    requires { ⌜ wellFormed (now block) ≡ true ⌝ }
+    ensures { λ r. ⌜ r ≡ firstOf (subjectsHeld (decode (now (block .entry))) (giver ∷ receiver ∷ [])) ⌝ }
+{
+    subjects_held(block, OWNER, giver, receiver)
 }
 
 // 10: 64 subjects enrolled.
@@ -151,15 +182,6 @@ fn overweight(
     tested(0, refusal::OVERWEIGHT, reach < weight as i16)
 }
 
-// Of a reach.
-pub fn reach_held(block: &[u8], giver: u32, receiver: u32) -> u32
-    requires { ⌜ wellFormed (now block) ≡ true ⌝ }
-    ensures { λ r. ⌜ ((t : List ℤ) → r ≡ firstOf (held t (decode (now (block .entry))) (askReach giver receiver))) ⌝ }
-{
-    let n = not_enrolled(0, block, giver);
-    not_enrolled(n, block, receiver)
-}
-
 // Of a grant.
 pub fn grant_held(
     block: &[u8],
@@ -173,8 +195,7 @@ pub fn grant_held(
     requires { ⌜ Checked (now block) (grant (granted giver receiver weight need bar)) × TableRule (now table) ⌝ }
     ensures { λ r. ⌜ r ≡ firstOf (held (now (table .entry)) (decode (now (block .entry))) (grant (granted giver receiver weight need bar))) ⌝ }
 {
-    let n = not_enrolled(0, block, giver);
-    let n = not_enrolled(n, block, receiver);
+    let n = pair_held(block, giver, receiver);
     let n = no_place(n, block, giver, receiver, weight, need, bar);
     overweight(n, block, table, giver, receiver, weight, need, bar)
 }
@@ -184,9 +205,7 @@ pub fn revoke_held(block: &[u8], by: u32, giver: u32, receiver: u32) -> u32
     requires { ⌜ Checked (now block) (revoke by giver receiver) ⌝ }
     ensures { λ r. ⌜ ((t : List ℤ) → r ≡ firstOf (held t (decode (now (block .entry))) (revoke by giver receiver))) ⌝ }
 {
-    let n = not_enrolled(0, block, by);
-    let n = not_enrolled(n, block, giver);
-    let n = not_enrolled(n, block, receiver);
+    let n = subjects_held(block, by, giver, receiver);
     let n = tested(n, refusal::NO_PAIR, !stands(block, giver, receiver));
     may_not(n, by, giver)
 }
@@ -200,12 +219,11 @@ pub fn downgrade_held(block: &[u8], by: u32, giver: u32, receiver: u32, weight: 
     not_below(n, block, giver, receiver, weight)
 }
 
-// Of setting marks, which only the owner may.
-pub fn marks_held(block: &[u8], by: u32, subject: u32) -> u32
+// Of what only the owner may do to a subject: set its marks, retire it.
+pub fn owner_held(block: &[u8], by: u32, subject: u32) -> u32
     requires { ⌜ wellFormed (now block) ≡ true ⌝ }
-    ensures { λ r. ⌜ ((t : List ℤ) (marks : ℕ) → r ≡ firstOf (held t (decode (now (block .entry))) (setMarks by subject marks))) ⌝ }
+    ensures { λ r. ⌜ r ≡ firstOf (subjectsHeld (decode (now (block .entry))) (by ∷ subject ∷ []) ++ (ownerOnly by ∷ [])) ⌝ }
 {
-    let n = not_enrolled(0, block, by);
-    let n = not_enrolled(n, block, subject);
-    may_not(n, by, 0)
+    let n = pair_held(block, by, subject);
+    may_not(n, by, OWNER)
 }

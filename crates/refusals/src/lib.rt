@@ -12,13 +12,13 @@ ghost use lib.IntN.{ℤ};
 ghost use lib.ListN.{length, take};
 ghost use Rattle.rules.specs.Table.{TableRule};
 ghost use Rattle.rules.specs.Register.{granted};
-ghost use Rattle.rules.specs.Call.{enrol, grant, revoke, downgrade, askReach, askUse, setMarks};
+ghost use Rattle.rules.specs.Call.{enrol, grant, revoke, downgrade, askReach, askUse, setMarks, retire};
 ghost use Rattle.rules.specs.Refusal.{firstOf};
 ghost use Rattle.steptable.specs.TableText.{lent, ours};
 ghost use Rattle.refusals.specs.Early.{wrongLength, textRefused, notWellFormed, refusalOn, orderRefusal};
 ghost use Rattle.refusals.specs.Joined.{orElse};
 use block::layout;
-pub use held::both_enrolled;
+pub use held::pair_held;
 pub use passed::pair_passed;
 use rules::refusal;
 
@@ -76,7 +76,7 @@ pub fn use_refusal(block: &[u8], receiver: u32) -> u32
     if n != 0 {
         return n;
     }
-    held::not_enrolled(0, block, receiver)
+    held::subject_held(block, receiver)
 }
 
 // Of a reach, where the step table's text is refused with `fault` or passes. Only a grant looks at the table: the others promise theirs for every table.
@@ -87,7 +87,7 @@ pub fn reach_refusal(block: &[u8], fault: u32, giver: u32, receiver: u32) -> u32
     if n != 0 {
         return n;
     }
-    held::reach_held(block, giver, receiver)
+    held::pair_held(block, giver, receiver)
 }
 
 // Of a grant, by a step table.
@@ -156,7 +156,18 @@ pub fn marks_refusal(block: &[u8], fault: u32, by: u32, subject: u32, marks: u32
     if n != 0 {
         return n;
     }
-    held::marks_held(block, by, subject)
+    held::owner_held(block, by, subject)
+}
+
+// Of retiring a subject.
+pub fn retire_refusal(block: &[u8], fault: u32, by: u32, subject: u32) -> u32
+    ensures { λ r. ⌜ ((t : List ℤ) → r ≡ refusalOn (lent fault t) (now (block .entry)) (retire by subject)) ⌝ }
+{
+    let n = early(block, passed::retire_passed(by, subject), fault);
+    if n != 0 {
+        return n;
+    }
+    held::owner_held(block, by, subject)
 }
 
 // Of the order call, its lent buffer aside.
@@ -167,7 +178,7 @@ pub fn order_refusal(block: &[u8], fault: u32, receiver: u32) -> u32
     if n != 0 {
         return n;
     }
-    held::not_enrolled(0, block, receiver)
+    held::subject_held(block, receiver)
 }
 
 // What a call that fills a lent buffer tells and hands back: its refusal, 0 when accepted, and the filled front of the buffer.

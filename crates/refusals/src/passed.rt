@@ -2,7 +2,7 @@
 ghost use mathlib.Core.Path.{_≡_};
 ghost use mathlib.Core.List.{[], _∷_};
 ghost use Rattle.rules.specs.Register.{granted};
-ghost use Rattle.rules.specs.Call.{enrol, grant, revoke, downgrade, askReach, askUse, setMarks};
+ghost use Rattle.rules.specs.Call.{enrol, grant, revoke, downgrade, askReach, askUse, setMarks, retire};
 ghost use Rattle.rules.specs.Refusal.{firstOf, noSubject, noWeight, noMarks, noCondition, equalPair, toOwner, passed, orderPassed};
 ghost use Rattle.refusals.specs.Joined.{orElse};
 use crate::tested;
@@ -127,5 +127,14 @@ pub fn marks_passed(by: u32, subject: u32, marks: u32) -> u32
     let n = no_subject(0, by);
     let n = no_subject(n, subject);
     let n = no_marks(n, marks);
+    to_owner(n, subject)
+}
+
+// Of retiring a subject.
+pub fn retire_passed(by: u32, subject: u32) -> u32
+    ensures { λ r. ⌜ r ≡ firstOf (passed (retire by subject)) ⌝ }
+{
+    let n = no_subject(0, by);
+    let n = no_subject(n, subject);
     to_owner(n, subject)
 }

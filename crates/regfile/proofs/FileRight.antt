@@ -1,19 +1,22 @@
 -- What is read of a text is fixed by the texts of registers alone; two registers have two texts. Assumes nothing.
 use mathlib.Core.Path.{_≡_, refl, sym, ap, subst, _∙_}
 use mathlib.Core.Logic.{_≢_, _⊎_, inl, inr}
-use mathlib.Core.Bool.{Bool, true, false, _&&_}
-use mathlib.Core.List.{List, [], _∷_, _++_, map, append-nil, append-assoc, List·Memᴰ·head, List·Memᴰ·tail}
-use Prim.Native.Nat.{ℕ, zero, suc, _+_, _%_, _≤_}
-use native.Mathlib.Nat.{mod-lt, mod-eq-of-lt}
+use mathlib.Core.Bool.{Bool, true, false, not, _&&_}
+use mathlib.Core.List.{List, [], _∷_, _++_, map, append-nil, append-assoc, List·Memᴰ·head, List·Memᴰ·tail, List·Memᴰ·not-nil}
+use Prim.Native.Nat.{ℕ, zero, suc, _+_, _*_, _/_, _%_, _^_, _≤_, _<_}
+use native.Mathlib.Nat.{mod-lt, mod-eq-of-lt, zero-add, add-zero, add-suc, suc-add, le-of-suc-le-suc}
 use native.Mathlib.Omega.{arith}
-use lib.Dec.{T, eqb, leb→le, le→leb, eqb→eq}
+use lib.Dec.{T, eqb, ltb, leb→le, le→leb, eqb→eq, ltb→lt, nltb→le}
 use lib.IntN.{ℤ, pos, negsuc}
-use lib.ListN.{length, drop}
+use lib.ListN.{length, getD, drop, length-map, List·getD-eq-default}
 use Rattle.rules.specs.List.{_∈_, concatMap}
+use Rattle.rules.specs.Bits.{bit}
 use Rattle.rules.specs.Register.{Delegation, Register}
 use Rattle.rules.specs.WellFormed.{DelegationFormed, WellFormed}
 use Rattle.rules.specs.Round.{equal}
-use Rattle.rules.proofs.Lists.{T-left, T-right, T-both, T-true, yes, eq→eqb}
+use Rattle.rules.proofs.Lists.{T-left, T-right, T-both, T-true, yes, eq→eqb, either}
+use Rattle.rules.proofs.Bits.{bit-zero, bit-small, bit-high, bits-same}
+use Rattle.rules.proofs.Retired.{retired-room}
 use Rattle.rules.proofs.Rounds.{equal-refl, equal→eq}
 use Rattle.block.specs.Bytes.{IsBytes}
 use Rattle.block.specs.Block.{decode, encode}
@@ -25,7 +28,7 @@ use Rattle.text.specs.Text.{line, most, Allowed, AllAllowed}
 use Rattle.text.specs.Bytes.{bytesOf}
 use Rattle.text.specs.Rows.{rows}
 use Rattle.text.proofs.Rows.{rows-line, rows-none, rows-empty, above, rows-names}
-use Rattle.regfile.specs.FileText.{subjectNames, delegationNames, subjectRows, delegationRow, subjectColumns, delegationColumns, rowsOf, fileOf, fileText, AreRows, FileLines, Filed, passingFile, refusedFile, rowsBefore, rowsAfter, subjectsOf, delegationsOf, plain, allPlain, areRows, isFile, valueAt, delegationOf, blockOf, judged, filedFrom, filed, FiledRight}
+use Rattle.regfile.specs.FileText.{subjectNames, delegationNames, subjectRows, delegationRow, subjectColumns, delegationColumns, rowsOf, fileOf, fileText, AreRows, FileLines, Filed, passingFile, refusedFile, rowsBefore, rowsAfter, subjectsOf, delegationsOf, plain, allPlain, areRows, isFile, valueAt, delegationOf, bitsOf, registerOf, blockOf, judged, filedFrom, filed, FiledRight}
 
 -- ── the test of a text's form ──
 plain-test : (z : ℤ) → Allowed false z → T (plain z)
@@ -97,7 +100,7 @@ module _ (w : ℕ) where
 
 -- the lines of names without their last byte
 abbrev names : List ℕ
-names = bytesOf "subject marks"
+names = bytesOf "subject marks retired"
 
 moreNames : List ℕ
 moreNames = bytesOf "giver receiver weight need bar"
@@ -124,13 +127,13 @@ module _ (ss ds : List (List ℤ)) (a : AreRows subjectColumns ss) (b : AreRows 
   file-rows =
       ap (λ (t : List ℕ). drop 1 (rows t)) (names-split (concatMap line ss ++ (delegationNames ++ concatMap line ds)))
       ∙ rows-names names (concatMap line ss ++ (delegationNames ++ concatMap line ds)) tt
-      ∙ rows-lines 1 ss (delegationNames ++ concatMap line ds) a
+      ∙ rows-lines 2 ss (delegationNames ++ concatMap line ds) a
       ∙ ap (λ (t : List ℕ). ss ++ rows t) (more-split (concatMap line ds))
       ∙ ap (λ (x : List (List ℤ)). ss ++ x) (rows-empty (moreNames ++ (10 ∷ concatMap line ds)))
 
   subjects-of : subjectsOf (fileOf ss ds) ≡ ss
   unfolding subjectsOf
-  subjects-of = ap rowsBefore file-rows ∙ before-rows 1 ss rest a
+  subjects-of = ap rowsBefore file-rows ∙ before-rows 2 ss rest a
 
   lines-rows : rows (concatMap line ds) ≡ ds
   lines-rows = ap rows (sym (append-nil (concatMap line ds))) ∙ rows-lines 4 ds [] b ∙ ap (λ (x : List (List ℤ)). ds ++ x) rows-none ∙ append-nil ds
@@ -139,7 +142,7 @@ module _ (ss ds : List (List ℤ)) (a : AreRows subjectColumns ss) (b : AreRows 
   unfolding delegationsOf rest
   delegations-of =
       ap (λ (x : List (List ℤ)). drop 1 (rowsAfter x)) file-rows
-      ∙ ap (drop 1) (after-rows 1 ss rest a)
+      ∙ ap (drop 1) (after-rows 2 ss rest a)
       ∙ rows-names moreNames (concatMap line ds) more-above
       ∙ lines-rows
 
@@ -170,15 +173,46 @@ bytes-cut (x ∷ s) h = let e : x % 256 ≡ x = mod-eq-of-lt (h 0) in let t = by
 
 block-bytes : (ss ds : List (List ℤ)) → IsBytes (blockOf ss ds)
 unfolding blockOf
-block-bytes ss ds = cut-bytes (encode record { subjects = length ss; marks = map (λ row. valueAt row 1) ss; delegations = map delegationOf ds })
+block-bytes ss ds = cut-bytes (encode (registerOf ss ds))
 
-pub subject-marks : (s : ℕ) (ms : List ℕ) → map (λ row. valueAt row 1) (subjectRows s ms) ≡ ms
-subject-marks s [] = refl
-subject-marks s (m ∷ ms) = ap (λ (x : List ℕ). m ∷ x) (subject-marks (suc s) ms)
+pub subject-marks : (n s : ℕ) (ms : List ℕ) → map (λ row. valueAt row 1) (subjectRows n s ms) ≡ ms
+subject-marks n s [] = refl
+subject-marks n s (m ∷ ms) = ap (λ (x : List ℕ). m ∷ x) (subject-marks n (suc s) ms)
 
-pub length-subjects : (s : ℕ) (ms : List ℕ) → length (subjectRows s ms) ≡ length ms
-length-subjects s [] = refl
-length-subjects s (m ∷ ms) = ap suc (length-subjects (suc s) ms)
+pub length-subjects : (n s : ℕ) (ms : List ℕ) → length (subjectRows n s ms) ≡ length ms
+length-subjects n s [] = refl
+length-subjects n s (m ∷ ms) = ap suc (length-subjects n (suc s) ms)
+
+-- the bits of the number with these bits
+bits-of : (vs : List ℕ) → ((v : ℕ) → v ∈ vs → v < 2) → (y : ℕ) → bit (bitsOf vs) y ≡ getD vs y 0
+bits-of [] h y = bit-zero y
+bits-of (v ∷ vs) h zero = omega (arith, h v (List·Memᴰ·head refl))
+bits-of (v ∷ vs) h (suc y) = let e : (v + 2 * bitsOf vs) / 2 ≡ bitsOf vs = omega (arith, h v (List·Memᴰ·head refl)) in ap (λ (n : ℕ). bit n y) e ∙ bits-of vs (λ x i. h x (List·Memᴰ·tail i)) y
+
+-- the third values of subjects' rows are bits
+third-small : (n s : ℕ) (ms : List ℕ) (v : ℕ) → v ∈ map (λ row. valueAt row 2) (subjectRows n s ms) → v < 2
+third-small n s [] v i = absurd (List·Memᴰ·not-nil i)
+third-small n s (m ∷ ms) v (List·Memᴰ·head e) = subst (λ (x : ℕ). x < 2) (sym e) (bit-small n s)
+third-small n s (m ∷ ms) v (List·Memᴰ·tail i) = third-small n (suc s) ms v i
+
+pub third-bits : (n s : ℕ) (ms : List ℕ) (y : ℕ) → y < length ms → getD (map (λ row. valueAt row 2) (subjectRows n s ms)) y 0 ≡ bit n (s + y)
+third-bits n s [] y l = absurd (omega arith)
+third-bits n s (m ∷ ms) zero l = ap (bit n) (sym (add-zero s))
+third-bits n s (m ∷ ms) (suc y) l = third-bits n (suc s) ms y (le-of-suc-le-suc l) ∙ ap (bit n) (suc-add s y ∙ sym (add-suc s y))
+
+-- the bits of the enrolled subjects are those of the rows
+module _ (n : ℕ) (ms : List ℕ) where
+  abbrev thirds : List ℕ
+  thirds = map (λ row. valueAt row 2) (subjectRows n 0 ms)
+
+  pub subject-bits : n < 2 ^ length ms → bitsOf thirds ≡ n
+  subject-bits h = bits-same (bitsOf thirds) n (λ y. bits-of thirds (third-small n 0 ms) y ∙ same y (either (ltb y (length ms))))
+    where
+      same : (y : ℕ) → T (ltb y (length ms)) ⊎ T (not (ltb y (length ms))) → getD thirds y 0 ≡ bit n y
+      same y (inl l) = third-bits n 0 ms y (ltb→lt y (length ms) l) ∙ ap (bit n) (zero-add y)
+      same y (inr l) =
+          let k = nltb→le y (length ms) l in
+          List·getD-eq-default thirds 0 (omega (arith, length-map (subjectRows n 0 ms) (λ row. valueAt row 2), length-subjects n 0 ms)) ∙ sym (bit-high n (length ms) y h k)
 
 pub delegation-rows : (ds : List Delegation) → map delegationOf (map delegationRow ds) ≡ ds
 delegation-rows [] = refl
@@ -188,16 +222,17 @@ module _ (R : Register) (f : WellFormed R) where
   block-of : blockOf (rowsOf subjectColumns R) (rowsOf delegationColumns R) ≡ encode R
   unfolding blockOf
   block-of =
-      let n : length (subjectRows 0 (R .marks)) ≡ R .subjects = length-subjects 0 (R .marks) ∙ f .marked in
-      let m = subject-marks 0 (R .marks) in
+      let n : length (subjectRows (R .retired) 0 (R .marks)) ≡ R .subjects = length-subjects (R .retired) 0 (R .marks) ∙ f .marked in
+      let m = subject-marks (R .retired) 0 (R .marks) in
+      let r = subject-bits (R .retired) (R .marks) (subst (λ (k : ℕ). R .retired < 2 ^ k) (sym (f .marked)) (retired-room R f)) in
       let d = delegation-rows (R .delegations) in
-      (λ i. map (λ x. x % 256) (encode record { subjects = n i; marks = m i; delegations = d i })) ∙ bytes-cut (encode R) (bytes-encode R f)
+      (λ i. map (λ x. x % 256) (encode record { subjects = n i; marks = m i; retired = r i; delegations = d i })) ∙ bytes-cut (encode R) (bytes-encode R f)
 
 -- ── the rows of a well-formed register ──
-subject-formed : (s : ℕ) (ms : List ℕ) → s + length ms ≤ most → ((m : ℕ) → m ∈ ms → m ≤ 65535) → AreRows subjectColumns (subjectRows s ms)
-subject-formed s [] l h = tt
-subject-formed s (m ∷ ms) l h =
-    (refl, (omega arith, (omega (arith, h m (List·Memᴰ·head refl)), tt)), subject-formed (suc s) ms (omega arith) (λ x i. h x (List·Memᴰ·tail i)))
+subject-formed : (n s : ℕ) (ms : List ℕ) → s + length ms ≤ most → ((m : ℕ) → m ∈ ms → m ≤ 65535) → AreRows subjectColumns (subjectRows n s ms)
+subject-formed n s [] l h = tt
+subject-formed n s (m ∷ ms) l h =
+    (refl, (omega arith, (omega (arith, h m (List·Memᴰ·head refl)), (omega (arith, bit-small n s), tt))), subject-formed n (suc s) ms (omega arith) (λ x i. h x (List·Memᴰ·tail i)))
 
 delegations-formed : (n : ℕ) (ds : List Delegation) → n ≤ 64 → ((d : Delegation) → d ∈ ds → DelegationFormed n d) → AreRows delegationColumns (map delegationRow ds)
 delegations-formed n [] l h = tt
@@ -208,7 +243,7 @@ delegations-formed n (d ∷ ds) l h =
 pub formed-lines : (R : Register) → WellFormed R → FileLines (fileText R) (rowsOf subjectColumns R) (rowsOf delegationColumns R)
 unfolding fileText
 formed-lines R f = record {
-  subjects = subject-formed 0 (R .marks) (omega (arith, f .marked, f .most)) (f .marks);
+  subjects = subject-formed (R .retired) 0 (R .marks) (omega (arith, f .marked, f .most)) (f .marks);
   delegations = delegations-formed (R .subjects) (R .delegations) (f .most) (f .each);
   same = refl;
 }

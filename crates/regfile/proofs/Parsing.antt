@@ -3,7 +3,7 @@ use mathlib.Core.Path.{_≡_, refl, sym, ap, subst, _∙_}
 use mathlib.Core.Logic.{_≢_, inl, inr}
 use mathlib.Core.Bool.{Bool, true, false}
 use mathlib.Core.List.{List, [], _∷_, _++_, map, append-assoc, append-nil, List·Memᴰ·not-nil}
-use Prim.Native.Nat.{ℕ, suc, _+_, _-_, _≤_, _<_}
+use Prim.Native.Nat.{ℕ, suc, _+_, _-_, _^_, _≤_, _<_}
 use native.Mathlib.Omega.{arith}
 use lib.IntN.{ℤ, pos, negsuc}
 use lib.ListN.{length, getD, take, drop, length-append, length-drop, drop-of-length-le}
@@ -15,7 +15,7 @@ use Rattle.rules.proofs.Lists.{clash, T-true}
 use Rattle.block.specs.Block.{decode, encode}
 use Rattle.block.specs.WellFormed.{wellFormed}
 use Rattle.block.specs.Fits.{Fits, Fitting, empty}
-use Rattle.block.proofs.Fitting.{encode-fitting, decode-encode}
+use Rattle.block.proofs.Fitting.{encode-fitting, decode-encode, formed-fits}
 use Rattle.block.proofs.Form.{encode-formed}
 use Rattle.block.proofs.Held.{fits-formed}
 use Rattle.text.specs.Text.{line, AllAllowed}
@@ -24,10 +24,10 @@ use Rattle.text.proofs.Rows.{rows-line, rows-empty}
 use Rattle.text.proofs.Sizes.{line-long}
 use Rattle.text.proofs.Injective.{line-inj}
 use Rattle.text.specs.Rows.{rows}
-use Rattle.regfile.specs.FileText.{subjectNames, delegationNames, subjectColumns, delegationColumns, subjectRows, delegationRow, rowsOf, fileOf, fileText, AreRows, FileLines, Filed, refusedFile, passingFile, valueAt, delegationOf, filed}
+use Rattle.regfile.specs.FileText.{subjectNames, delegationNames, subjectColumns, delegationColumns, subjectRows, delegationRow, rowsOf, fileOf, fileText, AreRows, FileLines, Filed, refusedFile, passingFile, valueAt, delegationOf, bitsOf, filed}
 use Rattle.regfile.specs.Parsed.{withRow, withRows, RowsHeld, RowsLent, RowsRead, Parsed}
 use Rattle.regfile.specs.declared.Rows.{Rows}
-use Rattle.regfile.proofs.FileRight.{filed-right, known-rows, subject-marks, delegation-rows}
+use Rattle.regfile.proofs.FileRight.{filed-right, known-rows, subject-marks, subject-bits, delegation-rows}
 
 -- ── lines one after another ──
 
@@ -70,21 +70,29 @@ marks-stay : (R : Register) (rs : List (List ℤ)) → withRows delegationColumn
 marks-stay R [] = refl
 marks-stay R (r ∷ rs) = marks-stay (withRow delegationColumns R r) rs
 
+retired-stay : (R : Register) (rs : List (List ℤ)) → withRows delegationColumns R rs .retired ≡ R .retired
+retired-stay R [] = refl
+retired-stay R (r ∷ rs) = retired-stay (withRow delegationColumns R r) rs
+
 delegations-stay : (R : Register) (rs : List (List ℤ)) → withRows subjectColumns R rs .delegations ≡ R .delegations
 delegations-stay R [] = refl
 delegations-stay R (r ∷ rs) = delegations-stay (withRow subjectColumns R r) rs
 
 -- two registers with the same rows
-same-rows : (R S : Register) → length (R .marks) ≡ R .subjects → length (S .marks) ≡ S .subjects → rowsOf subjectColumns R ≡ rowsOf subjectColumns S → rowsOf delegationColumns R ≡ rowsOf delegationColumns S → R ≡ S
+same-rows : (R S : Register) → Fits R → Fits S → rowsOf subjectColumns R ≡ rowsOf subjectColumns S → rowsOf delegationColumns R ≡ rowsOf delegationColumns S → R ≡ S
 same-rows R S a b p q =
-    let m : R .marks ≡ S .marks = sym (subject-marks 0 (R .marks)) ∙ ap (map (λ row. valueAt row 1)) p ∙ subject-marks 0 (S .marks) in
-    let n : R .subjects ≡ S .subjects = sym a ∙ ap length m ∙ b in
+    let m : R .marks ≡ S .marks = sym (subject-marks (R .retired) 0 (R .marks)) ∙ ap (map (λ row. valueAt row 1)) p ∙ subject-marks (S .retired) 0 (S .marks) in
+    let n : R .subjects ≡ S .subjects = sym (a .marked) ∙ ap length m ∙ b .marked in
+    let r : R .retired ≡ S .retired = sym (subject-bits (R .retired) (R .marks) (room R a)) ∙ ap (λ (rs : List (List ℤ)). bitsOf (map (λ row. valueAt row 2) rs)) p ∙ subject-bits (S .retired) (S .marks) (room S b) in
     let d : R .delegations ≡ S .delegations = sym (delegation-rows (R .delegations)) ∙ ap (map delegationOf) q ∙ delegation-rows (S .delegations) in
-    λ i. record { subjects = n i; marks = m i; delegations = d i }
+    λ i. record { subjects = n i; marks = m i; retired = r i; delegations = d i }
+  where
+    room : (X : Register) → Fits X → X .retired < 2 ^ length (X .marks)
+    room X f = subst (λ (k : ℕ). X .retired < 2 ^ k) (sym (f .marked)) (f .bits)
 
 -- no subject and no delegation have room
 pub empty-fits : Fits empty
-empty-fits = record { most = omega arith; marked = refl; marks = λ m i. absurd (List·Memᴰ·not-nil i); few = omega arith; each = λ d i. absurd (List·Memᴰ·not-nil i) }
+empty-fits = record { most = omega arith; marked = refl; marks = λ m i. absurd (List·Memᴰ·not-nil i); bits = omega arith; few = omega arith; each = λ d i. absurd (List·Memᴰ·not-nil i) }
 
 -- ── what is returned ──
 refused-text : (text : List ℕ) (n : ℕ) (after : List ℕ) → n ≢ 0 → filed text ≡ refusedFile n → Parsed text n after
@@ -99,15 +107,15 @@ module _ (text : List ℕ) where
   no-names b after m e = other-form after (λ ss ds h. m .no e (concatMap line ss ++ (delegationNames ++ concatMap line ds)) (h .same))
 
   -- where the rows of subjects begin
-  pub names-after : (s : List ℕ) → text ≡ subjectNames ++ s → drop 14 text ≡ s
+  pub names-after : (s : List ℕ) → text ≡ subjectNames ++ s → drop 22 text ≡ s
   unfolding subjectNames
-  names-after s e = ap (drop 14) e
+  names-after s e = ap (drop 22) e
 
   -- what the reading of the subjects' rows is lent
-  pub rows-lent : (n : Bool) → Begins text subjectNames n → n ≡ true → (b : List ℕ) → b ≡ encode empty → RowsLent text 14 (pos 0 ∷ pos 0 ∷ []) b true
+  pub rows-lent : (n : Bool) → Begins text subjectNames n → n ≡ true → (b : List ℕ) → b ≡ encode empty → RowsLent text 22 (pos 0 ∷ pos 0 ∷ pos 0 ∷ []) b true
   unfolding subjectNames
   rows-lent n m e b s = record {
-    within = omega (arith, ap length (m .yes e), length-append subjectNames (drop 14 text));
+    within = omega (arith, ap length (m .yes e), length-append subjectNames (drop 22 text));
     columns = inl refl;
     block = λ t. subst Fitting (sym s) (encode-fitting empty empty-fits);
   }
@@ -116,12 +124,12 @@ module _ (text : List ℕ) where
   pub middle : (at : ℕ) (b : Bool) → Begins (take (length text - at) (drop at text)) delegationNames b → Begins (drop at text) delegationNames b
   middle at b m = subst (λ (s : List ℕ). Begins s delegationNames b) (take-all (length text - at) (drop at text) (omega (arith, length-drop at text))) m
 
-  module _ (b₀ b₁ : List ℕ) (start : b₀ ≡ encode empty) (r₁ : Rows) (m₁ : RowsRead text 14 subjectColumns (decode b₀) true r₁ b₁) where
+  module _ (b₀ b₁ : List ℕ) (start : b₀ ≡ encode empty) (r₁ : Rows) (m₁ : RowsRead text 22 subjectColumns (decode b₀) true r₁ b₁) where
     -- the text goes on after the subjects of every file
     module _ (ss ds : List (List ℤ)) (h : FileLines text ss ds) where
       subjects-known : (m₁ .rows ≡ ss) × (drop (r₁ .next) text ≡ delegationNames ++ concatMap line ds)
       subjects-known =
-          lines-unique subjectColumns (m₁ .rows) ss (drop (r₁ .next) text) (delegationNames ++ concatMap line ds) (m₁ .formed) (h .subjects) (m₁ .last) (names-apart 1 (concatMap line ds))
+          lines-unique subjectColumns (m₁ .rows) ss (drop (r₁ .next) text) (delegationNames ++ concatMap line ds) (m₁ .formed) (h .subjects) (m₁ .last) (names-apart 2 (concatMap line ds))
           (sym (m₁ .front) ∙ names-after (concatMap line ss ++ (delegationNames ++ concatMap line ds)) (h .same))
 
     pub no-middle : (b : Bool) (after : List ℕ) → Begins (drop (r₁ .next) text) delegationNames b → b ≡ false → Parsed text 7 after
@@ -154,7 +162,7 @@ module _ (text : List ℕ) where
 
       -- ── the text has its form ──
       module _ (n₁ n₂ : Bool) (p₁ : Begins text subjectNames n₁) (q₁ : n₁ ≡ true) (p₂ : Begins (drop (r₁ .next) text) delegationNames n₂) (q₂ : n₂ ≡ true) (end : length text ≤ r₂ .next) where
-        first : text ≡ subjectNames ++ drop 14 text
+        first : text ≡ subjectNames ++ drop 22 text
         unfolding subjectNames
         first = p₁ .yes q₁
 
@@ -220,11 +228,11 @@ module _ (text : List ℕ) where
 
           subjects₂ : rowsOf subjectColumns S₂ ≡ m₁ .rows
           unfolding S₂
-          subjects₂ = ap (subjectRows 0) (marks-stay (S₁ k₁) (m₂ .rows)) ∙ held₁ k₁ .same
+          subjects₂ = (λ j. subjectRows (retired-stay (S₁ k₁) (m₂ .rows) j) 0 (marks-stay (S₁ k₁) (m₂ .rows) j)) ∙ held₁ k₁ .same
 
           pub not-well-formed : (after : List ℕ) → wellFormed b₂ ≡ false → Parsed text 8 after
           not-well-formed after w = not-formed after (λ R f e.
-              let q : R ≡ S₂ = same-rows R S₂ (f .marked) (held₂ .fits .marked) (sym (known R f e .0) ∙ sym subjects₂) (sym (known R f e .1) ∙ sym (held₂ .same)) in
+              let q : R ≡ S₂ = same-rows R S₂ (formed-fits R f) (held₂ .fits) (sym (known R f e .0) ∙ sym subjects₂) (sym (known R f e .1) ∙ sym (held₂ .same)) in
               clash (sym (T-true (wellFormed (encode R)) (encode-formed R f)) ∙ ap (λ (x : Register). wellFormed (encode x)) q ∙ ap wellFormed (sym (held₂ .bytes)) ∙ w))
 
           whole : fileOf (m₁ .rows) (m₂ .rows) ≡ fileText S₂

@@ -15,6 +15,7 @@ use mir.Syntax.{w64}
 use mir.Val.{toZ}
 use mir.Facts.{toZ-pos}
 use Rattle.rules.specs.List.{concatMap}
+use Rattle.rules.specs.Bits.{bit}
 use Rattle.rules.specs.Register.{Register, noDelegation}
 use Rattle.rules.proofs.Signed.{getD-within}
 use Rattle.text.specs.Text.{line, AllAllowed}
@@ -22,10 +23,10 @@ use Rattle.text.specs.Write.{Room, Written}
 use Rattle.text.proofs.Writing.{put-nil, put-length, then-written, then-room}
 use Rattle.block.specs.Layout.{mostSubjects}
 use Rattle.block.specs.Bytes.{IsBytes}
-use Rattle.block.specs.Block.{subjectsIn, countIn, decode}
-use Rattle.block.specs.Records.{HasMarks, HasRecord, marksFor, delegationAt}
+use Rattle.block.specs.Block.{subjectsIn, countIn, retiredIn, decode}
+use Rattle.block.specs.Records.{HasRetired, HasRecord, marksFor, delegationAt}
 use Rattle.block.specs.WellFormed.{wellFormed}
-use Rattle.block.proofs.Held.{rules-of, has-marks, has-records, held-formed, subjects-held, count-held, marks-held, delegation-held}
+use Rattle.block.proofs.Held.{rules-of, size-held, has-records, held-formed, subjects-held, retired-held, count-held, marks-held, delegation-held}
 use Rattle.change.proofs.Rewrite.{concatMap-append}
 use Rattle.regfile.specs.FileText.{subjectNames, delegationNames, subjectRows, delegationRow, subjectColumns, delegationColumns, rowsOf, fileText}
 use Rattle.regfile.proofs.FileRight.{length-subjects}
@@ -61,30 +62,30 @@ module _ (ns ms : List ℕ) (h : Small ns) (e : ns ≡ ms) where
 
 -- ── the rows by their place ──
 
-subject-row : (s i : ℕ) (ms : List ℕ) → i < length ms → getD (subjectRows s ms) i [] ≡ map pos ((s + i) ∷ getD ms i 0 ∷ [])
-subject-row s i [] l = absurd (not-suc-le-zero l)
-subject-row s zero (m ∷ ms) l = rw add-zero
-subject-row s (suc i) (m ∷ ms) l = let e : suc s + i ≡ s + suc i = omega arith in subject-row (suc s) i ms (le-of-suc-le-suc l) ∙ ap (λ (k : ℕ). map pos (k ∷ getD ms i 0 ∷ [])) e
+subject-row : (n s i : ℕ) (ms : List ℕ) → i < length ms → getD (subjectRows n s ms) i [] ≡ map pos ((s + i) ∷ getD ms i 0 ∷ bit n (s + i) ∷ [])
+subject-row n s i [] l = absurd (not-suc-le-zero l)
+subject-row n s zero (m ∷ ms) l = ap (λ (k : ℕ). map pos (k ∷ m ∷ bit n k ∷ [])) (sym (add-zero s))
+subject-row n s (suc i) (m ∷ ms) l = let e : suc s + i ≡ s + suc i = omega arith in subject-row n (suc s) i ms (le-of-suc-le-suc l) ∙ ap (λ (k : ℕ). map pos (k ∷ getD ms i 0 ∷ bit n k ∷ [])) e
 
 module _ (b : List ℕ) (bytes : IsBytes b) (formed : wellFormed b ≡ true) where
   marks-count : length (decode b .marks) ≡ subjectsIn b
   marks-count = held-formed b bytes formed .marked ∙ subjects-held b bytes formed
 
   pub subject-count : length (rowsOf subjectColumns (decode b)) ≡ subjectsIn b
-  subject-count = length-subjects 0 (decode b .marks) ∙ marks-count
+  subject-count = length-subjects (decode b .retired) 0 (decode b .marks) ∙ marks-count
 
   pub delegation-count : length (rowsOf delegationColumns (decode b)) ≡ countIn b
   delegation-count = length-map (decode b .delegations) delegationRow ∙ count-held b bytes formed
 
   module _ (w k : ℕ) (l : k < length (rowsOf w (decode b))) where
-    pub subject-at : w ≡ subjectColumns → HasMarks b k × (k < mostSubjects) × (getD (rowsOf w (decode b)) k [] ≡ map pos (k ∷ marksFor b k ∷ []))
+    pub subject-at : w ≡ subjectColumns → HasRetired b × (k < mostSubjects) × (getD (rowsOf w (decode b)) k [] ≡ map pos (k ∷ marksFor b k ∷ bit (retiredIn b) k ∷ []))
     subject-at e =
         let m : k < subjectsIn b = subst (λ (n : ℕ). k < n) (ap (λ (c : ℕ). length (rowsOf c (decode b))) e ∙ subject-count) l in (
-          has-marks b bytes formed k m,
+          omega (arith, size-held b bytes formed),
           omega (arith, m, rules-of b bytes formed .most),
           ap (λ (c : ℕ). getD (rowsOf c (decode b)) k []) e
-              ∙ subject-row 0 k (decode b .marks) (omega (arith, m, marks-count))
-              ∙ (λ p. map pos (zero-add k p ∷ sym (marks-held b bytes formed k m) p ∷ [])),
+              ∙ subject-row (decode b .retired) 0 k (decode b .marks) (omega (arith, m, marks-count))
+              ∙ (λ p. map pos (zero-add k p ∷ sym (marks-held b bytes formed k m) p ∷ bit (retired-held b bytes formed p) (zero-add k p) ∷ [])),
         )
 
     pub delegation-at : w ≢ subjectColumns → HasRecord b k × (getD (rowsOf w (decode b)) k [] ≡ delegationRow (delegationAt b k))

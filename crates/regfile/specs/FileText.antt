@@ -1,13 +1,14 @@
--- A register as text (document 02, C-13): a line of names and a line for each subject from 0 on, an empty line, a line of names and a line for each delegation in block order. Assumes nothing.
+-- A register as text (document 02, C-13 and C-16): a line of names and a line for each subject from 0 on, an empty line, a line of names and a line for each delegation in block order. Assumes nothing.
 use mathlib.Core.Path.{_≡_}
 use mathlib.Core.Logic.{_≢_}
 use mathlib.Core.Bool.{Bool, true, false, cond, _&&_}
 use mathlib.Core.List.{List, [], _∷_, _++_, map}
-use Prim.Native.Nat.{ℕ, suc, _%_}
+use Prim.Native.Nat.{ℕ, suc, _+_, _*_, _%_}
 use lib.Dec.{eqb, leb}
 use lib.IntN.{ℤ, pos, negsuc}
 use lib.ListN.{length, getD, drop}
 use Rattle.rules.specs.List.{concatMap}
+use Rattle.rules.specs.Bits.{bit}
 use Rattle.rules.specs.Register.{Delegation, Register, granted, fields}
 use Rattle.rules.specs.WellFormed.{WellFormed}
 use Rattle.rules.specs.Call.{fresh}
@@ -21,30 +22,30 @@ use Rattle.text.specs.Rows.{rows}
 -- ── the text of a register ──
 
 unfoldable pub subjectNames : List ℕ
-subjectNames = bytesOf "subject marks\n"
+subjectNames = bytesOf "subject marks retired\n"
 
 -- an empty line stands before these
 unfoldable pub delegationNames : List ℕ
 delegationNames = bytesOf "\ngiver receiver weight need bar\n"
 
--- the values of each line: those of subjects with these marks, from s on, and that of a delegation
-abbrev pub subjectRows : ℕ → List ℕ → List (List ℤ)
-subjectRows s [] = []
-subjectRows s (m ∷ ms) = (pos s ∷ pos m ∷ []) ∷ subjectRows (suc s) ms
+-- the values of each line: those of subjects with these marks, from s on, retired by the bits n, and that of a delegation
+abbrev pub subjectRows : ℕ → ℕ → List ℕ → List (List ℤ)
+subjectRows n s [] = []
+subjectRows n s (m ∷ ms) = (pos s ∷ pos m ∷ pos (bit n s) ∷ []) ∷ subjectRows n (suc s) ms
 
 abbrev pub delegationRow : Delegation → List ℤ
 delegationRow d = map pos (fields d)
 
 -- the columns of each
 abbrev pub subjectColumns : ℕ
-subjectColumns = 2
+subjectColumns = 3
 
 abbrev pub delegationColumns : ℕ
 delegationColumns = 5
 
 -- the rows of w columns of a register: its subjects', or its delegations'
 abbrev pub rowsOf : ℕ → Register → List (List ℤ)
-rowsOf w R = cond (eqb w subjectColumns) (subjectRows 0 (R .marks)) (map delegationRow (R .delegations))
+rowsOf w R = cond (eqb w subjectColumns) (subjectRows (R .retired) 0 (R .marks)) (map delegationRow (R .delegations))
 
 -- the text of these lines
 abbrev pub fileOf : List (List ℤ) → List (List ℤ) → List ℕ
@@ -126,9 +127,23 @@ valueAt row i = plainOf (getD row i (pos 0))
 abbrev pub delegationOf : List ℤ → Delegation
 delegationOf row = granted (valueAt row 0) (valueAt row 1) (valueAt row 2) (valueAt row 3) (valueAt row 4)
 
+-- the number with these bits, the lowest first
+abbrev pub bitsOf : List ℕ → ℕ
+bitsOf [] = 0
+bitsOf (v ∷ vs) = v + 2 * bitsOf vs
+
+-- the register of these rows
+abbrev pub registerOf : List (List ℤ) → List (List ℤ) → Register
+registerOf ss ds = record {
+  subjects = length ss;
+  marks = map (λ row. valueAt row 1) ss;
+  retired = bitsOf (map (λ row. valueAt row 2) ss);
+  delegations = map delegationOf ds;
+}
+
 -- the block of these rows, each number cut to a byte: it holds what the text holds exactly if it is well formed and writes the same text
 unfoldable pub blockOf : List (List ℤ) → List (List ℤ) → List ℕ
-blockOf ss ds = map (λ x. x % 256) (encode record { subjects = length ss; marks = map (λ row. valueAt row 1) ss; delegations = map delegationOf ds })
+blockOf ss ds = map (λ x. x % 256) (encode (registerOf ss ds))
 
 -- by whether the lines have their form, and whether they make a well-formed block
 abbrev pub judged : Bool → Bool → Register → Filed

@@ -3,12 +3,13 @@ use mathlib.Core.Path.{_≡_}
 use mathlib.Core.Logic.{_≢_, _⊎_}
 use mathlib.Core.Bool.{Bool, true, false, cond, _&&_}
 use mathlib.Core.List.{List, [], _∷_, _++_}
-use Prim.Native.Nat.{ℕ, _≤_}
+use Prim.Native.Nat.{ℕ, _^_, _≤_}
+use lib.Bits.{bitOr}
 use lib.Dec.{eqb, leb}
 use lib.IntN.{ℤ}
 use lib.ListN.{length, drop}
 use Rattle.rules.specs.List.{concatMap}
-use Rattle.rules.specs.Register.{Delegation, Register, withDelegations}
+use Rattle.rules.specs.Register.{Delegation, Register, withDelegations, withRetired}
 use Rattle.rules.specs.WellFormed.{WellFormed}
 use Rattle.rules.specs.Call.{enrolled}
 use Rattle.block.specs.Block.{encode}
@@ -19,9 +20,17 @@ use Rattle.regfile.specs.declared.Rows.{Rows}
 
 -- ── the rows of w columns ──
 
+-- the bits n, that of subject s set where v is 1
+abbrev pub bitWith : ℕ → ℕ → ℕ → ℕ
+bitWith n s v = cond (eqb v 1) (bitOr n (2 ^ s)) n
+
+-- the register with one more subject, who has these marks and is retired where v is 1
+abbrev pub enrolledAs : Register → ℕ → ℕ → Register
+enrolledAs R m v = withRetired (enrolled R m) (bitWith (R .retired) (R .subjects) v)
+
 -- the register with one more
 abbrev pub withRow : ℕ → Register → List ℤ → Register
-withRow w R row = cond (eqb w subjectColumns) (enrolled R (valueAt row 1)) (withDelegations R (R .delegations ++ (delegationOf row ∷ [])))
+withRow w R row = cond (eqb w subjectColumns) (enrolledAs R (valueAt row 1) (valueAt row 2)) (withDelegations R (R .delegations ++ (delegationOf row ∷ [])))
 
 -- with all of these
 abbrev pub withRows : ℕ → Register → List (List ℤ) → Register

@@ -12,6 +12,6 @@ pub struct Rows {
 }
 
 // The columns of a subject's line and of a delegation's.
-pub const SUBJECT_COLUMNS: usize = 2;
+pub const SUBJECT_COLUMNS: usize = 3;
 
 pub const DELEGATION_COLUMNS: usize = 5;

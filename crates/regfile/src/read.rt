@@ -24,7 +24,7 @@ const BYTE_MOST: u32 = 255;
 const TWO_BYTES_MOST: u32 = 65535;
 
 // The bytes of the first line, and of the empty line and the names after it.
-const SUBJECT_NAMES_SIZE: usize = 14;
+const SUBJECT_NAMES_SIZE: usize = 22;
 
 const DELEGATION_NAMES_SIZE: usize = 32;
 
@@ -45,7 +45,14 @@ fn put_subject(b: &mut [u8], row: &[i64]) -> bool
     if marks > TWO_BYTES_MOST {
         return false;
     }
+    let retired = text::unsigned(row[2]);
+    if retired > 1 {
+        return false;
+    }
     change::add_subject(b, marks as u16);
+    if retired == 1 {
+        change::set_retired(b, n);
+    }
     true
 }
 
@@ -139,7 +146,7 @@ pub fn parse(text: &[u8], b: &mut [u8]) -> u32
     requires { ⌜ length (now b) ≡ blockSize ⌝ }
     ensures { λ r. ⌜ Parsed (now (text .entry)) r (now (b .exit)) ⌝ }
 {
-    if !text::begins_with(text, b"subject marks\n") {
+    if !text::begins_with(text, b"subject marks retired\n") {
         return refusal::MALFORMED;
     }
     change::write_empty(b);

@@ -5,24 +5,37 @@ ghost use mathlib.Core.List.{[], _∷_, map};
 ghost use Prim.Native.Nat.{_<_};
 ghost use lib.IntN.{pos};
 ghost use lib.ListN.{length, getD};
+ghost use Rattle.rules.specs.Bits.{bit};
 ghost use Rattle.rules.specs.List.{concatMap};
 ghost use Rattle.text.specs.Text.{line};
 ghost use Rattle.text.specs.Write.{Room, Written};
 ghost use Rattle.block.specs.Layout.{mostSubjects};
-ghost use Rattle.block.specs.Block.{decode};
-ghost use Rattle.block.specs.Records.{HasMarks, HasRecord, marksFor, delegationAt};
+ghost use Rattle.block.specs.Block.{retiredIn, decode};
+ghost use Rattle.block.specs.Records.{HasRetired, HasRecord, marksFor, delegationAt};
 ghost use Rattle.block.specs.WellFormed.{wellFormed};
 ghost use Rattle.regfile.specs.FileText.{delegationRow, rowsOf, fileText};
 use crate::DELEGATION_COLUMNS;
 use crate::SUBJECT_COLUMNS;
 
+// 1 where subject `s` is retired, else 0.
+fn retired_number(b: &[u8], s: usize) -> u8
+    requires { ⌜ HasRetired (now b) × (s < mostSubjects) ⌝ }
+    ensures { λ r. ⌜ r ≡ bit (retiredIn (now (b .entry))) s ⌝ }
+{
+    if block::is_retired(block::retired(b), s as u32) {
+        return 1;
+    }
+    0
+}
+
 // Writes the line of subject `s` at `at`; the place after it.
 fn write_subject(b: &[u8], s: usize, buf: &mut [u8], at: usize) -> usize
-    requires { ⌜ HasMarks (now b) s × (s < mostSubjects) × Room at (line (map pos (s ∷ marksFor (now b) s ∷ []))) (now buf) ⌝ }
-    ensures { λ r. ⌜ Written at (line (map pos (s ∷ marksFor (now (b .entry)) s ∷ []))) (now (buf .entry)) r (now (buf .exit)) ⌝ }
+    requires { ⌜ HasRetired (now b) × (s < mostSubjects) × Room at (line (map pos (s ∷ marksFor (now b) s ∷ bit (retiredIn (now b)) s ∷ []))) (now buf) ⌝ }
+    ensures { λ r. ⌜ Written at (line (map pos (s ∷ marksFor (now (b .entry)) s ∷ bit (retiredIn (now (b .entry))) s ∷ []))) (now (buf .entry)) r (now (buf .exit)) ⌝ }
 {
     let marks = block::marks(b, s) as i64;
-    let row = [s as i64, marks];
+    let retired = retired_number(b, s) as i64;
+    let row = [s as i64, marks, retired];
     text::write_line(buf, at, &row)
 }
 
@@ -70,7 +83,7 @@ pub fn render(b: &[u8], buf: &mut [u8]) -> usize
     requires { ⌜ (wellFormed (now b) ≡ true) × Room 0 (fileText (decode (now b))) (now buf) ⌝ }
     ensures { λ r. ⌜ Written 0 (fileText (decode (now (b .entry)))) (now (buf .entry)) r (now (buf .exit)) ⌝ }
 {
-    let subjects = text::write_bytes(buf, 0, b"subject marks\n");
+    let subjects = text::write_bytes(buf, 0, b"subject marks retired\n");
     let enrolled = block::subjects(b) as usize;
     let names = write_rows(b, SUBJECT_COLUMNS, enrolled, buf, subjects);
     let delegations = text::write_bytes(buf, names, b"\ngiver receiver weight need bar\n");

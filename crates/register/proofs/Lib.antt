@@ -5,3 +5,4 @@ pub mod Enrolling
 pub mod Using
 pub mod GrantWays
 pub mod CutWays
+pub mod BringWays

@@ -33,6 +33,6 @@ written b o = record { refusal = o .refusal; first = o .first; second = o .secon
 unfoldable pub callOn : Given → List ℕ → Call → Result
 callOn g b c = let n = firstOf (early (g .refusal) b c) in elim (eqb n 0) [ true ↦ written b (callStep (g .steps) (decode b) c) | false ↦ turned n b ]
 
--- open overwrites any 2,180 bytes
+-- open overwrites any 2,188 bytes
 unfoldable pub openOn : List ℕ → Result
 openOn b = cond (eqb (length b) blockSize) record { refusal = 0; first = pos 0; second = pos 0; third = pos 0; bytes = encode fresh } (turned 1 b)

@@ -1,4 +1,4 @@
--- What the calls that rounds follow promise, the cuts and setting marks (document 01, 'Calls'; document 02, C-11 and C-15): an accepted one leaves the best remainder of its change on the block that it was handed, by the table that it was given, and lifts nothing. Assumes nothing.
+-- What the calls that rounds follow promise: the cuts, setting marks and retiring (document 01, 'Calls'; document 02, C-11, C-15 and C-16). An accepted one leaves the best remainder of its change on the block that it was handed, by the table that it was given, and lifts nothing. Assumes nothing.
 use mathlib.Core.List.{List}
 use Prim.Native.Nat.{ℕ}
 use lib.IntN.{ℤ}

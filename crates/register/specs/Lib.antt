@@ -1,3 +1,4 @@
 pub mod CallOn
 pub mod Made
 pub mod Cuts
+pub mod Bring

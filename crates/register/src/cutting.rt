@@ -2,7 +2,7 @@
 ghost use mathlib.Core.Path.{_≡_};
 ghost use mathlib.Core.Bool.{true};
 ghost use Rattle.rules.specs.Table.{TableRule};
-ghost use Rattle.rules.specs.Call.{revoke, downgrade, setMarks};
+ghost use Rattle.rules.specs.Call.{revoke, downgrade, setMarks, retire};
 ghost use Rattle.rules.specs.CallStep.{cut};
 ghost use Rattle.block.specs.Block.{decode};
 ghost use Rattle.block.specs.WellFormed.{wellFormed};
@@ -81,5 +81,17 @@ pub fn set_marks_by(
         return refused(n);
     }
     change::set_marks(block, subject as u8, marks as u16);
+    settle(block, table)
+}
+
+pub fn retire_by(block: &mut [u8], table: &[i16], fault: u32, by: u32, subject: u32) -> Answer
+    requires { ⌜ TableRule (now table) ⌝ }
+    ensures { λ r. ⌜ CutMade (lent fault (now (table .entry))) (retire by subject) (now (block .entry)) r (now (block .exit)) ⌝ }
+{
+    let n = refusals::retire_refusal(block, fault, by, subject);
+    if n != 0 {
+        return refused(n);
+    }
+    change::retire(block, subject as u8);
     settle(block, table)
 }

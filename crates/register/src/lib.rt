@@ -4,10 +4,11 @@ mod granting;
 
 ghost use mathlib.Core.Path.{_≡_};
 ghost use Rattle.rules.specs.Register.{granted};
-ghost use Rattle.rules.specs.Call.{enrol, grant, revoke, downgrade, askReach, askUse, setMarks};
+ghost use Rattle.rules.specs.Call.{enrol, grant, revoke, downgrade, askReach, askUse, setMarks, retire};
 ghost use Rattle.steptable.specs.TableText.{ours, given};
 ghost use Rattle.register.specs.Made.{refusedBy, answeredBy, Made, MadeOpen};
 ghost use Rattle.register.specs.Cuts.{CutMade};
+ghost use Rattle.register.specs.Bring.{BringMade};
 use block::layout;
 use rules::refusal;
 
@@ -51,6 +52,25 @@ pub fn open(block: &mut [u8]) -> Answer
         return refused(refusal::WRONG_LENGTH);
     }
     change::write_fresh(block);
+    answered(0, 0, 0)
+}
+
+// Takes a block of the layout before, of 2,180 bytes, over into one of the present layout, whatever that holds.
+pub fn bring_over(old: &[u8], block: &mut [u8]) -> Answer
+    ensures { λ r. ⌜ BringMade (now (old .entry)) (now (block .entry)) r (now (block .exit)) ⌝ }
+{
+    if old.len() != layout::OLD_BLOCK_SIZE {
+        return refused(refusal::WRONG_LENGTH);
+    }
+    if block.len() != layout::BLOCK_SIZE {
+        return refused(refusal::WRONG_LENGTH);
+    }
+    let mut brought = [0u8; layout::BLOCK_SIZE];
+    change::write_brought(old, &mut brought);
+    if !block::well_formed(&brought) {
+        return refused(refusal::NOT_WELL_FORMED);
+    }
+    change::copy(&brought, block);
     answered(0, 0, 0)
 }
 
@@ -185,4 +205,12 @@ pub fn set_marks(block: &mut [u8], by: u32, subject: u32, marks: u32, table: &[u
 {
     let g = steptable::read_table(table);
     cutting::set_marks_by(block, &g.steps, g.refusal, by, subject, marks)
+}
+
+// Retires an enrolled subject, which only the owner may: all delegations to and from it are removed, its marks cleared, its bit set; then as revoke, by such a table.
+pub fn retire(block: &mut [u8], by: u32, subject: u32, table: &[u8]) -> Answer
+    ensures { λ r. ⌜ CutMade (given (now (table .entry))) (retire by subject) (now (block .entry)) r (now (block .exit)) ⌝ }
+{
+    let g = steptable::read_table(table);
+    cutting::retire_by(block, &g.steps, g.refusal, by, subject)
 }

@@ -22,8 +22,8 @@ past : (k n : ℕ) → k ≤ n → n ≢ k → k < n
 past k n l h = omega arith
 
 -- a number that is none of the calls' is no call's
-pub no-call : (n : ℕ) → n ≢ 0 → n ≢ 1 → n ≢ 2 → n ≢ 3 → n ≢ 4 → n ≢ 5 → n ≢ 6 → isCall n ≡ false
-no-call n a b c d e f g = lt-leb n 6 (past 6 n (past 5 n (past 4 n (past 3 n (past 2 n (past 1 n (past 0 n zero-le a) b) c) d) e) f) g)
+pub no-call : (n : ℕ) → n ≢ 0 → n ≢ 1 → n ≢ 2 → n ≢ 3 → n ≢ 4 → n ≢ 5 → n ≢ 6 → n ≢ 7 → isCall n ≡ false
+no-call n a b c d e f g h = lt-leb n 7 (past 7 n (past 6 n (past 5 n (past 4 n (past 3 n (past 2 n (past 1 n (past 0 n zero-le a) b) c) d) e) f) g) h)
 
 -- a test that every call passes, call i passes
 pub passes-at : (f : ℕ → Bool) (n : ℕ) → allFrom f 0 n ≡ true → (i : ℕ) → i < n → T (f i)

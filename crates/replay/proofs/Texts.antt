@@ -29,11 +29,11 @@ pub reckons-none-5 : (n : ℕ) → n ≡ 5 → Reckoning n false
 unfolding callOf
 reckons-none-5 n e by giver receiver weight need bar = rw e
 
-reckons-high : (n : ℕ) → 6 < n → Reckoning n false
+reckons-high : (n : ℕ) → 7 < n → Reckoning n false
 unfolding callOf
-reckons-high n h by giver receiver weight need bar = rw (ne-eqb n 0 (λ e. omega arith), ne-eqb n 1 (λ e. omega arith), ne-eqb n 2 (λ e. omega arith), ne-eqb n 3 (λ e. omega arith), ne-eqb n 4 (λ e. omega arith), ne-eqb n 6 (λ e. omega arith))
+reckons-high n h by giver receiver weight need bar = rw (ne-eqb n 0 (λ e. omega arith), ne-eqb n 1 (λ e. omega arith), ne-eqb n 2 (λ e. omega arith), ne-eqb n 3 (λ e. omega arith), ne-eqb n 4 (λ e. omega arith), ne-eqb n 6 (λ e. omega arith), ne-eqb n 7 (λ e. omega arith))
 
-pub reckons-some : (n : ℕ) → n ≢ 0 → n ≢ 5 → Reckoning n (leb n 6)
+pub reckons-some : (n : ℕ) → n ≢ 0 → n ≢ 5 → Reckoning n (leb n 7)
 unfolding callOf
 reckons-some zero h k by giver receiver weight need bar = absurd (h refl)
 reckons-some (suc zero) h k by giver receiver weight need bar = refl
@@ -42,9 +42,10 @@ reckons-some (suc (suc (suc zero))) h k by giver receiver weight need bar = refl
 reckons-some (suc (suc (suc (suc zero)))) h k by giver receiver weight need bar = refl
 reckons-some (suc (suc (suc (suc (suc zero))))) h k by giver receiver weight need bar = absurd (k refl)
 reckons-some (suc (suc (suc (suc (suc (suc zero)))))) h k by giver receiver weight need bar = refl
-reckons-some (suc (suc (suc (suc (suc (suc (suc n))))))) h k by giver receiver weight need bar =
-    let m : ℕ = suc (suc (suc (suc (suc (suc (suc n)))))) in
-    lt-leb m 6 (omega arith) ∙ reckons-high m (omega arith) by giver receiver weight need bar
+reckons-some (suc (suc (suc (suc (suc (suc (suc zero))))))) h k by giver receiver weight need bar = refl
+reckons-some (suc (suc (suc (suc (suc (suc (suc (suc n)))))))) h k by giver receiver weight need bar =
+    let m : ℕ = suc (suc (suc (suc (suc (suc (suc (suc n))))))) in
+    lt-leb m 7 (omega arith) ∙ reckons-high m (omega arith) by giver receiver weight need bar
 
 -- ── where it lies ──
 module _ (calls : List ℕ) (at : ℕ) (r : Bool) (known : Reckoning (getD calls at 0) r) where

@@ -1,4 +1,4 @@
--- A list of calls made one after another with every block kept, each lent a text of its own: what the buffers hold, and what is promised of them (document 01, 'Calls'; document 02, C-11 and C-15). Assumes nothing.
+-- A list of calls made one after another with every block kept, each lent a text of its own: what the buffers hold, and what is promised of them (document 01, 'Calls'; document 02, C-11, C-15 and C-16). Assumes nothing.
 use mathlib.Core.Path.{_≡_}
 use mathlib.Core.Logic.{_≢_}
 use mathlib.Core.Bool.{Bool, true, cond, not, _&&_}
@@ -9,7 +9,7 @@ use lib.ListN.{length, getD, take, drop}
 use lib.IntN.{ℤ, pos}
 use Rattle.rules.specs.List.{At, tabulate}
 use Rattle.rules.specs.Register.{granted}
-use Rattle.rules.specs.Call.{Call, enrol, grant, revoke, downgrade, askReach, askUse, setMarks, fresh}
+use Rattle.rules.specs.Call.{Call, enrol, grant, revoke, downgrade, askReach, askUse, setMarks, retire, fresh}
 use Rattle.rules.specs.Refusal.{firstOf}
 use Rattle.rules.specs.Trace.{Entry, PlaceRight}
 use Rattle.block.specs.Layout.{blockSize}
@@ -22,11 +22,11 @@ use Rattle.register.specs.declared.Answer.{Answer}
 
 -- ── one call ──
 
--- the number is a call's: 0 enrol, 1 grant, 2 revoke, 3 downgrade, 4 reach, 5 use, 6 marks
+-- the number is a call's: 0 enrol, 1 grant, 2 revoke, 3 downgrade, 4 reach, 5 use, 6 marks, 7 retire
 abbrev pub isCall : ℕ → Bool
-isCall n = leb n 6
+isCall n = leb n 7
 
--- the call that a number and its columns name; the subject whose marks are set is under receiver, marks are under need
+-- the call that a number and its columns name; the subject whose marks are set, or who is retired, is under receiver, marks are under need
 unfoldable pub callOf : (number by giver receiver weight need bar : ℕ) → Call
 callOf number by giver receiver weight need bar =
     cond (eqb number 0) (enrol need)
@@ -34,7 +34,8 @@ callOf number by giver receiver weight need bar =
     (cond (eqb number 2) (revoke by giver receiver)
     (cond (eqb number 3) (downgrade by giver receiver weight)
     (cond (eqb number 4) (askReach giver receiver)
-    (cond (eqb number 6) (setMarks by receiver need) (askUse receiver))))))
+    (cond (eqb number 6) (setMarks by receiver need)
+    (cond (eqb number 7) (retire by receiver) (askUse receiver)))))))
 
 -- what `call` promises: the call d that the numbers name is made by the table of the text, where it takes one; a number that is no call's is refused with 7 and changes nothing
 pub record CallMade (number : ℕ) (d : Call) (text before : List ℕ) (r : Answer) (after : List ℕ) : Type 0 where

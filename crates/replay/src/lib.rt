@@ -18,7 +18,7 @@ pub const NUMBERS_PER_CALL: usize = 9;
 pub const ANSWERS_PER_CALL: usize = 3;
 
 // Makes the call that the numbers name: 0 enrol (marks under need), 1 grant, 2 revoke, 3 downgrade, 4 reach, 5 use, 6 marks (the
-// subject under receiver, its marks under need).
+// subject under receiver, its marks under need), 7 retire (the subject under receiver).
 // Those that reckon reach go by the table of the text, ours where it is empty; the others do not look at it.
 pub fn call(
     block: &mut [u8],
@@ -54,6 +54,9 @@ pub fn call(
     if number == 6 {
         return register::set_marks(block, by, receiver, need, table);
     }
+    if number == 7 {
+        return register::retire(block, by, receiver, table);
+    }
     register::refused(refusal::MALFORMED)
 }
 
@@ -61,7 +64,7 @@ pub fn call(
 fn is_call(number: u32) -> bool
     ensures { λ r. ⌜ r ≡ isCall number ⌝ }
 {
-    number <= 6
+    number <= 7
 }
 
 // Every call number is a call's.
@@ -89,7 +92,7 @@ fn reckons(number: u32) -> bool
     if number == 5 {
         return false;
     }
-    number <= 6
+    number <= 7
 }
 
 // The number at a place, as a size.

@@ -21,7 +21,7 @@ use Rattle.block.specs.Block.{countIn, recordsIn, decode}
 use Rattle.block.specs.WellFormed.{wellFormed}
 use Rattle.block.proofs.Bytes.{length-tabulate}
 use Rattle.block.proofs.Held.{count-held}
-use Rattle.queue.specs.Queue.{bit}
+use Rattle.rules.specs.Bits.{bit}
 use Rattle.runs.specs.Lent.{recordCount, recordAt}
 use Rattle.runs.specs.Steps.{Starts}
 use Rattle.search.specs.Named.{MarksAmong}

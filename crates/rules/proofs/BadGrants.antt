@@ -88,7 +88,7 @@ others-lifted = onP2 (plain 0 1 9) (count 5 (P2-left (entry 0 1 9 ∷ entry 0 2 
 
 -- rounds follow the raise: 1-2, which stands above its reach, is lowered
 abbrev unsupported : ℕ → ℕ → Register
-unsupported w v = record { subjects = 3; marks = 0 ∷ 0 ∷ 0 ∷ []; delegations = entry 0 1 w ∷ entry 1 2 v ∷ [] }
+unsupported w v = record { subjects = 3; marks = 0 ∷ 0 ∷ 0 ∷ []; retired = 0; delegations = entry 0 1 w ∷ entry 1 2 v ∷ [] }
 
 abbrev rounds-follow : Wrong
 rounds-follow = record { table = steps; register = unsupported 5 9; call = plain 0 1 6; outcome = count 2 (unsupported 6 5) }

@@ -30,7 +30,7 @@ use Rattle.rules.proofs.Wrong.{Wrong, asDefined, not-right, holds, foun
 
 -- ── the example's register, subject 2 and 3 with these marks ──
 abbrev marked : ℕ → ℕ → List Delegation → Register
-marked m n ds = record { subjects = 4; marks = 0 ∷ 0 ∷ m ∷ n ∷ []; delegations = ds }
+marked m n ds = record { subjects = 4; marks = 0 ∷ 0 ∷ m ∷ n ∷ []; retired = 0; delegations = ds }
 
 abbrev four : List Delegation
 four = needing 0 1 6 1 ∷ entry 0 2 2 ∷ entry 1 2 5 ∷ entry 2 3 4 ∷ []

@@ -38,7 +38,7 @@ zero-one e = omega arith
 
 -- ── a cut that removes the named record only; support judged by the delegations into the giver only: P1 keeps 1-2 and 2-1 ──
 abbrev P1-cut : Register
-P1-cut = record { subjects = 3; marks = 0 ∷ 0 ∷ 0 ∷ []; delegations = entry 1 2 255 ∷ entry 2 1 255 ∷ [] }
+P1-cut = record { subjects = 3; marks = 0 ∷ 0 ∷ 0 ∷ []; retired = 0; delegations = entry 1 2 255 ∷ entry 2 1 255 ∷ [] }
 
 -- neither of the two comes from the owner
 from-owner : {d : Delegation} → d ∈ P1-cut .delegations → d .giver ≡ 0 → ⊥
@@ -55,7 +55,7 @@ not-named-only r = let (ds, c, h) = carried-chain steps P1-cut (entry 1 2 255) (
 
 -- ── a cut that stops after one round: P5 keeps 5-4 at 3 ──
 abbrev P5-left : List Delegation → Register
-P5-left ds = record { subjects = 6; marks = 0 ∷ 0 ∷ 0 ∷ 1 ∷ 1 ∷ 0 ∷ []; delegations = ds }
+P5-left ds = record { subjects = 6; marks = 0 ∷ 0 ∷ 0 ∷ 1 ∷ 1 ∷ 0 ∷ []; retired = 0; delegations = ds }
 
 abbrev P5-cut : Register
 P5-cut = P5-left (needing 0 1 6 1 ∷ entry 0 2 2 ∷ entry 1 3 5 ∷ entry 2 3 6 ∷ entry 3 5 5 ∷ entry 5 4 4 ∷ [])
@@ -81,7 +81,7 @@ not-one-round r =
 
 -- ── a cut that goes too deep: P2 ──
 abbrev pub P2-left : List Delegation → Register
-P2-left ds = record { subjects = 5; marks = 0 ∷ 0 ∷ 0 ∷ 0 ∷ 0 ∷ []; delegations = ds }
+P2-left ds = record { subjects = 5; marks = 0 ∷ 0 ∷ 0 ∷ 0 ∷ 0 ∷ []; retired = 0; delegations = ds }
 
 abbrev P2-cut : Register
 P2-cut = P2-left (entry 0 2 3 ∷ entry 1 3 4 ∷ entry 2 3 2 ∷ entry 3 4 3 ∷ [])
@@ -91,7 +91,7 @@ abbrev P2-best : Register
 P2-best = P2-left (P2 .standing)
 
 P2-within : Within P2-best P2-cut
-P2-within = record { subjects = refl; marks = refl; held = at }
+P2-within = record { subjects = refl; marks = refl; retired = refl; held = at }
   where
     at : (d : Delegation) → d ∈ P2-best .delegations → (e : Delegation) × (e ∈ P2-cut .delegations) × AtMost d e
     at d (List·Memᴰ·head q) = (entry 0 2 3, List·Memᴰ·head refl, subst (λ (x : Delegation). AtMost x (entry 0 2 3)) (sym q) (AtMost-refl (entry 0 2 3)))
@@ -157,7 +157,7 @@ not-rounds-3 r = go (r .rounds .0) (r .rounds .1) (r .rounds .2)
 
 -- ── reach ──
 abbrev P6-register : Register
-P6-register = record { subjects = 2; marks = 0 ∷ 0 ∷ []; delegations = [] }
+P6-register = record { subjects = 2; marks = 0 ∷ 0 ∷ []; retired = 0; delegations = [] }
 
 -- reach is always -1: P6
 pub not-none : IsReach steps P6-register 0 1 none → ⊥
@@ -170,7 +170,7 @@ unfolding larger next step steps meets limitFrom goesOn chains reach allowed pas
 not-sixteen r = let e : _≡_ {A = ℕ} 16 0 = ap (λ (o : Outcome). o .refusal) (r .outcome) in omega arith
 
 abbrev P4-register : Register
-P4-register = record { subjects = 6; marks = 0 ∷ 0 ∷ 0 ∷ 1 ∷ 0 ∷ 1 ∷ []; delegations = P4 .standing }
+P4-register = record { subjects = 6; marks = 0 ∷ 0 ∷ 0 ∷ 1 ∷ 0 ∷ 1 ∷ []; retired = 0; delegations = P4 .standing }
 
 P4-reach : reach steps P4-register 5 4 ≡ pos 0
 unfolding larger next step steps meets limitFrom goesOn chains reach
@@ -185,7 +185,7 @@ pub not-other-receiver's : IsReach steps P4-register 5 4 none → ⊥
 not-other-receiver's r = let e = ap code (sym P4-reach ∙ reach-only steps P4-register 5 4 none r) in omega arith
 
 abbrev P3-register : Register
-P3-register = record { subjects = 5; marks = 0 ∷ 0 ∷ 0 ∷ 1 ∷ 1 ∷ []; delegations = P3-with .standing }
+P3-register = record { subjects = 5; marks = 0 ∷ 0 ∷ 0 ∷ 1 ∷ 1 ∷ []; retired = 0; delegations = P3-with .standing }
 
 P3-reach : reach steps P3-register 3 4 ≡ pos 4
 unfolding larger next step steps meets limitFrom goesOn chains reach
@@ -197,7 +197,7 @@ not-first-chain r = let e = pos-inj (sym P3-reach ∙ reach-only steps P3-regist
 
 -- ── support by one table claimed of another: what our table granted is not supported by twos ──
 abbrev pub twos-left : ℕ → Register
-twos-left w = record { subjects = 5; marks = 0 ∷ 0 ∷ 0 ∷ 0 ∷ 0 ∷ []; delegations = entry 0 1 9 ∷ entry 0 4 1 ∷ entry 1 2 8 ∷ entry 2 3 w ∷ [] }
+twos-left w = record { subjects = 5; marks = 0 ∷ 0 ∷ 0 ∷ 0 ∷ 0 ∷ []; retired = 0; delegations = entry 0 1 9 ∷ entry 0 4 1 ∷ entry 1 2 8 ∷ entry 2 3 w ∷ [] }
 
 abbrev twos-register : Register
 twos-register = twos-left 6

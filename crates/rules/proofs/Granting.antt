@@ -2,7 +2,7 @@
 use mathlib.Core.Path.{_≡_, refl, sym, ap, subst, _∙_}
 use mathlib.Core.Logic.{_⊎_, inl, inr}
 use mathlib.Core.Bool.{Bool, true, false, not, cond, _&&_}
-use mathlib.Core.List.{List, map}
+use mathlib.Core.List.{map}
 use Prim.Native.Nat.{ℕ}
 use native.Mathlib.Omega.{arith}
 use lib.Dec.{T, ltb, eqb, eqb→eq, ltb→lt, lt→ltb}
@@ -62,7 +62,7 @@ module _ (R : Register) (d : Delegation) where
   -- d raises y, which is left as d
   raise-leaves : Rising (R .delegations) → (y : Delegation) → y ∈ R .delegations → Raises d y → GrantedIn R (reweighed R (d .giver) (d .receiver) (d .weight)) d
   raise-leaves rising y m h = record {
-    within = record { subjects = refl; marks = refl; held = λ x i. (setTo x, mem-map setTo i, heavier x i (isPair (d .giver) (d .receiver) x) refl) };
+    within = record { subjects = refl; marks = refl; retired = refl; held = λ x i. (setTo x, mem-map setTo i, heavier x i (isPair (d .giver) (d .receiver) x) refl) };
     standing = subst (λ (x : Delegation). x ∈ map setTo (R .delegations)) (at-y (isPair (d .giver) (d .receiver) y) refl) (mem-map setTo m);
     only = λ e i. let (x, n, q) = map-mem setTo (R .delegations) i in was e x n (isPair (d .giver) (d .receiver) x) refl q;
   }
@@ -90,7 +90,7 @@ module _ (R : Register) (d : Delegation) where
 
   insert-leaves : GrantedIn R (withDelegations R (insert d (R .delegations))) d
   insert-leaves = record {
-    within = record { subjects = refl; marks = refl; held = λ x i. (x, mem-insert d (R .delegations) (inr i), AtMost-refl x) };
+    within = record { subjects = refl; marks = refl; retired = refl; held = λ x i. (x, mem-insert d (R .delegations) (inr i), AtMost-refl x) };
     standing = mem-insert d (R .delegations) (inl refl);
     only = λ e i. other (insert-mem d (R .delegations) i);
   }

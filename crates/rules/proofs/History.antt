@@ -8,10 +8,10 @@ use Rattle.rules.specs.Table.{TableRule, steps}
 use Rattle.rules.specs.Register.{Register}
 use Rattle.rules.specs.Support.{Supported}
 use Rattle.rules.specs.Round.{settle}
-use Rattle.rules.specs.Cut.{cutting, marking, removal, lowering, changed}
+use Rattle.rules.specs.Cut.{cutting, marking, retirement, removal, lowering, changed}
 use Rattle.rules.specs.Remainder.{LiftsNothing}
 use Rattle.rules.specs.WellFormed.{WellFormed}
-use Rattle.rules.specs.Call.{Call, revoke, downgrade, setMarks, fresh, Makes}
+use Rattle.rules.specs.Call.{Call, revoke, downgrade, setMarks, retire, fresh, Makes}
 use Rattle.rules.specs.Refusal.{passed, held}
 use Rattle.rules.specs.CallStep.{Outcome, cut, accepted, callStep}
 use Rattle.rules.specs.History.{leftBy, CutRight, CutsRight, Demand3}
@@ -31,6 +31,9 @@ downgrade-makes y g r w = refl
 
 pub marks-makes : (y s m : ℕ) → Makes (setMarks y s m) (marking s m)
 marks-makes y s m = refl
+
+pub retire-makes : (y s : ℕ) → Makes (retire y s) (retirement s)
+retire-makes y s = refl
 
 module _ (t : List ℤ) (rule : TableRule t) where
   cut-right : (C : Register) → CutRight t C (cut t C)

@@ -1,4 +1,5 @@
 pub mod Lists
+pub mod Bits
 pub mod Limits
 pub mod Table
 pub mod Signed
@@ -11,10 +12,12 @@ pub mod Rounds
 pub mod WellFormed
 pub mod Refusals
 pub mod Pairs
+pub mod Retired
 pub mod OwnPair
 pub mod Granting
 pub mod Calls
 pub mod Lifting
+pub mod Retiring
 pub mod Still
 pub mod Firm
 pub mod Bound
@@ -30,4 +33,5 @@ pub mod Wrong
 pub mod BadOutcomes
 pub mod BadGrants
 pub mod BadMarks
+pub mod BadRetirements
 pub mod BadOrders

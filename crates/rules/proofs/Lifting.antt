@@ -6,14 +6,14 @@ use Prim.Native.Nat.{ℕ, suc, _<_}
 use native.Mathlib.Omega.{arith}
 use lib.Dec.{T, nleb→lt}
 use lib.IntN.{ℤ}
-use Rattle.rules.specs.List.{_∈_}
+use Rattle.rules.specs.List.{_∈_, filter}
 use Rattle.rules.specs.Limit.{code}
-use Rattle.rules.specs.Register.{Delegation, Register, reweigh}
+use Rattle.rules.specs.Register.{Delegation, Register, reweigh, withDelegations}
 use Rattle.rules.specs.Pair.{isPair, weightAt, setFor}
-use Rattle.rules.specs.Cut.{Change, removal, lowering, named, changed}
+use Rattle.rules.specs.Cut.{Change, removal, lowering, named, touches, changed}
 use Rattle.rules.specs.Remainder.{AtMost, LiftsNothing}
 use Rattle.rules.specs.WellFormed.{Rising, WellFormed}
-use Rattle.rules.specs.Call.{Call, enrol, grant, revoke, downgrade, askReach, askUse, setMarks, Makes}
+use Rattle.rules.specs.Call.{Call, enrol, grant, revoke, downgrade, askReach, askUse, setMarks, retire, Makes}
 use Rattle.rules.specs.Refusal.{passed, held}
 use Rattle.rules.proofs.Lists.{filter-mem, map-mem}
 use Rattle.rules.proofs.AtMost.{AtMost-refl, AtMost-reweigh}
@@ -21,9 +21,13 @@ use Rattle.rules.proofs.Rounds.{lifts-refl}
 use Rattle.rules.proofs.Refusals.{Passes}
 use Rattle.rules.proofs.Pairs.{test-pair, weight-one}
 
+-- some of the delegations
+filtered-lifts : (R : Register) (p : Delegation → Bool) → LiftsNothing R (withDelegations R (filter p (R .delegations)))
+filtered-lifts R p d m = (d, filter-mem p (R .delegations) m .0, AtMost-refl d)
+
 removed-lifts : (R : Register) (g r : ℕ) → LiftsNothing R (named R (removal g r))
 unfolding named
-removed-lifts R g r d m = (d, filter-mem (λ (x : Delegation). not (isPair g r x)) (R .delegations) m .0, AtMost-refl d)
+removed-lifts R g r = filtered-lifts R (λ (x : Delegation). not (isPair g r x))
 
 -- a weight below the one that stands
 lowered-lifts : (R : Register) (g r w : ℕ) → Rising (R .delegations) → suc w < code (weightAt (R .delegations) g r) → LiftsNothing R (named R (lowering g r w))
@@ -50,3 +54,4 @@ changed-lifts t R (downgrade y g r w) k i p f =
 changed-lifts t R (askReach g r) k i p f = absurd i
 changed-lifts t R (askUse r) k i p f = absurd i
 changed-lifts t R (setMarks y s m) k i p f = subst (λ (x : Change). LiftsNothing R (changed R x)) (sym i) (lifts-refl R)
+changed-lifts t R (retire y s) k i p f = subst (λ (x : Change). LiftsNothing R (changed R x)) (sym i) (filtered-lifts R (λ (x : Delegation). not (touches s x)))

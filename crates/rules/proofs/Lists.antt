@@ -79,6 +79,10 @@ pub not-or-right : (a b : Bool) → T (not (a || b)) → T (not b)
 not-or-right true b h = absurd h
 not-or-right false b h = h
 
+-- the second of two tests of which none applies
+pub second-not : (a b : Bool) → T (not (a || (b || false))) → T (not b)
+second-not a b h = not-or-left b false (not-or-right a (b || false) h)
+
 pub not-not : (b : Bool) → T (not (not b)) → T b
 not-not true h = tt
 not-not false h = h

@@ -17,9 +17,9 @@ use Rattle.rules.specs.Chain.{limit, IsChain}
 use Rattle.rules.specs.Reach.{reach}
 use Rattle.rules.specs.Pair.{weightAt, stands, receives}
 use Rattle.rules.specs.Round.{total, settle, rounds}
-use Rattle.rules.specs.Cut.{cutting, marking, removal, lowering, named, changed, isDropped, isLowered, dropped, lowered}
+use Rattle.rules.specs.Cut.{cutting, marking, retirement, removal, lowering, named, changed, isDropped, isLowered, dropped, lowered}
 use Rattle.rules.specs.WellFormed.{WellFormed}
-use Rattle.rules.specs.Call.{Call, enrol, grant, revoke, downgrade, askReach, askUse, setMarks}
+use Rattle.rules.specs.Call.{Call, enrol, grant, revoke, downgrade, askReach, askUse, setMarks, retire}
 use Rattle.rules.specs.Refusal.{passed, held}
 use Rattle.rules.specs.CallStep.{Outcome, afterGrant, cut, accepted, callStep}
 use Rattle.rules.specs.Ranges.{FromTo, CutInRange, InRange}
@@ -70,6 +70,10 @@ cut-range t C most f h =
     let s = settle t C in
     ((dropped C (s .left), lowered C (s .left), refl, refl, omega (arith, both-few C (s .left), f .few)), (suc (s .changed), refl, omega arith, omega arith))
 
+-- after any change
+any-range : (t : List ℤ) → TableRule t → (C : Register) → WellFormed C → let o = cut t C in CutInRange 512 (o .first) (o .second) (o .third)
+any-range t rule C k = cut-range t C 512 k (rounds-most t rule C k .1)
+
 reach-range : (t : List ℤ) → TableRule t → (R : Register) (u v : ℕ) → T (fromNone (reach t R u v)) × (reach t R u v ≼ pos 255)
 unfolding fromNone
 reach-range t rule R u v = go (reach-attained t R u v)
@@ -98,10 +102,8 @@ accepted-range t rule R (downgrade y g r w) p f =
     cut-range t (named R (lowering g r w)) 511 (changed-formed t R (downgrade y g r w) (cutting (lowering g r w)) refl p f) (omega arith)
 accepted-range t rule R (askReach g r) p f = let (a, b) = reach-range t rule R g r in (a, b, refl, refl)
 accepted-range t rule R (askUse r) p f = (use-range (eqb r 0 || receives r (R .delegations)), refl, refl)
-accepted-range t rule R (setMarks y s m) p f =
-    let C = changed R (marking s m) in
-    let k = changed-formed t R (setMarks y s m) (marking s m) refl p f in
-    cut-range t C 512 k (rounds-most t rule C k .1)
+accepted-range t rule R (setMarks y s m) p f = any-range t rule (changed R (marking s m)) (changed-formed t R (setMarks y s m) (marking s m) refl p f)
+accepted-range t rule R (retire y s) p f = any-range t rule (changed R (retirement s)) (changed-formed t R (retire y s) (retirement s) refl p f)
 
 pub callStep-range : (t : List ℤ) → TableRule t → (R : Register) (c : Call) → WellFormed R → callStep t R c .refusal ≡ 0 → let o = callStep t R c in InRange c (o .first) (o .second) (o .third)
 callStep-range t rule R c f = callStep-cases t R c (λ (o : Outcome). o .refusal ≡ 0 → InRange c (o .first) (o .second) (o .third)) (λ z p q. accepted-range t rule R c p f) (λ n q. absurd (n q))

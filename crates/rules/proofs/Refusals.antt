@@ -10,7 +10,7 @@ use lib.Dec.{T, ltb, eqb, ltb→lt, T-not}
 use lib.IntN.{ℤ}
 use Rattle.rules.specs.List.{any}
 use Rattle.rules.specs.Register.{Register}
-use Rattle.rules.specs.Call.{Call, enrol, grant, revoke, downgrade, askReach, askUse, setMarks}
+use Rattle.rules.specs.Call.{Call, enrol, grant, revoke, downgrade, askReach, askUse, setMarks, retire}
 use Rattle.rules.specs.Refusal.{firstOf, passed, held, refusalOf}
 use Rattle.rules.proofs.Lists.{T-left, T-right, T-both, yes, eq→eqb, not-or-left, not-or-right, eqOr}
 
@@ -84,6 +84,7 @@ passes t R (downgrade y g r w) e = passes-of (passed (downgrade y g r w) ++ held
 passes t R (askReach g r) e = passes-of (passed (askReach g r) ++ held t R (askReach g r)) tt e
 passes t R (askUse r) e = passes-of (passed (askUse r) ++ held t R (askUse r)) tt e
 passes t R (setMarks y s m) e = passes-of (passed (setMarks y s m) ++ held t R (setMarks y s m)) tt e
+passes t R (retire y s) e = passes-of (passed (retire y s) ++ held t R (retire y s)) tt e
 
 pub passed-numbered : (c : Call) → T (numbered (passed c))
 unfolding passed
@@ -94,3 +95,4 @@ passed-numbered (downgrade y g r w) = tt
 passed-numbered (askReach g r) = tt
 passed-numbered (askUse r) = tt
 passed-numbered (setMarks y s m) = tt
+passed-numbered (retire y s) = tt

@@ -66,10 +66,10 @@ lifts-trans R C F p q d m =
     (f, o, AtMost-trans a b)
 
 Within-refl : (F : Register) → Within F F
-Within-refl F = record { subjects = refl; marks = refl; held = lifts-refl F }
+Within-refl F = record { subjects = refl; marks = refl; retired = refl; held = lifts-refl F }
 
 Within-trans : {F G H : Register} → Within F G → Within G H → Within F H
-Within-trans {F} {G} {H} p q = record { subjects = p .subjects ∙ q .subjects; marks = p .marks ∙ q .marks; held = lifts-trans H G F (q .held) (p .held) }
+Within-trans {F} {G} {H} p q = record { subjects = p .subjects ∙ q .subjects; marks = p .marks ∙ q .marks; retired = p .retired ∙ q .retired; held = lifts-trans H G F (q .held) (p .held) }
 
 -- ── one delegation in a round ──
 pub capped-within : (d : Delegation) (l : ℤ) {e : Delegation} → e ∈ capped d l → AtMost e d
@@ -131,7 +131,7 @@ module _ (f : Delegation → ℤ) where
 
 module _ (t : List ℤ) where
   round-eq : (R : Register) → round t R .delegations ≡ R .delegations → round t R ≡ R
-  round-eq R e = λ i. record { subjects = R .subjects; marks = R .marks; delegations = e i }
+  round-eq R e = λ i. record { subjects = R .subjects; marks = R .marks; retired = R .retired; delegations = e i }
 
   -- a round that changes something lowers the total
   pub round-falls : (R : Register) → round t R ≢ R → total (round t R .delegations) < total (R .delegations)
@@ -181,6 +181,7 @@ module _ (t : List ℤ) where
   round-within R = record {
     subjects = refl;
     marks = refl;
+    retired = refl;
     held = λ d m.
         let (e, m′, q) = concatMap-mem (λ x. capped x (allowed t R x)) (R .delegations) m in
         (e, m′, capped-within e (allowed t R e) q);
@@ -206,6 +207,7 @@ module _ (t : List ℤ) where
     round-keeps C F r = record {
       subjects = r .within .subjects;
       marks = r .within .marks;
+      retired = r .within .retired;
       held = λ d m.
           let (e, m′, a) = r .within .held d m in
           let (g, m″, b) = capped-keeps d e (allowed t C e) a (le-trans (carried-allowed t rule F d (r .supported d m)) (allowed-mono t rule F C d e (r .within) a)) in

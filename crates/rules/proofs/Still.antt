@@ -56,4 +56,4 @@ module _ (t : List ℤ) (rule : TableRule t) (R : Register) (rising : Rising (R 
   marks-still y v = ap (cut t) same ∙ cut-still
     where
       same : changed R (marking v (marksOf R v)) ≡ R
-      same = λ i. record { subjects = R .subjects; marks = set-getD (R .marks) v 0 i; delegations = R .delegations }
+      same = λ i. record { subjects = R .subjects; marks = set-getD (R .marks) v 0 i; retired = R .retired; delegations = R .delegations }

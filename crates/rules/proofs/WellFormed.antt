@@ -1,19 +1,21 @@
 -- Rounds keep a register well formed, and among rising lists of delegations there is one best remainder. Assumes nothing.
 use mathlib.Core.Path.{_≡_, refl, sym, subst, _∙_}
 use mathlib.Core.Logic.{inl, inr}
+use mathlib.Core.Bool.{not}
 use mathlib.Core.List.{List, [], _∷_, _++_, List·Memᴰ·head, List·Memᴰ·tail, List·Memᴰ·not-nil}
 use Prim.Native.Nat.{ℕ, zero, suc, _+_, _≤_, zero-le, suc-le-suc}
 use native.Mathlib.Nat.{le-trans, le-refl}
 use native.Mathlib.Omega.{arith}
+use lib.Dec.{T}
 use lib.ListN.{length}
 use lib.IntN.{ℤ, pos, negsuc}
 use Rattle.rules.specs.List.{_∈_, concatMap}
 use Rattle.rules.specs.Table.{TableRule}
-use Rattle.rules.specs.Register.{Delegation, Register, reweigh}
+use Rattle.rules.specs.Register.{Delegation, Register, isRetired, reweigh, withDelegations}
 use Rattle.rules.specs.Support.{allowed}
 use Rattle.rules.specs.Round.{capped, round, settle, SettlesIn}
 use Rattle.rules.specs.Remainder.{AtMost, Within, Best}
-use Rattle.rules.specs.WellFormed.{Before, Rising, DelegationFormed, WellFormed}
+use Rattle.rules.specs.WellFormed.{Before, Rising, DelegationFormed, Apart, WellFormed}
 use Rattle.rules.proofs.Lists.{concatMap-mem}
 use Rattle.rules.proofs.AtMost.{AtMost-antisym, at-giver, at-receiver}
 use Rattle.rules.proofs.Rounds.{capped-within, settle-right, settle-best}
@@ -33,6 +35,24 @@ Before-pairs d e d′ e′ a b c f (inr p) = inr (omega arith)
 pub Before-irrefl : (d e : Delegation) → d .giver ≡ e .giver → d .receiver ≡ e .receiver → Before d e → ⊥
 Before-irrefl d e a b (inl p) = omega arith
 Before-irrefl d e a b (inr p) = omega arith
+
+-- ── other delegations of a well-formed register ──
+apart-as : (R : Register) (d e : Delegation) → e .giver ≡ d .giver → e .receiver ≡ d .receiver → Apart R d → Apart R e
+apart-as R d e g r a = (subst (λ (s : ℕ). T (not (isRetired R s))) (sym g) (a .0), subst (λ (s : ℕ). T (not (isRetired R s))) (sym r) (a .1))
+
+pub delegations-formed : (R : Register) (ds : List Delegation) → WellFormed R → length ds ≤ 256 → Rising ds → ((d : Delegation) → d ∈ ds → DelegationFormed (R .subjects) d × Apart R d) → WellFormed (withDelegations R ds)
+delegations-formed R ds f few rising each = record {
+  some = f .some;
+  most = f .most;
+  marked = f .marked;
+  marks = f .marks;
+  owner = f .owner;
+  few = few;
+  rising = rising;
+  each = λ d m. each d m .0;
+  retired = f .retired;
+  apart = λ d m. each d m .1;
+}
 
 -- ── rounds keep a register well formed ──
 pub formed-reweigh : {n w : ℕ} {d : Delegation} → w ≤ 255 → DelegationFormed n d → DelegationFormed n (reweigh d w)
@@ -66,16 +86,9 @@ module _ (f : Delegation → ℤ) where
 
 module _ (t : List ℤ) where
   pub round-formed : (R : Register) → WellFormed R → WellFormed (round t R)
-  round-formed R f = record {
-    some = f .some;
-    most = f .most;
-    marked = f .marked;
-    marks = f .marks;
-    owner = f .owner;
-    few = le-trans (length-cappedAll (allowed t R) (R .delegations)) (f .few);
-    rising = rising-cappedAll (allowed t R) (R .delegations) (f .rising);
-    each = λ e m. let (d, m′, a) = cappedAll-from (allowed t R) (R .delegations) m in formed-lighter a (f .each d m′);
-  }
+  round-formed R f =
+      delegations-formed R (concatMap (λ d. capped d (allowed t R d)) (R .delegations)) f (le-trans (length-cappedAll (allowed t R) (R .delegations)) (f .few)) (rising-cappedAll (allowed t R) (R .delegations) (f .rising))
+      (λ e m. let (d, m′, a) = cappedAll-from (allowed t R) (R .delegations) m in (formed-lighter a (f .each d m′), apart-as R d e (at-giver a) (at-receiver a) (f .apart d m′)))
 
   pub settles-formed : (n : ℕ) (C F : Register) → SettlesIn t n C F → WellFormed C → WellFormed F
   settles-formed zero C F s f = subst WellFormed (s .0) f
@@ -121,7 +134,7 @@ held-antisym (d ∷ ds) (e ∷ es) r s h k =
 within-antisym : (F G : Register) → Rising (F .delegations) → Rising (G .delegations) → Within F G → Within G F → F ≡ G
 within-antisym F G r s h k =
     let p = held-antisym (F .delegations) (G .delegations) r s (h .held) (k .held) in
-    λ i. record { subjects = h .subjects i; marks = h .marks i; delegations = p i }
+    λ i. record { subjects = h .subjects i; marks = h .marks i; retired = h .retired i; delegations = p i }
 
 -- there is one best remainder
 best-unique : (t : List ℤ) (C F G : Register) → Rising (F .delegations) → Rising (G .delegations) → Best t C F → Best t C G → F ≡ G

@@ -26,7 +26,7 @@ pub record Wrong : Type 0 where
   pub outcome : Outcome
 
 abbrev numbers : Outcome → List ℕ
-numbers o = o .refusal ∷ code (o .first) ∷ code (o .second) ∷ code (o .third) ∷ (o .left .marks ++ concatMap fields (o .left .delegations))
+numbers o = o .refusal ∷ code (o .first) ∷ code (o .second) ∷ code (o .third) ∷ o .left .retired ∷ (o .left .marks ++ concatMap fields (o .left .delegations))
 
 abbrev pub asDefined : Wrong → Bool
 asDefined w = equal (numbers (callStep (w .table) (w .register) (w .call))) (numbers (w .outcome))

@@ -1,4 +1,4 @@
--- What a call returns and leaves, on a register (document 01, 'Calls'; document 02, C-12 and C-15). Assumes nothing.
+-- What a call returns and leaves, on a register (document 01, 'Calls'; document 02, C-12, C-15 and C-16). Assumes nothing.
 use mathlib.Core.Bool.{Bool, true, false, cond, _&&_, _||_}
 use mathlib.Core.List.{List, [], _∷_}
 use Prim.Native.Nat.{ℕ}
@@ -9,8 +9,8 @@ use Rattle.rules.specs.Register.{Delegation, Register, withDelegations}
 use Rattle.rules.specs.Reach.{reach}
 use Rattle.rules.specs.Pair.{stands, reweighed, receives}
 use Rattle.rules.specs.Round.{settle, rounds}
-use Rattle.rules.specs.Cut.{removal, lowering, cutting, marking, changed, dropped, lowered}
-use Rattle.rules.specs.Call.{Call, enrol, grant, revoke, downgrade, askReach, askUse, setMarks, enrolled}
+use Rattle.rules.specs.Cut.{removal, lowering, cutting, marking, retirement, changed, dropped, lowered}
+use Rattle.rules.specs.Call.{Call, enrol, grant, revoke, downgrade, askReach, askUse, setMarks, retire, enrolled}
 use Rattle.rules.specs.Refusal.{refusalOf}
 
 -- the refusal number, 0 when accepted; the three answers; the register left
@@ -58,6 +58,7 @@ accepted t R (downgrade y g r w) = cut t (changed R (cutting (lowering g r w)))
 accepted t R (askReach g r) = answered (reach t R g r) (pos 0) (pos 0) R
 accepted t R (askUse r) = answered (pos (cond (eqb r 0 || receives r (R .delegations)) 1 0)) (pos 0) (pos 0) R
 accepted t R (setMarks y s m) = cut t (changed R (marking s m))
+accepted t R (retire y s) = cut t (changed R (retirement s))
 
 unfoldable pub callStep : List ℤ → Register → Call → Outcome
 callStep t R c = let n = refusalOf t R c in elim (eqb n 0) [ true ↦ accepted t R c | false ↦ refused n R ]

@@ -1,4 +1,4 @@
--- P1 to P8 of document 01 ('Register examples'), as lists of calls with what document 01 says comes out; those of document 02's C-12 and C-15; a list in which the step table changes from call to call; and an order of C-14. Assumes nothing.
+-- P1 to P8 of document 01 ('Register examples'), as lists of calls with what document 01 says comes out; those of document 02's C-12, C-15 and C-16; a list in which the step table changes from call to call; and an order of C-14. Assumes nothing.
 use mathlib.Core.Bool.{cond}
 use mathlib.Core.List.{List, [], _∷_, _++_, map}
 use Prim.Native.Nat.{ℕ, zero, suc}
@@ -9,7 +9,7 @@ use Rattle.rules.specs.List.{tabulate}
 use Rattle.rules.specs.Limit.{none}
 use Rattle.rules.specs.Table.{steps}
 use Rattle.rules.specs.Register.{Delegation, Register, granted}
-use Rattle.rules.specs.Call.{Call, enrol, grant, revoke, downgrade, askReach, askUse, setMarks, fresh}
+use Rattle.rules.specs.Call.{Call, enrol, grant, revoke, downgrade, askReach, askUse, setMarks, retire, fresh}
 use Rattle.rules.specs.CallStep.{Outcome, callStep}
 use Rattle.rules.specs.Trace.{traceFrom}
 use Rattle.rules.specs.History.{leftBy, trace}
@@ -153,8 +153,34 @@ lapse = record {
 abbrev pub lapse-alone : Example
 lapse-alone = record { given = lapse-given; calls = setMarks 0 2 0 ∷ []; printed = line 0 (pos 2) (pos 0) (pos 3) ∷ []; standing = needing 0 1 6 1 ∷ [] }
 
+-- a refused call's line
+abbrev turned : ℕ → Line
+turned n = line n (pos 0) (pos 0) (pos 0)
+
+-- document 02, C-16: two roads to 2, one by 1, who has marks
+abbrev pub leaving-given : List Call
+leaving-given = enrol 7 ∷ enrol 0 ∷ enrol 0 ∷ enrol 0 ∷ plain 0 1 5 ∷ plain 0 3 2 ∷ plain 1 2 4 ∷ plain 3 2 1 ∷ plain 2 4 3 ∷ []
+
+-- 1 is retired: 2-4 falls to what 3 carries; no call may name 1 any more, and a number that is not enrolled comes first
+abbrev pub leaving : Example
+leaving = record {
+  given = leaving-given;
+  calls = retire 0 1 ∷ askUse 1 ∷ plain 0 1 5 ∷ retire 0 1 ∷ askReach 1 9 ∷ setMarks 1 2 0 ∷ retire 3 0 ∷ retire 3 2 ∷ enrol 0 ∷ [];
+  printed = line 0 (pos 0) (pos 1) (pos 2) ∷ turned 19 ∷ turned 19 ∷ turned 19 ∷ turned 9 ∷ turned 19 ∷ turned 6 ∷ turned 14 ∷ one (pos 5) ∷ [];
+  standing = entry 0 3 2 ∷ entry 2 4 0 ∷ entry 3 2 1 ∷ [];
+}
+
+-- the last of ten subjects, who has nothing
+abbrev pub leaving-idle : Example
+leaving-idle = record {
+  given = replicate 9 (enrol 0);
+  calls = retire 0 9 ∷ askUse 9 ∷ [];
+  printed = line 0 (pos 0) (pos 0) (pos 1) ∷ line 19 (pos 0) (pos 0) (pos 0) ∷ [];
+  standing = [];
+}
+
 abbrev pub examples : List Example
-examples = P1 ∷ P2 ∷ P3-with ∷ P3-without ∷ P4 ∷ P5 ∷ P6 ∷ P7 ∷ P8 ∷ raising ∷ lapse ∷ lapse-alone ∷ []
+examples = P1 ∷ P2 ∷ P3-with ∷ P3-without ∷ P4 ∷ P5 ∷ P6 ∷ P7 ∷ P8 ∷ raising ∷ lapse ∷ lapse-alone ∷ leaving ∷ leaving-idle ∷ []
 
 -- ── several refusals at once: the first in the order of the call's lists is returned ──
 
@@ -236,6 +262,7 @@ abbrev pub fanned : Register
 fanned = record {
   subjects = 6;
   marks = 0 ∷ 0 ∷ 0 ∷ 0 ∷ 0 ∷ 0 ∷ [];
+  retired = 0;
   delegations = entry 0 2 9 ∷ entry 0 4 255 ∷ entry 1 3 20 ∷ entry 2 3 7 ∷ entry 3 5 6 ∷ entry 4 1 255 ∷ [];
 }
 

@@ -1,4 +1,5 @@
 pub mod List
+pub mod Bits
 pub mod Limit
 pub mod Table
 pub mod Register

@@ -1,10 +1,10 @@
--- How large the answers of an accepted call can be (document 01, 'Calls'; document 02, C-15). Assumes nothing.
+-- How large the answers of an accepted call can be (document 01, 'Calls'; document 02, C-15 and C-16). Assumes nothing.
 use mathlib.Core.Path.{_≡_}
 use Prim.Native.Nat.{ℕ, _+_, _≤_}
 use lib.Dec.{T}
 use lib.IntN.{ℤ, pos}
 use Rattle.rules.specs.Limit.{_≼_, fromNone}
-use Rattle.rules.specs.Call.{Call, enrol, grant, revoke, downgrade, askReach, askUse, setMarks}
+use Rattle.rules.specs.Call.{Call, enrol, grant, revoke, downgrade, askReach, askUse, setMarks, retire}
 
 -- a number from low to high
 abbrev pub FromTo : ℕ → ℕ → ℤ → Type 0
@@ -27,3 +27,4 @@ InRange (downgrade y g r w) a b c = CutInRange 511 a b c
 InRange (askReach g r) a b c = T (fromNone a) × (a ≼ pos 255) × Unused b × Unused c
 InRange (askUse r) a b c = FromTo 0 1 a × Unused b × Unused c
 InRange (setMarks y s m) a b c = CutInRange 512 a b c
+InRange (retire y s) a b c = CutInRange 512 a b c

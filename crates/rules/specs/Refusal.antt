@@ -1,4 +1,4 @@
--- Refusals (document 01, 'Turned back by what was passed' and 'Turned back by what the register holds'; document 02, C-12 to C-15): each number with the test under which it applies, and for each call
+-- Refusals (document 01, 'Turned back by what was passed' and 'Turned back by what the register holds'; document 02, C-12 to C-16): each number with the test under which it applies, and for each call
 -- two ordered lists of them. The refusal is the first that applies of 1, `passed`, 8 and `held`; 1 and 8 speak of bytes and have no place in a register. Assumes nothing.
 use mathlib.Core.Bool.{Bool, cond, not, _&&_, _||_}
 use mathlib.Core.List.{List, [], _∷_, _++_}
@@ -9,10 +9,10 @@ use lib.ListN.{length}
 use lib.IntN.{ℤ}
 use Rattle.rules.specs.List.{filter, any}
 use Rattle.rules.specs.Limit.{code}
-use Rattle.rules.specs.Register.{Delegation, Register}
+use Rattle.rules.specs.Register.{Delegation, Register, isRetired}
 use Rattle.rules.specs.Support.{allowed}
 use Rattle.rules.specs.Pair.{isPair, weightAt, stands, raises}
-use Rattle.rules.specs.Call.{Call, enrol, grant, revoke, downgrade, askReach, askUse, setMarks}
+use Rattle.rules.specs.Call.{Call, enrol, grant, revoke, downgrade, askReach, askUse, setMarks, retire}
 
 -- the number of the first that applies, or 0
 abbrev pub firstOf : List (ℕ × Bool) → ℕ
@@ -41,7 +41,7 @@ noCondition n b = (4, ltb 65535 n || ltb 65535 b || not (eqb (bitAnd n b) 0))
 abbrev pub equalPair : ℕ → ℕ → ℕ × Bool
 equalPair g r = (5, eqb g r)
 
--- 6: the receiver, or the subject whose marks are set, is the owner
+-- 6: the receiver, or the subject whose marks are set or who is retired, is the owner
 abbrev pub toOwner : ℕ → ℕ × Bool
 toOwner r = (6, eqb r 0)
 
@@ -50,6 +50,14 @@ toOwner r = (6, eqb r 0)
 -- 9: a named subject is not enrolled
 abbrev pub notEnrolled : Register → List ℕ → ℕ × Bool
 notEnrolled R xs = (9, any (λ x. leb (R .subjects) x) xs)
+
+-- 19: a named subject is retired
+abbrev pub gone : Register → List ℕ → ℕ × Bool
+gone R xs = (19, any (isRetired R) xs)
+
+-- 9, and straight after it 19, of the subjects that a call names
+abbrev pub subjectsHeld : Register → List ℕ → List (ℕ × Bool)
+subjectsHeld R xs = notEnrolled R xs ∷ gone R xs ∷ []
 
 -- 10: 64 subjects enrolled
 abbrev pub allEnrolled : Register → ℕ × Bool
@@ -101,15 +109,17 @@ passed (downgrade y g r w) = noSubject (y ∷ g ∷ r ∷ []) ∷ noWeight w ∷
 passed (askReach g r) = noSubject (g ∷ r ∷ []) ∷ equalPair g r ∷ toOwner r ∷ []
 passed (askUse r) = noSubject (r ∷ []) ∷ []
 passed (setMarks y s m) = noSubject (y ∷ s ∷ []) ∷ noMarks m ∷ toOwner s ∷ []
+passed (retire y s) = noSubject (y ∷ s ∷ []) ∷ toOwner s ∷ []
 
 unfoldable pub held : List ℤ → Register → Call → List (ℕ × Bool)
 held t R (enrol m) = allEnrolled R ∷ []
-held t R (grant d) = notEnrolled R (d .giver ∷ d .receiver ∷ []) ∷ pairStands R d ∷ allStand R d ∷ overweight t R (d ∷ []) ∷ []
-held t R (revoke y g r) = notEnrolled R (y ∷ g ∷ r ∷ []) ∷ noPair R g r ∷ mayNot y g ∷ []
-held t R (downgrade y g r w) = notEnrolled R (y ∷ g ∷ r ∷ []) ∷ noPair R g r ∷ mayNot y g ∷ notBelow R g r w ∷ []
-held t R (askReach g r) = notEnrolled R (g ∷ r ∷ []) ∷ []
-held t R (askUse r) = notEnrolled R (r ∷ []) ∷ []
-held t R (setMarks y s m) = notEnrolled R (y ∷ s ∷ []) ∷ ownerOnly y ∷ []
+held t R (grant d) = subjectsHeld R (d .giver ∷ d .receiver ∷ []) ++ (pairStands R d ∷ allStand R d ∷ overweight t R (d ∷ []) ∷ [])
+held t R (revoke y g r) = subjectsHeld R (y ∷ g ∷ r ∷ []) ++ (noPair R g r ∷ mayNot y g ∷ [])
+held t R (downgrade y g r w) = subjectsHeld R (y ∷ g ∷ r ∷ []) ++ (noPair R g r ∷ mayNot y g ∷ notBelow R g r w ∷ [])
+held t R (askReach g r) = subjectsHeld R (g ∷ r ∷ [])
+held t R (askUse r) = subjectsHeld R (r ∷ [])
+held t R (setMarks y s m) = subjectsHeld R (y ∷ s ∷ []) ++ (ownerOnly y ∷ [])
+held t R (retire y s) = subjectsHeld R (y ∷ s ∷ []) ++ (ownerOnly y ∷ [])
 
 -- the refusal of a call on a register, or 0
 unfoldable pub refusalOf : List ℤ → Register → Call → ℕ
@@ -120,11 +130,11 @@ abbrev pub chainPassed : ℕ → ℕ → List (ℕ × Bool)
 chainPassed g r = noSubject (g ∷ r ∷ []) ∷ equalPair g r ∷ toOwner r ∷ []
 
 abbrev pub chainHeld : List ℤ → Register → ℕ → ℕ → List (ℕ × Bool)
-chainHeld t R g r = notEnrolled R (g ∷ r ∷ []) ∷ noPair R g r ∷ overweight t R (filter (isPair g r) (R .delegations)) ∷ []
+chainHeld t R g r = subjectsHeld R (g ∷ r ∷ []) ++ (noPair R g r ∷ overweight t R (filter (isPair g r) (R .delegations)) ∷ [])
 
 -- ── the order call (document 02, C-14), which is in no list: it changes no register ──
 abbrev pub orderPassed : ℕ → List (ℕ × Bool)
 orderPassed v = noSubject (v ∷ []) ∷ toOwner v ∷ []
 
 abbrev pub orderHeld : Register → ℕ → List (ℕ × Bool)
-orderHeld R v = notEnrolled R (v ∷ []) ∷ []
+orderHeld R v = subjectsHeld R (v ∷ [])

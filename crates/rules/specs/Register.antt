@@ -1,7 +1,9 @@
--- Registers (document 01, 'Subjects, marks, weights'; source 004, section 3): one right of one owner, who is subject 0. Assumes nothing.
+-- Registers (document 01, 'Subjects, marks, weights'; document 02, C-16; source 004, section 3): one right of one owner, who is subject 0. Assumes nothing.
+use mathlib.Core.Bool.{Bool}
 use mathlib.Core.List.{List, [], _∷_}
 use Prim.Native.Nat.{ℕ}
 use lib.ListN.{getD}
+use Rattle.rules.specs.Bits.{isSet}
 
 -- weight: how many further steps the right may travel, 255 unlimited. need and bar (document 01's terms): the marks a receiver must and must not have
 pub record Delegation : Type 0 where
@@ -11,14 +13,18 @@ pub record Delegation : Type 0 where
   pub need : ℕ
   pub bar : ℕ
 
--- how many subjects are enrolled; the marks (document 01's term) of each, a number read as bits; the standing delegations
+-- how many subjects are enrolled; the marks (document 01's term) of each, a number read as bits; those who are retired, subject s by bit s; the standing delegations
 pub record Register : Type 0 where
   pub subjects : ℕ
   pub marks : List ℕ
+  pub retired : ℕ
   pub delegations : List Delegation
 
 abbrev pub marksOf : Register → ℕ → ℕ
 marksOf R v = getD (R .marks) v 0
+
+abbrev pub isRetired : Register → ℕ → Bool
+isRetired R s = isSet (R .retired) s
 
 -- the delegation with these numbers
 abbrev pub granted : (giver receiver weight need bar : ℕ) → Delegation
@@ -34,11 +40,15 @@ reweigh d w = record { giver = d .giver; receiver = d .receiver; weight = w; nee
 
 -- the register with other delegations
 abbrev pub withDelegations : Register → List Delegation → Register
-withDelegations R ds = record { subjects = R .subjects; marks = R .marks; delegations = ds }
+withDelegations R ds = record { subjects = R .subjects; marks = R .marks; retired = R .retired; delegations = ds }
 
 -- the register with other marks
 abbrev pub withMarks : Register → List ℕ → Register
-withMarks R ms = record { subjects = R .subjects; marks = ms; delegations = R .delegations }
+withMarks R ms = record { subjects = R .subjects; marks = ms; retired = R .retired; delegations = R .delegations }
+
+-- the register with others retired
+abbrev pub withRetired : Register → ℕ → Register
+withRetired R n = record { subjects = R .subjects; marks = R .marks; retired = n; delegations = R .delegations }
 
 -- what is read where no delegation is
 abbrev pub noDelegation : Delegation

@@ -1,4 +1,4 @@
--- Remainders, and the best one (document 01, 'Calls'; both are its terms; document 02, C-15). C is the register after the change that rounds follow: competitors have its marks. Assumes nothing.
+-- Remainders, and the best one (document 01, 'Calls'; both are its terms; document 02, C-15 and C-16). C is the register after the change that rounds follow: competitors have its marks and its retired subjects. Assumes nothing.
 use mathlib.Core.Path.{_≡_}
 use mathlib.Core.List.{List}
 use Prim.Native.Nat.{_≤_}
@@ -16,10 +16,11 @@ pub record AtMost (d e : Delegation) : Type 0 where
 abbrev pub LiftsNothing : Register → Register → Type 0
 LiftsNothing G F = (d : Delegation) → d ∈ F .delegations → (e : Delegation) × (e ∈ G .delegations) × AtMost d e
 
--- the same subjects and marks, and G holds each delegation of F at least as heavy
+-- the same subjects, marks and retired subjects, and G holds each delegation of F at least as heavy
 pub record Within (F G : Register) : Type 0 where
   pub subjects : F .subjects ≡ G .subjects
   pub marks : F .marks ≡ G .marks
+  pub retired : F .retired ≡ G .retired
   pub held : LiftsNothing G F
 
 -- F is a remainder of C: within C, and each delegation supported within F itself. F is any list of delegations, well formed or not

@@ -1,12 +1,14 @@
--- Well-formed registers: those that a block can hold (document 01, 'The block'). Assumes nothing.
+-- Well-formed registers: those that a block can hold (document 01, 'The block'; document 02, C-16). Assumes nothing.
 use mathlib.Core.Path.{_≡_}
 use mathlib.Core.Logic.{_≢_, _⊎_}
+use mathlib.Core.Bool.{not}
 use mathlib.Core.List.{List, [], _∷_}
 use Prim.Native.Nat.{ℕ, _≤_, _<_}
 use lib.Bits.{bitAnd}
+use lib.Dec.{T}
 use lib.ListN.{length, getD}
 use Rattle.rules.specs.List.{_∈_}
-use Rattle.rules.specs.Register.{Delegation, Register}
+use Rattle.rules.specs.Register.{Delegation, Register, marksOf, isRetired}
 
 -- by giver, then receiver
 abbrev pub Before : Delegation → Delegation → Type 0
@@ -28,6 +30,13 @@ pub record DelegationFormed (n : ℕ) (d : Delegation) : Type 0 where
   pub bar : d .bar ≤ 65535
   pub disjoint : bitAnd (d .need) (d .bar) ≡ 0
 
+-- a retired subject is enrolled, is not the owner and has no marks; no delegation is to or from it
+abbrev pub RetiredFormed : Register → ℕ → Type 0
+RetiredFormed R s = (s < R .subjects) × (s ≢ 0) × (marksOf R s ≡ 0)
+
+abbrev pub Apart : Register → Delegation → Type 0
+Apart R d = T (not (isRetired R (d .giver))) × T (not (isRetired R (d .receiver)))
+
 pub record WellFormed (R : Register) : Type 0 where
   pub some : 1 ≤ R .subjects
   pub most : R .subjects ≤ 64
@@ -37,3 +46,5 @@ pub record WellFormed (R : Register) : Type 0 where
   pub few : length (R .delegations) ≤ 256
   pub rising : Rising (R .delegations)
   pub each : (d : Delegation) → d ∈ R .delegations → DelegationFormed (R .subjects) d
+  pub retired : (s : ℕ) → T (isRetired R s) → RetiredFormed R s
+  pub apart : (d : Delegation) → d ∈ R .delegations → Apart R d

@@ -19,6 +19,8 @@ pub const NOT_WELL_FORMED: u32 = 8;
 
 pub const NOT_ENROLLED: u32 = 9;
 
+pub const RETIRED: u32 = 19;
+
 pub const ALL_ENROLLED: u32 = 10;
 
 pub const PAIR_STANDS: u32 = 11;

@@ -15,8 +15,9 @@ use Rattle.rules.specs.Limit.{none, code, _≼_}
 use Rattle.rules.proofs.Lists.{yes, no, either, eqOr}
 use Rattle.rules.proofs.Signed.{kept, getD-within, read-limit, more, not-more, code-live, code-pos}
 use Rattle.block.specs.Layout.{mostSubjects}
-use Rattle.queue.specs.Queue.{bit, BitPut, Lowest}
-use Rattle.queue.proofs.Buckets.{bit-zero}
+use Rattle.rules.specs.Bits.{bit, BitPut}
+use Rattle.queue.specs.Queue.{Lowest}
+use Rattle.rules.proofs.Bits.{bit-zero}
 use Rattle.search.specs.Turns.{Heaviest}
 
 -- limits of one code are the same

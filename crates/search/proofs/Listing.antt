@@ -14,9 +14,11 @@ use Rattle.rules.specs.Limit.{none, code}
 use Rattle.rules.proofs.Lists.{either, eq→eqb}
 use Rattle.rules.proofs.Order.{Ordered, ordered-start, ordered-next, ordered-end}
 use Rattle.block.specs.Layout.{mostSubjects}
-use Rattle.queue.specs.Queue.{BitPut, Lowest}
+use Rattle.rules.specs.Bits.{BitPut}
+use Rattle.queue.specs.Queue.{Lowest}
 use Rattle.queue.specs.declared.Sets.{Sets}
-use Rattle.queue.proofs.Buckets.{bit-zero, left-few}
+use Rattle.rules.proofs.Bits.{bit-zero}
+use Rattle.queue.proofs.Buckets.{left-few}
 use Rattle.runs.specs.Lent.{recordCount, delegationsIn, Lent}
 use Rattle.search.specs.Search.{underMarks, parentIn}
 use Rattle.search.specs.Found.{SettledSo}

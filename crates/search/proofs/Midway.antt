@@ -14,10 +14,12 @@ use Rattle.rules.specs.Limit.{none, _≼_}
 use Rattle.rules.proofs.Lists.{eqOr}
 use Rattle.rules.proofs.Signed.{code-pos}
 use Rattle.block.specs.Layout.{mostSubjects}
-use Rattle.queue.specs.Queue.{bit, BitPut, Lowest, topOf, Empty, ownerHere}
+use Rattle.rules.specs.Bits.{bit, BitPut}
+use Rattle.queue.specs.Queue.{Lowest, topOf, Empty, ownerHere}
 use Rattle.queue.specs.declared.Sets.{Sets}
 use Rattle.search.specs.declared.Turn.{Turn}
-use Rattle.queue.proofs.Buckets.{bit-zero, bit-small, bit-or, covered-take}
+use Rattle.rules.proofs.Bits.{bit-zero, bit-small, bit-or}
+use Rattle.queue.proofs.Buckets.{covered-take}
 use Rattle.runs.specs.Lent.{recordCount, Lent, SubjectLists}
 use Rattle.runs.specs.Steps.{Gave, Waiting, Ready}
 use Rattle.search.specs.Search.{Started}

@@ -14,8 +14,8 @@ use Rattle.rules.specs.Condition.{meets}
 use Rattle.rules.specs.Chain.{limit, IsChain}
 use Rattle.rules.specs.Reach.{IsReach, reach}
 use Rattle.rules.proofs.Reach.{reach-is, reach-only}
-use Rattle.queue.specs.Queue.{bit}
-use Rattle.queue.proofs.Buckets.{bit-small, bit-and, bits-same}
+use Rattle.rules.specs.Bits.{bit}
+use Rattle.rules.proofs.Bits.{bit-small, bit-and, bits-same}
 use Rattle.search.specs.Search.{underMarks}
 use Rattle.search.specs.Named.{MarksAmong, AllNamed}
 use Rattle.search.proofs.Searching.{reach-marks}

@@ -22,7 +22,8 @@ use Rattle.rules.proofs.Search.{Found, Search, search-skip, search-raise}
 use Rattle.block.specs.Layout.{mostSubjects, recordSize}
 use Rattle.search.specs.Search.{underMarks, parentIn}
 use Rattle.runs.specs.Steps.{Stepped, SteppedTo, stepped-none, stepped-more, part}
-use Rattle.queue.specs.Queue.{bit, waits, BitSet, groupOf, topOf, placeOf}
+use Rattle.rules.specs.Bits.{bit}
+use Rattle.queue.specs.Queue.{waits, BitSet, groupOf, topOf, placeOf}
 use Rattle.queue.proofs.Buckets.{place-here, place-near, place-far}
 use Rattle.runs.specs.Lent.{recordCount, recordAt, delegationsIn}
 use Rattle.search.specs.Found.{ParentsAmong}

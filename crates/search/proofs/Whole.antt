@@ -25,13 +25,15 @@ use Rattle.search.specs.Search.{underMarks, parentIn, mostLinks, Started
 use Rattle.search.specs.Turns.{Heaviest}
 use Rattle.runs.specs.Lent.{recordCount, recordAt, Lent, SubjectLists, delegationsIn}
 use Rattle.runs.specs.Steps.{SteppedTo, part, Gave, Waiting}
-use Rattle.queue.specs.Queue.{groups, setBits, bit, BitPut, Without, Lowest, waits, groupOf, topOf, Covered, Empty, Taken}
+use Rattle.rules.specs.Bits.{bit, BitPut}
+use Rattle.queue.specs.Queue.{groups, setBits, Without, Lowest, waits, groupOf, topOf, Covered, Empty, Taken}
 use Rattle.search.specs.Found.{Searched}
 use Rattle.runs.proofs.Records.{delegation-mem, mem-delegation}
 use Rattle.runs.proofs.Givers.{part-count, part-receivers}
 use Rattle.rules.proofs.Signed.{code-live, code-pos}
 use Rattle.search.proofs.State.{limitOf, isSettled, InGroup, Waits, waits-here, waits-near, waits-far, waits-same, State, state-limit, ran, AllHere, all-ran}
-use Rattle.queue.proofs.Buckets.{bit-zero, bit-small, left, left-falls, members, members-few, members-fall, part-put}
+use Rattle.rules.proofs.Bits.{bit-zero, bit-small}
+use Rattle.queue.proofs.Buckets.{left, left-falls, members, members-few, members-fall, part-put}
 
 -- how many subjects are open
 abbrev pub unsettled : ℕ → ℕ

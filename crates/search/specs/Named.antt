@@ -3,7 +3,7 @@ use Prim.Native.Nat.{ℕ, _≤_}
 use mathlib.Core.List.{List}
 use Rattle.rules.specs.List.{_∈_}
 use Rattle.rules.specs.Register.{Delegation}
-use Rattle.queue.specs.Queue.{bit}
+use Rattle.rules.specs.Bits.{bit}
 
 -- every mark of m is a mark of n
 abbrev pub MarksAmong : ℕ → ℕ → Type 0

@@ -15,7 +15,7 @@ use Rattle.block.specs.Layout.{mostSubjects}
 
 -- a register with these delegations in which subject 0 has these marks: the reach of a pair looks at nothing else
 abbrev pub underMarks : List Delegation → ℕ → Register
-underMarks ds m = record { subjects = 1; marks = m ∷ []; delegations = ds }
+underMarks ds m = record { subjects = 1; marks = m ∷ []; retired = 0; delegations = ds }
 
 -- the limits and the places of the parents as a search begins: 255 at the owner, none elsewhere, no parents
 pub record Started (l : List ℤ) (p : List ℕ) : Type 0 where

@@ -7,7 +7,8 @@ use lib.ListN.{length, getD}
 use lib.IntN.{ℤ, pos}
 use Rattle.rules.specs.Limit.{none, code, _≼_}
 use Rattle.block.specs.Layout.{mostSubjects}
-use Rattle.queue.specs.Queue.{bit, BitPut, Without, Lowest, Taken}
+use Rattle.rules.specs.Bits.{bit, BitPut}
+use Rattle.queue.specs.Queue.{Without, Lowest, Taken}
 use Rattle.queue.specs.declared.Sets.{Sets}
 use Rattle.search.specs.declared.Turn.{Turn}
 

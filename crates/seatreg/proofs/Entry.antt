@@ -19,6 +19,7 @@ use Rattle.steptable.specs.declared.Given.{Given}
 use Rattle.regfile.specs.FileText.{fileText}
 use Rattle.register.specs.CallOn.{Result, callOn, openOn}
 use Rattle.register.specs.Made.{result, Made, MadeOpen}
+use Rattle.register.specs.Bring.{bringOn, BringMade}
 use Rattle.register.specs.Cuts.{onRegister, CutMade}
 use Rattle.register.specs.declared.Answer.{Answer}
 use Rattle.transfer.specs.FileOn.{writeRefusal, WriteMade, ReadMade}
@@ -28,7 +29,7 @@ use Rattle.order.specs.Items.{itemSize}
 use Rattle.order.specs.OrderOn.{orderRefusalOn, IsOrderBytes, OrderMade}
 use Rattle.order.specs.declared.Listed.{Listed}
 use Rattle.seatreg.specs.Answers.{answerBytes}
-use Rattle.seatreg.specs.Entry.{handedOut, wrongAnswers, entryOf, entryOn, entryOpen, EntryMade, EntryOpened, EntryReadMade, EntryFilled, EntryWriteMade, EntryOrderMade, EntryCutRight, EntryCutMade, toldBy, AnswersPut}
+use Rattle.seatreg.specs.Entry.{handedOut, wrongAnswers, entryOf, entryOn, entryOpen, EntryMade, EntryOpened, EntryBroughtOver, EntryReadMade, EntryFilled, EntryWriteMade, EntryOrderMade, EntryCutRight, EntryCutMade, toldBy, AnswersPut}
 
 -- ── what is handed out ──
 module _ (o : Answer) (a : List ℕ) where
@@ -94,6 +95,14 @@ module _ (b a : List ℕ) where
   pub open-made : length a ≡ 12 → (o : Answer) (b' : List ℕ) → MadeOpen b o b' → (n : ℕ) (a' : List ℕ) → AnswersPut o a n a' → EntryOpened b a n b' a'
   unfolding entryOpen
   open-made l o b' e n a' h = made-of (openOn b) b a l o b' e n a' h
+
+-- ── of bringing over ──
+module _ (old b a : List ℕ) where
+  pub bring-short : length a ≢ 12 → EntryBroughtOver old b a 1 b a
+  bring-short n = short-of (bringOn old b) b a n
+
+  pub bring-made : length a ≡ 12 → (o : Answer) (b' : List ℕ) → BringMade old b o b' → (n : ℕ) (a' : List ℕ) → AnswersPut o a n a' → EntryBroughtOver old b a n b' a'
+  bring-made l o b' e n a' h = made-of (bringOn old b) b a l o b' e n a' h
 
 -- ── of a read ──
 module _ (text table b a : List ℕ) where

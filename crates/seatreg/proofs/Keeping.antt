@@ -12,7 +12,7 @@ use lib.Seq.{drop-at}
 use lib.IntN.{ℤ, pos, negsuc}
 use Rattle.rules.specs.Limit.{code, _≼_, fromNone}
 use Rattle.rules.specs.Table.{TableRule}
-use Rattle.rules.specs.Call.{Call, enrol, grant, revoke, downgrade, askReach, askUse, setMarks, fresh}
+use Rattle.rules.specs.Call.{Call, enrol, grant, revoke, downgrade, askReach, askUse, setMarks, retire, fresh}
 use Rattle.rules.specs.Ranges.{FromTo, Unused, CutInRange, InRange}
 use Rattle.rules.proofs.Table.{steps-rule}
 use Rattle.rules.proofs.Calls.{fresh-formed}
@@ -30,6 +30,7 @@ use Rattle.steptable.proofs.Right.{given-keeps}
 use Rattle.regfile.specs.FileText.{fileText}
 use Rattle.regfile.proofs.Sizes.{file-some, file-short}
 use Rattle.register.specs.CallOn.{Result, turned, callOn, openOn}
+use Rattle.register.specs.Bring.{bringOn}
 use Rattle.transfer.specs.FileOn.{writeRefusal}
 use Rattle.transfer.specs.RoundTrip.{reading}
 use Rattle.transfer.proofs.Writing.{write-through}
@@ -38,11 +39,11 @@ use Rattle.order.specs.OrderOn.{orderRefusalOn, IsOrderBytes}
 use Rattle.order.proofs.OrderWays.{order-through}
 use Rattle.demands.specs.History.{reads}
 use Rattle.demands.specs.Kept.{mostWritten}
-use Rattle.demands.proofs.Keeping.{kept, kept-open, kept-read}
+use Rattle.demands.proofs.Keeping.{kept, kept-open, kept-bring, kept-read}
 use Rattle.demands.proofs.History.{bytes-left}
 use Rattle.seatreg.specs.Answers.{answersSize, answerBytes, answerIn}
 use Rattle.seatreg.specs.Entry.{wrongAnswers, entryOf, entryOn, entryOpen, EntryFilled, EntryWriteMade, EntryOrderMade}
-use Rattle.seatreg.specs.Kept.{BuffersKept, AllUnused, EntryKept, EntryKeptOpen, EntryKeptRead, EntryKeptFilled, EntryKeptWrite, EntryKeptOrder}
+use Rattle.seatreg.specs.Kept.{BuffersKept, AllUnused, EntryKept, EntryKeptOpen, EntryKeptBring, EntryKeptRead, EntryKeptFilled, EntryKeptWrite, EntryKeptOrder}
 use Rattle.seatreg.proofs.AnswerBytes.{Fits32, length-answers, bytes-answers, first-back, second-back, third-back}
 
 -- ── answers in range have 32 bits ──
@@ -76,6 +77,7 @@ all-fit (downgrade y g r w) a b c h = cut-fits 511 (omega arith) a b c h
 all-fit (askReach g r) a b c (f, h, y, z) = (reach-fits a f h, unused-fits y, unused-fits z)
 all-fit (askUse r) a b c (k, y, z) = (range-fits (omega arith) k, unused-fits y, unused-fits z)
 all-fit (setMarks y s m) a b c h = cut-fits 512 (omega arith) a b c h
+all-fit (retire y s) a b c h = cut-fits 512 (omega arith) a b c h
 
 -- ── what is handed out, of a library call's result r that is kept ──
 apart : (n : ℕ) → eqb n 0 ≡ false → n ≢ 0
@@ -176,6 +178,18 @@ entry-kept-open b a found lent =
       range = k .range;
       fits = λ e. unused-fit (openOn b .first) (openOn b .second) (openOn b .third) (k .range e);
       bytes = open-bytes b found;
+    }
+
+pub entry-kept-bring : (old b a : List ℕ) → IsBytes old → IsBytes b → IsBytes a → EntryKeptBring old b a
+entry-kept-bring old b a given found lent =
+    let k = kept-bring old b in
+    let r = bringOn old b in
+    kept-of AllUnused b a found lent r record {
+      refused = k .refused;
+      formed = k .formed;
+      range = k .range;
+      fits = λ e. unused-fit (r .first) (r .second) (r .third) (k .range e);
+      bytes = k .bytes given found;
     }
 
 pub entry-kept-read : (text table b a : List ℕ) → IsBytes b → IsBytes a → EntryKeptRead text table b a

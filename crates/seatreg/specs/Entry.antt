@@ -1,5 +1,5 @@
 -- What every C entry point promises: one relation of what is given with the step table's text, the call, both buffers before, the number returned and both buffers after (document 01, 'Calls'; document 02,
--- C-11 and C-13 to C-15). Assumes nothing.
+-- C-11 and C-13 to C-16). Assumes nothing.
 use mathlib.Core.Path.{_≡_}
 use mathlib.Core.Logic.{_≢_}
 use mathlib.Core.Bool.{cond}
@@ -19,6 +19,7 @@ use Rattle.block.specs.Block.{decode}
 use Rattle.steptable.specs.declared.Given.{Given}
 use Rattle.regfile.specs.FileText.{fileText}
 use Rattle.register.specs.CallOn.{Result, callOn, openOn}
+use Rattle.register.specs.Bring.{bringOn}
 use Rattle.register.specs.declared.Answer.{Answer}
 use Rattle.transfer.specs.FileOn.{writeRefusal}
 use Rattle.transfer.specs.RoundTrip.{reading}
@@ -62,6 +63,10 @@ EntryMade g c b a n b' a' = record { refusal = n; block = b'; answers = a' } ≡
 
 abbrev pub EntryOpened : List ℕ → List ℕ → ℕ → List ℕ → List ℕ → Type 0
 EntryOpened b a n b' a' = record { refusal = n; block = b'; answers = a' } ≡ entryOpen b a
+
+-- of bringing a block of the layout before over
+abbrev pub EntryBroughtOver : (old b a : List ℕ) → ℕ → List ℕ → List ℕ → Type 0
+EntryBroughtOver old b a n b' a' = record { refusal = n; block = b'; answers = a' } ≡ entryOf (bringOn old b) b a
 
 -- of a read of a register's text with a step table's
 abbrev pub EntryReadMade : (text table b a : List ℕ) → ℕ → List ℕ → List ℕ → Type 0

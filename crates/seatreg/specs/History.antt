@@ -1,5 +1,5 @@
 -- Demand 3 for the entry points: one claim about a whole list of calls, each with a step table's text and an answers buffer of any length and content, reads of a register's text among them
--- (document 01, 'Calls'; document 02, C-11, C-13 and C-15).
+-- (document 01, 'Calls'; document 02, C-11, C-13, C-15 and C-16).
 -- Assumes nothing.
 use mathlib.Core.Path.{_≡_}
 use mathlib.Core.Bool.{true}

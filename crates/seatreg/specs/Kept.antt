@@ -1,4 +1,4 @@
--- Demand 1 for the entry points (document 01, 'Turned back by what was passed'; document 02, C-11, C-13 and C-14): refused, no lent byte changes; accepted, the block is well formed and the twelve bytes hold answers in range. Assumes nothing.
+-- Demand 1 for the entry points (document 01, 'Turned back by what was passed'; document 02, C-11, C-13, C-14 and C-16): refused, no lent byte changes; accepted, the block is well formed and the twelve bytes hold answers in range. Assumes nothing.
 use mathlib.Core.Path.{_≡_}
 use mathlib.Core.Logic.{_≢_}
 use mathlib.Core.Bool.{true}
@@ -11,6 +11,7 @@ use Rattle.rules.specs.Ranges.{FromTo, Unused, InRange}
 use Rattle.block.specs.Bytes.{IsBytes}
 use Rattle.block.specs.WellFormed.{wellFormed}
 use Rattle.steptable.specs.declared.Given.{Given}
+use Rattle.register.specs.Bring.{bringOn}
 use Rattle.transfer.specs.RoundTrip.{reading}
 use Rattle.order.specs.Items.{orderSize}
 use Rattle.demands.specs.Kept.{mostWritten}
@@ -29,12 +30,15 @@ pub record BuffersKept (Range : ℤ → ℤ → ℤ → Type 0) (b a : List ℕ)
 abbrev pub EntryKept : Given → Call → List ℕ → List ℕ → Type 0
 EntryKept g c b a = BuffersKept (InRange c) b a (entryOn g a b c)
 
--- open and read answer 0
+-- open, bringing over and read answer 0
 abbrev pub AllUnused : ℤ → ℤ → ℤ → Type 0
 AllUnused x y z = Unused x × Unused y × Unused z
 
 abbrev pub EntryKeptOpen : List ℕ → List ℕ → Type 0
 EntryKeptOpen b a = BuffersKept AllUnused b a (entryOpen b a)
+
+abbrev pub EntryKeptBring : (old b a : List ℕ) → Type 0
+EntryKeptBring old b a = BuffersKept AllUnused b a (entryOf (bringOn old b) b a)
 
 abbrev pub EntryKeptRead : (text table b a : List ℕ) → Type 0
 EntryKeptRead text table b a = BuffersKept AllUnused b a (entryOf (reading text table b) b a)

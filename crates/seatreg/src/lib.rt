@@ -1,10 +1,10 @@
-// The C entry points of the register: the calls on plain numbers, a lent block and twelve lent bytes for the answers, both of any length and content; those that reckon reach also with the text of a step table; the order for a receiver; the register as a file, out and in.
+// The C entry points of the register: the calls on plain numbers, a lent block and twelve lent bytes for the answers, both of any length and content; those that reckon reach also with the text of a step table; the order for a receiver; the register as a file, out and in; a block of the layout before, brought over.
 mod answers;
 
 ghost use Rattle.rules.specs.Register.{granted};
-ghost use Rattle.rules.specs.Call.{enrol, grant, revoke, downgrade, askReach, askUse, setMarks};
+ghost use Rattle.rules.specs.Call.{enrol, grant, revoke, downgrade, askReach, askUse, setMarks, retire};
 ghost use Rattle.steptable.specs.TableText.{ours, given};
-ghost use Rattle.seatreg.specs.Entry.{EntryMade, EntryOpened, EntryCutMade, EntryReadMade, EntryWriteMade, EntryOrderMade};
+ghost use Rattle.seatreg.specs.Entry.{EntryMade, EntryOpened, EntryCutMade, EntryBroughtOver, EntryReadMade, EntryWriteMade, EntryOrderMade};
 use rules::refusal;
 
 // Writes a fresh register: one subject, no delegation.
@@ -16,6 +16,18 @@ pub extern "C" fn seatreg_open(block: &mut [u8], answers: &mut [u8]) -> u32
         return refusal::WRONG_LENGTH;
     }
     let o = register::open(block);
+    answers::hand_out(o, answers)
+}
+
+// Takes a block of the layout before, of 2,180 bytes, over into one of the present layout.
+#[no_mangle]
+pub extern "C" fn seatreg_bring_over(old: &[u8], block: &mut [u8], answers: &mut [u8]) -> u32
+    ensures { λ r. ⌜ EntryBroughtOver (now (old .entry)) (now (block .entry)) (now (answers .entry)) r (now (block .exit)) (now (answers .exit)) ⌝ }
+{
+    if answers.len() != answers::ANSWERS_SIZE {
+        return refusal::WRONG_LENGTH;
+    }
+    let o = register::bring_over(old, block);
     answers::hand_out(o, answers)
 }
 
@@ -206,6 +218,24 @@ pub extern "C" fn seatreg_set_marks(
         return refusal::WRONG_LENGTH;
     }
     let o = register::set_marks(block, by, subject, marks, table);
+    answers::hand_out(o, answers)
+}
+
+// Retires an enrolled subject: all delegations to and from it are removed, its marks cleared, its bit set; then as revoke by such a table.
+#[no_mangle]
+pub extern "C" fn seatreg_retire(
+    block: &mut [u8],
+    by: u32,
+    subject: u32,
+    table: &[u8],
+    answers: &mut [u8],
+) -> u32
+    ensures { λ r. ⌜ EntryCutMade (given (now (table .entry))) (retire by subject) (now (block .entry)) (now (answers .entry)) r (now (block .exit)) (now (answers .exit)) ⌝ }
+{
+    if answers.len() != answers::ANSWERS_SIZE {
+        return refusal::WRONG_LENGTH;
+    }
+    let o = register::retire(block, by, subject, table);
     answers::hand_out(o, answers)
 }
 

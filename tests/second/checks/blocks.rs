@@ -1,6 +1,6 @@
 //! Decode, encode and the rules of well-formedness.
 
-use generate::{broken, full};
+use generate::{broken, full, retireregisters};
 use second::block::*;
 use second::call;
 use second::casefile::{answer, block_text, read_block};
@@ -18,7 +18,9 @@ fn any_register(random: &mut Random) -> Register {
         marks: 0xFFFF,
         conditions: 70,
     };
-    random_register(random, &shape)
+    let register = random_register(random, &shape);
+    let gone = random.range(1, shape.subjects - 1);
+    if random.chance(50) { retireregisters::without(register, &[gone]) } else { register }
 }
 
 #[test]
@@ -84,7 +86,7 @@ fn calls_on_the_valid_block_are_accepted() {
 fn open_writes_a_fresh_block() {
     let mut block = vec![0xEE; BLOCK_LEN];
     assert_eq!(call::open(&mut block).refusal, 0);
-    assert_eq!(block_text(&block), "2180:01");
+    assert_eq!(block_text(&block), "2188:01");
     let mut short = vec![0xEE; BLOCK_LEN - 1];
     assert_eq!(call::open(&mut short).refusal, 1);
     assert!(short.iter().all(|&byte| byte == 0xEE));
@@ -93,7 +95,7 @@ fn open_writes_a_fresh_block() {
 #[test]
 fn block_texts_are_read_back() {
     let mut random = Random::new(0x7E47);
-    for length in [0, 1, 2, 2179, 2180, 2181, 4096] {
+    for length in [0, 1, 2, 2180, 2187, 2188, 2189, 4096] {
         for _ in 0..20 {
             let block: Vec<u8> = (0..length).map(|_| if random.chance(50) { 0 } else { random.next() as u8 }).collect();
             assert_eq!(read_block(block_text(&block).as_bytes()), Some(block));

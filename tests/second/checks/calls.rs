@@ -4,7 +4,7 @@
 
 use super::same;
 use crate::faults::{ONE_ROUND, TEXT_LEFT_OUT, VISITED_ONCE};
-use generate::{drawnmarks, lists, marklists, raises, texts, unsupported};
+use generate::{drawnmarks, lists, marklists, raises, retirelists, texts, unsupported};
 use second::block::{decode, encode, well_formed, Register, BLOCK_LEN};
 use second::call::{self, Outcome};
 use second::casefile::{answer, answer_table};
@@ -45,8 +45,12 @@ fn first_applying(n: &Passed, text: &[u8], block: &[u8]) -> u32 {
 /// What random lists are made of: how a call is drawn, and which calls there are.
 type Mix = (lists::Draw, &'static [Call]);
 
-const MIXES: [Mix; 3] =
-    [(lists::likely, &lists::CUT), (raises::likely, &lists::CUT), (drawnmarks::likely, &marklists::DRAWN)];
+const MIXES: [Mix; 4] = [
+    (lists::likely, &lists::CUT),
+    (raises::likely, &lists::CUT),
+    (drawnmarks::likely, &marklists::DRAWN),
+    (drawnmarks::likely, &retirelists::DRAWN),
+];
 
 /// Random lists of calls with an engine and with the definition.
 fn same_lists(engine: &Engine, (draw, calls): Mix) -> Result<usize, String> {
@@ -120,6 +124,10 @@ fn lists_under_tables_are_literal() {
     }
 }
 
+/// Calls on the pair of a delegation, or on its receiver.
+const ON_PAIRS: [Call; 7] =
+    [Call::Revoke, Call::Downgrade, Call::Chain, Call::Reach, Call::Use, Call::SetMarks, Call::Retire];
+
 /// From random well-formed blocks that are not supported.
 #[test]
 fn calls_on_unsupported_blocks() {
@@ -130,7 +138,7 @@ fn calls_on_unsupported_blocks() {
         let start = encode(&register);
         for d in &register.delegations {
             let (giver, receiver) = (d.giver as u32, d.receiver as u32);
-            for call in [Call::Revoke, Call::Downgrade, Call::Chain, Call::Reach, Call::Use, Call::SetMarks] {
+            for call in ON_PAIRS {
                 let n = Passed { giver, receiver, weight: 126, ..call::blank(call) };
                 let mut block = start.clone();
                 let found = checked(&FAST, &n, b"", &mut block).unwrap();
@@ -156,7 +164,7 @@ fn any_input_is_answered() {
     let mut random = Random::new(0xA11);
     let refused: Vec<Vec<u8>> = texts::malformed().into_iter().chain(texts::broken()).map(|text| text.bytes).collect();
     for _ in 0..30_000 {
-        let length = random.pick(&[0, 1, 4, 131, 132, 2179, 2180, 2180, 2180, 2181, 4096]);
+        let length = random.pick(&[0, 1, 4, 132, 140, 2180, 2187, 2188, 2188, 2188, 2189, 4096]);
         let mut block = vec![0; length];
         for _ in 0..random.below(12) {
             let near = if random.chance(70) { 160 } else { 4096 };
@@ -199,4 +207,7 @@ fn public_calls() {
     assert_eq!(call::set_marks(&mut block, 0, 2, 3), accepted([0, 0, 1]));
     assert_eq!(decode(&block).map(|register| register.marks), Some(vec![0, 1, 3]));
     assert_eq!(call::set_marks(&mut block, 2, 1, 3), Outcome { refusal: 14, answers: [0, 0, 0] });
+    assert_eq!(call::retire(&mut block, 2, 1), Outcome { refusal: 14, answers: [0, 0, 0] });
+    assert_eq!(call::retire(&mut block, 0, 1), accepted([0, 0, 1]));
+    assert_eq!(decode(&block).map(|register| (register.marks, register.retired)), Some((vec![0, 0, 3], 2)));
 }

@@ -34,7 +34,7 @@ fn files_are_small_and_read_back() {
         bytes += file.cases.len() + file.expected.len();
     }
     assert_eq!(lines, cases.len());
-    assert!(bytes < 800_000, "{bytes}");
+    assert!(bytes < 1_000_000, "{bytes}");
 }
 
 /// Columns that a call does not use are 0, a call that takes no table has an empty
@@ -161,6 +161,25 @@ fn reads_stand_among_other_calls() {
     assert!(sequences.len() >= 6 && accepted > 10 && refused > 10 && after > 4, "{accepted} {refused} {after}");
 }
 
+/// Subjects retire between writes and reads: accepted retirements, writes of registers in which
+/// some have retired, and accepted reads of such.
+#[test]
+fn subjects_retire_among_writes_and_reads() {
+    let mut found = [0; 3];
+    for case in cases() {
+        let (outcome, left) = case.made(&FAST);
+        let gone = decode(&left.block).is_some_and(|register| register.retired != 0);
+        let at = match case.asked {
+            Asked::Call(n) if n.call == Call::Retire => 0,
+            Asked::Write(_) => 1,
+            Asked::Read => 2,
+            _ => continue,
+        };
+        found[at] += (outcome.refusal == 0 && gone) as u32;
+    }
+    assert!(found.iter().all(|&count| count > 10), "{found:?}");
+}
+
 /// The refusal of a program and the block that it leaves.
 type Left = (u32, Vec<u8>);
 
@@ -244,10 +263,28 @@ fn zeros_left_out(on: &Bytes) -> Left {
     (number, bytes.collect())
 }
 
+/// The right program, on a file whose subjects' numbers were changed.
+fn of_retired(on: &Bytes, change: fn(&mut [u32; 3])) -> Left {
+    let Some(mut rows) = Rows::read(&on.file) else { return right(&on.block, &on.file, &on.table) };
+    rows.subjects.iter_mut().for_each(change);
+    right(&on.block, &rows.text(), &on.table)
+}
+
+/// A file with the column, which is 0 for all, before its empty line.
+fn with_zeros(file: &[u8]) -> Vec<u8> {
+    let subjects = lines(file).take_while(|&line| line != b"\n").count();
+    let with = |(at, line): (usize, &[u8])| match (at, line.strip_suffix(b"\n")) {
+        (0, Some(line)) => [line, b" retired\n"].concat(),
+        (at, Some(line)) if at < subjects => [line, b" 0\n"].concat(),
+        _ => line.to_vec(),
+    };
+    lines(file).enumerate().flat_map(with).collect()
+}
+
 type Wrong = (&'static str, fn(&Bytes) -> Left);
 
 /// Programs that read otherwise.
-const WRONG_READERS: [Wrong; 29] = [
+const WRONG_READERS: [Wrong; 42] = [
     ("an empty file is a fresh register", |on| {
         let fresh = file_text(&Register::fresh());
         right(&on.block, if on.file.is_empty() { &fresh } else { &on.file }, &on.table)
@@ -273,7 +310,7 @@ const WRONG_READERS: [Wrong; 29] = [
     ("subjects above 64 are left out", |on| on_rows(on, |rows| rows.subjects.truncate(64))),
     ("delegations above 256 are left out", |on| on_rows(on, |rows| rows.delegations.truncate(256))),
     ("no subjects are the owner alone", |on| {
-        on_rows(on, |rows| if rows.subjects.is_empty() { rows.subjects.push([0, 0]) })
+        on_rows(on, |rows| if rows.subjects.is_empty() { rows.subjects.push([0, 0, 0]) })
     }),
     ("the owner's marks are left out", |on| {
         on_rows(on, |rows| rows.subjects.iter_mut().take(1).for_each(|row| row[1] = 0))
@@ -303,6 +340,30 @@ const WRONG_READERS: [Wrong; 29] = [
     }),
     ("a refused register is left in the block", left_half),
     ("zeros are not put into the block", zeros_left_out),
+    ("the column may be missing", |on| match Rows::read(&on.file) {
+        None => right(&on.block, &with_zeros(&on.file), &on.table),
+        Some(_) => right(&on.block, &on.file, &on.table),
+    }),
+    ("retired keeps one bit", |on| of_retired(on, |row| row[2] &= 1)),
+    ("retired keeps 8 bits", |on| of_retired(on, |row| row[2] &= 0xFF)),
+    ("retired keeps 16 bits", |on| of_retired(on, |row| row[2] &= 0xFFFF)),
+    ("what is not 0 is 1", |on| of_retired(on, |row| row[2] = row[2].min(1))),
+    ("nobody has retired", |on| of_retired(on, |row| row[2] = 0)),
+    ("what is not 1 is 0", |on| of_retired(on, |row| row[2] = (row[2] == 1) as u32)),
+    ("0 and 1 are exchanged", |on| of_retired(on, |row| row[2] ^= (row[0] != 0 && row[2] < 2) as u32)),
+    ("the owner's column is left out", |on| of_retired(on, |row| row[2] *= (row[0] != 0) as u32)),
+    ("the marks of the retired are cleared", |on| of_retired(on, |row| row[1] *= (row[2] != 1) as u32)),
+    ("who has marks has not retired", |on| of_retired(on, |row| row[2] *= (row[1] == 0) as u32)),
+    ("the records of the retired are left out", |on| {
+        on_rows(on, |rows| {
+            let gone: Vec<u32> = rows.subjects.iter().filter(|row| row[2] == 1).map(|row| row[0]).collect();
+            rows.delegations.retain(|row| !gone.contains(&row[0]) && !gone.contains(&row[1]));
+        })
+    }),
+    ("7 for another number than 0 and 1", |on| {
+        let above = |rows: Rows| rows.subjects.iter().any(|row| row[2] > 1);
+        instead(on, 8, if Rows::read(&on.file).is_some_and(above) { |_| 7 } else { |_| 8 })
+    }),
 ];
 
 #[test]
@@ -327,10 +388,10 @@ fn wrong_support_is_noticed() {
 
 /// The refusal of a write and the file that it leaves, which is the right one's with
 /// 18 for what is unsupported, with every buffer that has room, with one length only,
-/// or without subjects that have no marks.
+/// without subjects that have no marks, or with nobody retired.
 #[test]
 fn wrong_writers_are_noticed() {
-    let mut noticed = [0; 4];
+    let mut noticed = [0; 5];
     for FileCase { asked, on } in cases() {
         let Asked::Write(buffer) = *asked else { continue };
         let mut space = vec![0; buffer as usize];
@@ -338,11 +399,13 @@ fn wrong_writers_are_noticed() {
         let text = decode(&on.block).map(|register| file_text(&register)).unwrap_or_default();
         let unsupported = written.refusal == 0 && right(&on.block, &space[..written.filled], b"").0 == 18;
         let has_room = written.refusal == 1 && !text.is_empty() && text.len() <= buffer as usize;
-        let unmarked = written.refusal == 0 && text.windows(3).any(|three| three == b" 0\n");
+        let unmarked = written.refusal == 0 && text.windows(5).any(|five| five == b" 0 0\n");
+        let gone = written.refusal == 0 && decode(&on.block).is_some_and(|register| register.retired != 0);
         noticed[0] += unsupported as u32;
         noticed[1] += has_room as u32;
         noticed[2] += (written.refusal == 0 && buffer != 8192) as u32;
         noticed[3] += unmarked as u32;
+        noticed[4] += gone as u32;
     }
     assert!(noticed.iter().all(|&count| count > 1), "{noticed:?}");
 }

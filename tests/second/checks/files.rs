@@ -4,10 +4,10 @@ use super::{lent, ours, same, Draw};
 use crate::faults::{TEXT_LEFT_OUT, VISITED_ONCE};
 use generate::filetexts::{
     example, longest, longest_supported, malformed, numbers, unformed, unformed_and_malformed, with_column,
-    with_delegations, with_line, with_subjects, wrapped, DELEGATION, LAST, LAST_SUBJECT, OWNER, SUBJECT,
+    retired, with_delegations, with_line, with_subjects, wrapped, DELEGATION, LAST, LAST_SUBJECT, OWNER, SUBJECT,
 };
 use generate::registerfiles::{changed, registers_of_other_kinds, small};
-use generate::{broken, full, listfiles, texts, unsupported};
+use generate::{broken, full, listfiles, retireregisters, texts, unsupported};
 use second::block::{decode, encode, well_formed, Delegation, Register, BLOCK_LEN};
 use second::call::{run_table, Outcome, Written};
 use second::engine::{Engine, FAST, LITERAL};
@@ -49,7 +49,7 @@ fn written(block: &[u8]) -> Vec<u8> {
 }
 
 const EXAMPLE: &[u8] =
-    b"subject marks\n0 0\n1 4\n2 4\n\ngiver receiver weight need bar\n0 1 9 4 0\n1 2 8 0 0\n";
+    b"subject marks retired\n0 0 0\n1 4 0\n2 4 0\n\ngiver receiver weight need bar\n0 1 9 4 0\n1 2 8 0 0\n";
 
 /// Without the mark, subject 2 doesn't meet 0-1, so that 1-2 has no chain.
 #[test]
@@ -57,30 +57,42 @@ fn the_example_is_read() {
     assert_eq!(written(&encode(&example())), EXAMPLE);
     for engine in [&FAST, &LITERAL] {
         assert_eq!(read_by(engine, EXAMPLE, b""), Ok(example()));
-        assert_eq!(read_by(engine, &with_line(EXAMPLE, LAST_SUBJECT, b"2 0\n"), b""), Err(18));
+        assert_eq!(read_by(engine, &with_line(EXAMPLE, LAST_SUBJECT, b"2 0 0\n"), b""), Err(18));
     }
-    assert_eq!(refusal(&with_line(EXAMPLE, LAST_SUBJECT, b"3 4\n")), 8);
+    assert_eq!(refusal(&with_line(EXAMPLE, LAST_SUBJECT, b"3 4 0\n")), 8);
     assert_eq!(refusal(&with_line(EXAMPLE, LAST, b"1 2 08 0 0\n")), 7);
     let none = with_line(&with_line(EXAMPLE, LAST, b""), DELEGATION, b"");
     assert_eq!(read_by(&FAST, &none, b""), Ok(Register { delegations: vec![], ..example() }));
 }
 
 #[test]
-fn a_fresh_register_has_50_bytes() {
-    let text = b"subject marks\n0 0\n\ngiver receiver weight need bar\n";
-    assert_eq!(text.len(), 50);
+fn a_fresh_register_has_60_bytes() {
+    let text = b"subject marks retired\n0 0 0\n\ngiver receiver weight need bar\n";
+    assert_eq!(text.len(), 60);
     assert_eq!(written(&encode(&Register::fresh())), text);
     assert_eq!(read_by(&FAST, text, b""), Ok(Register::fresh()));
 }
 
-/// 6,240 bytes; where all is supported the owner gives, which takes a digit less.
+/// 6,376 bytes; where all is supported the owner gives, which takes a digit less.
 #[test]
-fn the_longest_file_has_6240_bytes() {
-    assert_eq!((file_text(&longest()).len(), file_text(&longest_supported()).len()), (6240, 6239));
+fn the_longest_file_has_6376_bytes() {
+    assert_eq!((file_text(&longest()).len(), file_text(&longest_supported()).len()), (6376, 6375));
     assert_eq!(refusal(&file_text(&longest())), 18);
     assert_eq!(read_by(&FAST, &file_text(&longest_supported()), b""), Ok(longest_supported()));
     let mut random = Random::new(0x10E6);
-    assert!((0..2000).all(|_| file_text(&any_register(&mut random)).len() < 6240));
+    assert!((0..2000).all(|_| file_text(&any_register(&mut random)).len() < 6376));
+}
+
+/// A small register; in some a subject has retired.
+fn any_small(random: &mut Random) -> Register {
+    let register = small(random);
+    some_gone(random, register)
+}
+
+/// The register, in one of three without a subject.
+fn some_gone(random: &mut Random, register: Register) -> Register {
+    let subject = random.range(1, register.marks.len() as u32 - 1);
+    if random.chance(33) { retireregisters::without(register, &[subject]) } else { register }
 }
 
 /// Any register; most delegations of the larger ones are unsupported.
@@ -93,7 +105,8 @@ fn any_register(random: &mut Random) -> Register {
         marks: 0xFFFF,
         conditions: random.pick(&[0, 5, 70]),
     };
-    random_register(random, &shape)
+    let register = random_register(random, &shape);
+    some_gone(random, register)
 }
 
 /// Small registers are written and read back, 18 exactly if the definition finds one
@@ -103,7 +116,7 @@ fn read_back(engine: &Engine, draw: Draw) -> Result<[u32; 2], String> {
     let mut found = [0; 2];
     for _ in 0..3000 {
         let any = random.chance(70);
-        let register = if any { small(&mut random) } else { unsupported::random_unsupported(&mut random) };
+        let register = if any { any_small(&mut random) } else { unsupported::random_unsupported(&mut random) };
         let table = draw(&mut random);
         let supported = is_supported(&table, &register);
         let due = if supported { Ok(register.clone()) } else { Err(18) };
@@ -179,9 +192,10 @@ fn registers_of_other_kinds_are_read_back() {
 /// Texts far longer than any register's file.
 #[test]
 fn long_texts_are_judged_by_their_lines() {
-    let long = |line: &str| format!("subject marks\n0 0\n{}\ngiver receiver weight need bar\n", line.repeat(200_000));
-    assert_eq!(["0 0\n", "1 65536\n", "4294967295 0\n"].map(|line| refusal(long(line).as_bytes())), [8; 3]);
-    assert_eq!(["0  0\n", "1 65536 \n", "4294967296 0\n"].map(|line| refusal(long(line).as_bytes())), [7; 3]);
+    let (first, second) = ("subject marks retired\n0 0 0\n", "\ngiver receiver weight need bar\n");
+    let long = |line: &str| format!("{first}{}{second}", line.repeat(200_000));
+    assert_eq!(["0 0 0\n", "1 65536 0\n", "4294967295 0 2\n"].map(|line| refusal(long(line).as_bytes())), [8; 3]);
+    assert_eq!(["0  0 0\n", "1 65536 0 \n", "4294967296 0 0\n"].map(|line| refusal(long(line).as_bytes())), [7; 3]);
     assert_eq!(refusal(&[EXAMPLE, &b"1 2 8 0 0\n".repeat(100_000)].concat()), 8);
     assert_eq!(refusal(&[EXAMPLE, &b"1 2 8 0 0\n".repeat(100_000), b"1"].concat()), 7);
 }
@@ -193,12 +207,17 @@ fn due(text: &[u8]) -> Result<Register, u32> {
     let (subjects, delegations) = (&rows.subjects, &rows.delegations);
     let enrolled = |subject: u32| (subject as usize) < subjects.len();
     let most_marks = |place: usize| if place == 0 { 0 } else { 65_535 };
-    let right = |(place, row): (usize, &[u32; 2])| row[0] as usize == place && row[1] <= most_marks(place);
+    let right = |(place, row): (usize, &[u32; 3])| row[0] as usize == place && row[1] <= most_marks(place);
+    let gone = |&[number, marks, retired]: &[u32; 3]| {
+        let named = delegations.iter().any(|row| row[..2].contains(&number));
+        retired == 0 || retired == 1 && number != 0 && marks == 0 && !named
+    };
     let apart = |&[giver, receiver, ..]: &[u32; 5]| giver != receiver && receiver != 0;
     let fits = |&[_, _, weight, need, bar]: &[u32; 5]| weight <= 255 && need.max(bar) <= 65_535 && need & bar == 0;
     let well_formed = (1..=64).contains(&subjects.len())
         && delegations.len() <= 256
         && subjects.iter().enumerate().all(right)
+        && subjects.iter().all(gone)
         && delegations.iter().all(|row| enrolled(row[0]) && enrolled(row[1]) && apart(row) && fits(row))
         && delegations.windows(2).all(|two| two[0][..2] < two[1][..2]);
     if !well_formed {
@@ -209,7 +228,8 @@ fn due(text: &[u8]) -> Result<Register, u32> {
         Delegation { giver, receiver, weight, need: need as u16, bar: bar as u16 }
     };
     let marks = subjects.iter().map(|row| row[1] as u16).collect();
-    Ok(Register { marks, delegations: delegations.iter().map(delegation).collect() })
+    let retired = subjects.iter().map(|row| (row[2] as u64) << row[0]).sum();
+    Ok(Register { marks, retired, delegations: delegations.iter().map(delegation).collect() })
 }
 
 /// The numbers of a text, read as loosely as the library reads them.
@@ -246,7 +266,7 @@ fn every_other_form_is_refused_with_7() {
 #[test]
 fn fronts_of_a_file_are_refused() {
     let read: Vec<usize> = (0..=EXAMPLE.len()).filter(|&length| refusal(&EXAMPLE[..length]) == 0).collect();
-    assert_eq!(read, [58, 68, 78]);
+    assert_eq!(read, [72, 82, 92]);
     let malformed = malformed();
     assert!((0..EXAMPLE.len()).all(|length| read.contains(&length) || malformed.contains(&EXAMPLE[..length].to_vec())));
 }
@@ -287,7 +307,7 @@ fn texts_are_read_exactly_as_rendered() {
     let mut random = Random::new(0x7E88);
     let mut found = [0; 3];
     for _ in 0..20_000 {
-        let register = small(&mut random);
+        let register = any_small(&mut random);
         let text = changed(&mut random, &file_text(&register));
         let read = filed(&text);
         assert_eq!(read, due(&text), "{:?}", String::from_utf8_lossy(&text));
@@ -298,7 +318,7 @@ fn texts_are_read_exactly_as_rendered() {
         }] += 1;
     }
     assert!(found.iter().all(|&count| count > 1000), "{found:?}");
-    for text in numbers().iter().chain(&wrapped()) {
+    for text in numbers().iter().chain(&wrapped()).chain(&retired()) {
         assert_eq!(filed(text), due(text));
     }
 }
@@ -310,7 +330,7 @@ fn an_accepted_text_is_what_its_block_writes() {
     let mut accepted = 0;
     for _ in 0..6000 {
         let table = random.chance(40).then(|| random_table(&mut random)).unwrap_or(OURS);
-        let register = small(&mut random);
+        let register = any_small(&mut random);
         let text = changed(&mut random, &file_text(&register));
         if let Ok(register) = read_by(&FAST, &text, &lent(&table)) {
             assert_eq!(written(&encode(&register)), text);
@@ -329,9 +349,9 @@ fn any_text_is_answered() {
     let [malformed, broken] = texts::refused_at_the_end();
     let tables = [Vec::new(), texts::by_two().text(), malformed, broken];
     for _ in 0..6000 {
-        let mut text = file_text(&small(&mut random));
+        let mut text = file_text(&any_small(&mut random));
         (0..random.below(4)).for_each(|_| text = changed(&mut random, &text));
-        let length = random.pick(&[BLOCK_LEN, BLOCK_LEN, BLOCK_LEN, 0, 2179, 2181]);
+        let length = random.pick(&[BLOCK_LEN, BLOCK_LEN, BLOCK_LEN, 0, 2180, 2187, 2189]);
         let before: Vec<u8> = (0..length).map(|_| random.next() as u8).collect();
         let table = &tables[random.below(4) as usize];
         let mut block = before.clone();
@@ -422,9 +442,9 @@ fn hosts_write_and_read() {
     assert_eq!(host_write(&broken::all()[0].block, &mut text, &mut answers), 8);
     assert_eq!((answers, text.iter().all(|&byte| byte == BEFORE)), ([9; 12], true));
     assert_eq!(host_write(&encode(&longest()), &mut text, &mut answers), 0);
-    assert_eq!(answers, [0x60, 0x18, 0, 0, 0, 0, 0, 0, 0, 0, 0, 0]);
+    assert_eq!(answers, [0xE8, 0x18, 0, 0, 0, 0, 0, 0, 0, 0, 0, 0]);
     let (mut block, mut answers) = (vec![BEFORE; BLOCK_LEN], [9; 12]);
-    assert_eq!(host_read(&FAST, &mut block, &text[..6240], b"", &mut answers), 18);
+    assert_eq!(host_read(&FAST, &mut block, &text[..6376], b"", &mut answers), 18);
     assert_eq!(host_read(&FAST, &mut block, EXAMPLE, b"\n", &mut answers), 7);
     assert_eq!(host_read(&FAST, &mut block, EXAMPLE, b"", &mut answers[1..]), 1);
     assert_eq!((answers, block.iter().all(|&byte| byte == BEFORE)), ([9; 12], true));

@@ -1,6 +1,7 @@
 //! The calls of a host: what is in the 12 bytes, and when.
 
-use generate::{enrol, grant, markregisters, open, orderregisters, reach, register, revoke, rounds, set_marks, texts};
+use generate::{enrol, grant, markregisters, open, orderregisters, reach, register, retire, retireregisters, revoke};
+use generate::{rounds, set_marks, slow, texts, use_right};
 use second::block::{encode, BLOCK_LEN};
 use second::engine::FAST;
 use second::host::{host_call, host_call_table, host_order, ANSWERS_LEN};
@@ -56,7 +57,9 @@ fn refused_calls_write_nothing() {
 #[test]
 fn other_lengths_are_refused() {
     for length in (0..=20).filter(|&length| length != ANSWERS_LEN) {
-        for n in [open(), enrol(65_536), reach(0, 1), revoke(0, 0, 1), set_marks(0, 1, 7), set_marks(64, 0, 65_536)] {
+        let of_marks = [set_marks(0, 1, 7), set_marks(64, 0, 65_536)];
+        let others = [open(), enrol(65_536), reach(0, 1), revoke(0, 0, 1), retire(0, 1)];
+        for n in others.into_iter().chain(of_marks) {
             let mut block = example();
             let mut answers = vec![UNWRITTEN; length];
             assert_eq!(host_call(&FAST, &n, &mut block, &mut answers), 1);
@@ -84,6 +87,28 @@ fn marks_are_answered_as_cuts_are() {
     };
     assert_eq!(lent(b"\n"), (7, true, vec![UNWRITTEN; 12]));
     assert_eq!(lent(&texts::level().text()), (0, false, vec![1, 0, 0, 0, 1, 0, 0, 0, 2, 0, 0, 0]));
+}
+
+/// The three answers of a retirement; and 19 for one who has retired, which writes nothing.
+#[test]
+fn retirements_are_answered_as_cuts_are() {
+    let mut block = encode(&retireregisters::example());
+    assert_eq!(called(&retire(0, 1), &block, 12), (0, vec![0, 0, 0, 0, 1, 0, 0, 0, 2, 0, 0, 0]));
+    let many = called(&retire(0, 21), &slow::SLOW[2].block(), 12);
+    assert_eq!(many, (0, vec![191, 0, 0, 0, 0, 0, 0, 0, 189, 1, 0, 0]));
+    for (n, number) in [retire(1, 2), retire(1, 0), retire(1, 5), retire(0, 64)].iter().zip([14, 6, 9, 2]) {
+        assert_eq!(called(n, &block, 12), (number, vec![UNWRITTEN; 12]));
+    }
+    assert_eq!(host_call(&FAST, &retire(0, 1), &mut block, &mut [0; 12]), 0);
+    for n in [retire(0, 1), use_right(1), grant(0, 1, 3, 0, 0), reach(1, 2), set_marks(0, 1, 0), revoke(1, 0, 3)] {
+        assert_eq!(called(&n, &block, 12), (19, vec![UNWRITTEN; 12]));
+    }
+    let lent = |text: &[u8]| {
+        let (mut left, mut answers) = (encode(&retireregisters::example()), vec![UNWRITTEN; 12]);
+        (host_call_table(&FAST, &retire(0, 1), text, &mut left, &mut answers), answers)
+    };
+    assert_eq!(lent(b"\n"), (7, vec![UNWRITTEN; 12]));
+    assert_eq!(lent(&texts::level().text()), (0, vec![1, 0, 0, 0, 1, 0, 0, 0, 2, 0, 0, 0]));
 }
 
 /// What an order leaves for a host: the number, the buffer and the answers.

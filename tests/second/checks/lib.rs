@@ -17,12 +17,18 @@ mod listfiles;
 mod markcases;
 mod markfaults;
 mod marks;
+mod oldblocks;
+mod oldfiles;
 mod ordercases;
 mod orders;
 mod pairs;
 mod raisecases;
 mod raises;
 mod relaxed;
+mod retirecases;
+mod retirefaults;
+mod retirerefusals;
+mod retires;
 mod searches;
 mod tables;
 

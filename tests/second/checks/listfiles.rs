@@ -2,7 +2,7 @@
 
 use generate::callfiles::file;
 use crate::faults::TEXT_LEFT_OUT;
-use generate::{list_files, listfiles, marklists, textlists};
+use generate::{list_files, listfiles, marklists, retirelists, textlists};
 use second::block::decode;
 use second::callfile::{print, MOST_INPUT};
 use second::casefile::read_block;
@@ -27,10 +27,15 @@ fn sets_marks(list: &List) -> bool {
     calls(list).iter().any(|n| n.call == Call::SetMarks)
 }
 
-/// Those that are lent no texts, as call files are, and set no marks.
+fn retires(list: &List) -> bool {
+    calls(list).iter().any(|n| n.call == Call::Retire)
+}
+
+/// Those that are lent no texts, as call files are, and in which no marks are set and nobody
+/// retires.
 #[test]
 fn a_list_answers_as_its_call_file() {
-    let of_calls = |list: &List| list.texts.is_empty() && !sets_marks(list);
+    let of_calls = |list: &List| list.texts.is_empty() && !sets_marks(list) && !retires(list);
     let of_calls: Vec<List> = accepted().into_iter().filter(of_calls).collect();
     assert!(of_calls.len() > 15);
     for list in of_calls {
@@ -46,8 +51,8 @@ fn a_list_keeps_every_block() {
     let (mut kept, mut changed) = (0, 0);
     for list in accepted() {
         let expected = expected_lines(&FAST, &list);
-        let mut before = "2180:01";
-        assert_eq!(expected.lines().next(), Some("0 2180:01"));
+        let mut before = "2188:01";
+        assert_eq!(expected.lines().next(), Some("0 2188:01"));
         for line in expected.lines().skip(1) {
             let block = line.rsplit_once(' ').unwrap().1;
             if block == "=" {
@@ -123,6 +128,38 @@ fn lists_set_marks() {
     assert!(setting.iter().any(|list| list.texts.is_empty()) && setting.iter().any(|list| !list.texts.is_empty()));
 }
 
+/// A subject retires twice under each text and once more under ours: under the table that falls
+/// by two, the two texts that are refused, the level one and ours.
+#[test]
+fn the_retirements_of_a_list_are_judged_by_their_tables() {
+    let list = retirelists::example();
+    let expected = expected_lines(&FAST, &list);
+    let all = answers(&expected);
+    let three: Vec<&[&str]> = all[6..].chunks_exact(10).map(|calls| &calls[7..]).collect();
+    let passing = ["0 2 1 2", "19 0 0 0", "19 0 0 0"];
+    let [malformed, bad] = ["7 0 0 0", "17 0 0 0"].map(|refused| [refused, refused, "0 2 1 2"]);
+    assert_eq!(three, [passing, malformed, bad, passing, passing]);
+    assert_ne!(expected_lines(&TEXT_LEFT_OUT, &list), expected);
+}
+
+/// Subjects retire at every place of a text that passes, and accepted lists hold retirements at
+/// every place, refused ones among them.
+#[test]
+fn lists_retire_subjects() {
+    let expected = expected_lines(&FAST, &retirelists::every_text());
+    let refusals: Vec<&str> = answers(&expected)[1..].iter().map(|line| line.split(' ').next().unwrap()).collect();
+    let retired: Vec<&str> = refusals.chunks_exact(6).map(|calls| calls[3]).collect();
+    assert_eq!(retired, ["0", "7", "17", "0", "0", "0", "0", "7", "7", "7", "7", "7", "7", "0"]);
+    let named_again = refusals.chunks_exact(6).map(|calls| calls[5] == "19");
+    assert_eq!(named_again.collect::<Vec<_>>(), retired.iter().map(|number| *number == "0").collect::<Vec<_>>());
+    let retiring: Vec<List> = accepted().into_iter().filter(retires).collect();
+    let is_retire = |n: Option<&Passed>| n.is_some_and(|n| n.call == Call::Retire);
+    assert!(retiring.len() > 20);
+    assert!(retiring.iter().any(|list| is_retire(calls(list).first())));
+    assert!(retiring.iter().any(|list| is_retire(calls(list).last())));
+    assert!(retiring.iter().any(|list| list.texts.is_empty()) && retiring.iter().any(|list| !list.texts.is_empty()));
+}
+
 /// Seven calls for each place of a text: 0 where it passes, 7 or 17 where it does
 /// not, and use as without one.
 #[test]
@@ -138,11 +175,11 @@ fn every_text_of_a_list_is_read() {
     }
 }
 
-/// The texts of calls 1 to 4 and 6 are within the texts.
+/// The texts of calls 1 to 4, 6 and 7 are within the texts.
 fn texts_fit(list: &List) -> bool {
     let end = |call: &[u32]| call[7] as u64 + call[8] as u64;
     let mut calls = list.numbers.chunks_exact(NUMBERS);
-    calls.all(|call| ![1, 2, 3, 4, 6].contains(&call[0]) || end(call) <= list.texts.len() as u64)
+    calls.all(|call| ![1, 2, 3, 4, 6, 7].contains(&call[0]) || end(call) <= list.texts.len() as u64)
 }
 
 /// The refusals are 1 and 7, 1 where both apply; nothing is written.
@@ -161,11 +198,11 @@ fn refused_lists_write_nothing() {
         assert!(expected.lines().skip(1).all(|line| line == "77 -7 -7 -7 ="));
         assert_eq!(expected.lines().count(), 1 + list.calls());
     }
-    // 36 parts of calls, 13 lengths and 5 of both, 6 beside texts and 3 beside marks; 10
-    // and 4 places for each of five calls and 3 beside a number that is no call's; 5, 3
-    // and 4 such numbers.
-    assert_eq!(outside, 5 * (10 + 4) + 3);
-    assert_eq!((wrong, malformed), (36 + 13 + 5 + 6 + 3 + outside, 5 + 3 + 4));
+    // 36 parts of calls, 13 lengths and 5 of both, 6 beside texts, 3 beside marks and 3
+    // beside retirements; 10 and 4 places for each of six calls and 3 beside a number that
+    // is no call's; 5, 3, 4 and 5 such numbers.
+    assert_eq!(outside, 6 * (10 + 4) + 3);
+    assert_eq!((wrong, malformed), (36 + 13 + 5 + 6 + 3 + 3 + outside, 5 + 3 + 4 + 5));
 }
 
 #[test]

@@ -43,7 +43,7 @@ fn lines_keep_the_form() {
 fn expected_lines_have_the_form() {
     let block = encode(&generate::markregisters::example());
     let line = |n: Passed| recorded(&FAST, &generate::on(&block, n));
-    assert!(line(set_marks(0, 2, 0)).starts_with("0 1 1 3 2180:04.03......."));
+    assert!(line(set_marks(0, 2, 0)).starts_with("0 1 1 3 2188:04.03......."));
     assert_eq!(line(set_marks(0, 2, 1)), "0 0 0 1 =\n");
     assert_eq!(line(set_marks(1, 0, 1)), "6 0 0 0 =\n");
 }

@@ -17,7 +17,7 @@ use second::table::{Table, OURS};
 use std::sync::OnceLock;
 
 /// What a program answers: the register left and three numbers, or a refusal.
-type Answer = Result<(Register, [i32; 3]), u32>;
+pub type Answer = Result<(Register, [i32; 3]), u32>;
 
 /// The register with these marks for a subject, if it is enrolled.
 fn with_other(register: &Register, subject: u32, marks: u16) -> Register {
@@ -27,12 +27,12 @@ fn with_other(register: &Register, subject: u32, marks: u16) -> Register {
 }
 
 /// The rounds by an engine's reaches.
-fn settled_by(engine: &Engine, table: &Table, mut left: Register) -> (Register, [i32; 3]) {
+pub fn settled_by(engine: &Engine, table: &Table, mut left: Register) -> (Register, [i32; 3]) {
     let counts = settle(engine, table, &mut left);
     (left, [counts.dropped as i32, counts.lowered as i32, counts.rounds as i32])
 }
 
-fn settled(table: &Table, left: Register) -> (Register, [i32; 3]) {
+pub fn settled(table: &Table, left: Register) -> (Register, [i32; 3]) {
     settled_by(&FAST, table, left)
 }
 
@@ -49,7 +49,7 @@ fn right(n: &Passed, text: &[u8], block: &[u8]) -> Answer {
 }
 
 /// The line of a program.
-fn shown(case: &Case, answer: Answer) -> String {
+pub fn shown(case: &Case, answer: Answer) -> String {
     let before = block_of(case);
     match answer {
         Ok((left, answers)) => left_line(&Outcome { refusal: 0, answers }, before, &encode(&left)),
@@ -90,7 +90,7 @@ fn the_register_before_has_the_same_delegations() {
     assert_eq!(count, 0);
 }
 
-fn reach_of(table: &Table, register: &Register, d: &Delegation) -> i16 {
+pub fn reach_of(table: &Table, register: &Register, d: &Delegation) -> i16 {
     reach_table(table, register, d.giver as u32, d.receiver as u32)
 }
 

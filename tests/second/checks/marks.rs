@@ -341,7 +341,7 @@ fn rounds_can_be_many() {
         assert_eq!(set(engine, &OURS, &rounds::built(), &rounds::FIRST_MARKS).1, [233, 0, 486]);
         assert_eq!(set(engine, &OURS, &falling_pair(), &set_marks(0, 2, 0)).1, [3, 0, 255]);
         for (slow, (subject, marks, rounds)) in slow::SLOW.iter().zip(marks::SLOW) {
-            let register = decode(slow.block()).expect("a well-formed block");
+            let register = decode(&slow.block()).expect("a well-formed block");
             assert_eq!(set(engine, &OURS, &register, &set_marks(0, subject, marks)).1[2], rounds);
         }
     }

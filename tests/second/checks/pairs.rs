@@ -1,7 +1,7 @@
 //! The generated cases realise every refusal of every call, and every two
 //! that can apply at once.
 
-use generate::{cases, marks, orders, KINDS};
+use generate::{cases, marks, orders, retires, KINDS};
 use second::casefile::answer_table;
 use second::engine::FAST;
 use second::refusal::{applying, tests, Call, ALL_CALLS};
@@ -14,19 +14,21 @@ fn refusals(call: Call) -> &'static [u32] {
     match call {
         Call::Open => &[1],
         Call::Enrol => &[1, 4, 8, 10],
-        Call::Grant => &[1, 2, 3, 4, 5, 6, 7, 17, 8, 9, 11, 12, 16],
-        Call::Reach => &[1, 2, 5, 6, 7, 17, 8, 9],
-        Call::Use => &[1, 2, 8, 9],
-        Call::Revoke => &[1, 2, 5, 6, 7, 17, 8, 9, 13, 14],
-        Call::Downgrade => &[1, 2, 3, 5, 6, 7, 17, 8, 9, 13, 14, 15],
-        Call::Chain => &[1, 2, 5, 6, 7, 17, 8, 9, 13, 16],
-        Call::Order => &[1, 2, 6, 7, 17, 8, 9],
-        Call::SetMarks => &[1, 2, 4, 6, 7, 17, 8, 9, 14],
+        Call::Grant => &[1, 2, 3, 4, 5, 6, 7, 17, 8, 9, 19, 11, 12, 16],
+        Call::Reach => &[1, 2, 5, 6, 7, 17, 8, 9, 19],
+        Call::Use => &[1, 2, 8, 9, 19],
+        Call::Revoke => &[1, 2, 5, 6, 7, 17, 8, 9, 19, 13, 14],
+        Call::Downgrade => &[1, 2, 3, 5, 6, 7, 17, 8, 9, 19, 13, 14, 15],
+        Call::Chain => &[1, 2, 5, 6, 7, 17, 8, 9, 19, 13, 16],
+        Call::Order => &[1, 2, 6, 7, 17, 8, 9, 19],
+        Call::SetMarks => &[1, 2, 4, 6, 7, 17, 8, 9, 19, 14],
+        Call::Retire => &[1, 2, 6, 7, 17, 8, 9, 19, 14],
+        Call::BringOver => &[1, 8],
     }
 }
 
 /// The pairs of a call that cannot apply at once.
-fn impossible(call: Call) -> Vec<Pair> {
+pub fn impossible(call: Call) -> Vec<Pair> {
     // The entries of a text are judged if it has the form, and the reach is
     // reckoned by a table that passes.
     let mut pairs = vec![(7, 17), (7, 16), (17, 16)];
@@ -40,21 +42,25 @@ fn impossible(call: Call) -> Vec<Pair> {
             pairs.push((1, held));
         }
     }
-    // 8 is judged on 2,180 bytes only; chain and order can have 1 from their buffer.
-    if !matches!(call, Call::Chain | Call::Order | Call::Open) {
+    // 8 is judged on 2,188 bytes only; chain and order can have 1 from their buffer, and a
+    // block that is brought over from the other block.
+    if !matches!(call, Call::Chain | Call::Order | Call::Open | Call::BringOver) {
         pairs.push((1, 8));
     }
     pairs.extend(match call {
         // A standing pair names two enrolled subjects that differ, the
-        // receiver not the owner. 12 is for a pair that doesn't stand.
-        Call::Grant => vec![(2, 11), (5, 11), (6, 11), (9, 11), (11, 12)],
+        // receiver not the owner, and neither retired. 12 is for a pair that
+        // doesn't stand.
+        Call::Grant => vec![(2, 11), (5, 11), (6, 11), (9, 11), (19, 11), (11, 12)],
+        // One subject is named.
+        Call::Use => vec![(2, 19), (9, 19)],
         // 15 compares with a standing pair. The subject above 63 or not
         // enrolled can still be by.
         Call::Downgrade => vec![(5, 15), (6, 15), (13, 15)],
         // 16 compares with a standing pair, and there is no by.
-        Call::Chain => vec![(2, 16), (5, 16), (6, 16), (9, 16), (13, 16)],
-        // Only the receiver is named, and the owner is enrolled.
-        Call::Order => vec![(2, 6), (6, 9)],
+        Call::Chain => vec![(2, 16), (5, 16), (6, 16), (9, 16), (19, 16), (13, 16)],
+        // Only the receiver is named, and the owner is enrolled and not retired.
+        Call::Order => vec![(2, 6), (6, 9), (2, 19), (6, 19), (9, 19)],
         _ => vec![],
     });
     pairs
@@ -63,17 +69,17 @@ fn impossible(call: Call) -> Vec<Pair> {
 /// Refusals that never apply alone, with what applies too.
 fn never_alone(call: Call) -> &'static [u32] {
     match call {
-        Call::Open | Call::Enrol => &[],
+        Call::Open | Call::Enrol | Call::BringOver => &[],
         // 2 with 9: a subject above 63 is never enrolled; or with 1 or 8.
         // 3 with 16: no reach is above 255.
         Call::Grant => &[2, 3],
-        Call::Reach | Call::Use | Call::Order | Call::SetMarks => &[2],
+        Call::Reach | Call::Use | Call::Order | Call::SetMarks | Call::Retire => &[2],
         // 5, 6 with 13: such a pair never stands. 9 with 13, or with 14 if it
-        // is by that isn't enrolled.
-        Call::Revoke => &[2, 5, 6, 9],
+        // is by that isn't enrolled; and so 19.
+        Call::Revoke => &[2, 5, 6, 9, 19],
         // 3 with 13 or 15: no weight that stands is above 255.
-        Call::Downgrade => &[2, 3, 5, 6, 9],
-        Call::Chain => &[2, 5, 6, 9],
+        Call::Downgrade => &[2, 3, 5, 6, 9, 19],
+        Call::Chain => &[2, 5, 6, 9, 19],
     }
 }
 
@@ -100,7 +106,7 @@ impl Realised {
 
 fn realised() -> BTreeMap<Call, Realised> {
     let mut all: BTreeMap<Call, Realised> = BTreeMap::new();
-    for kind in KINDS.iter().chain([&orders::KIND, &marks::KIND]) {
+    for kind in KINDS.iter().chain([&orders::KIND, &marks::KIND, &retires::KIND]) {
         let mut block = Vec::new();
         for case in cases(kind) {
             block = case.block.clone().unwrap_or(block);

@@ -195,11 +195,13 @@ fn calls_are_accepted_under_every_table() {
     }
 }
 
-/// Open, enrol and use take no table: a text beside them changes nothing.
+/// Open, enrol and use take no table: a text beside them changes nothing. What is lent beside a
+/// block to bring over is no table.
 #[test]
 fn other_calls_take_no_table() {
     let taking: Vec<Call> = ALL_CALLS.into_iter().filter(|&call| takes_table(call)).collect();
-    assert_eq!(taking.iter().collect::<BTreeSet<_>>(), orders::CALLS.iter().chain(&marks::CALLS).collect());
+    let due = orders::CALLS.iter().chain(&marks::CALLS).chain(&[Call::Retire]);
+    assert_eq!(taking.iter().collect::<BTreeSet<_>>(), due.collect());
     for (n, text) in [open(), enrol(3), use_right(2)].iter().zip([&b"\n"[..], b"0", &[0; 4096]]) {
         let (mut with, mut without) = (encode(&broken::valid()), encode(&broken::valid()));
         assert_eq!(run_table(&FAST, n, text, &mut with), run(&FAST, n, &mut without));

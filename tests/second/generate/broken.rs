@@ -40,6 +40,9 @@ pub fn calls(call: Call) -> Vec<Passed> {
         Call::Chain => vec![chain(0, 1, 126), chain(2, 4, 126)],
         Call::Order => vec![order(1, 128), order(4, 128)],
         Call::SetMarks => vec![set_marks(0, 2, 0)],
+        Call::Retire => vec![retire(0, 2)],
+        // It is handed no register.
+        Call::BringOver => vec![],
     }
 }
 
@@ -52,6 +55,7 @@ pub fn all() -> Vec<Broken> {
     all.extend(subjects());
     all.extend(inner());
     all.extend(unused());
+    all.extend(retired());
     all
 }
 
@@ -151,6 +155,28 @@ fn unused() -> Vec<Broken> {
         all.push(changed(&valid(), &[12], &[(at(255, byte), 255)]));
     }
     all
+}
+
+/// The bits of the retired: of subjects that are not enrolled, of the owner, of subjects that
+/// have marks, and of subjects that give or receive.
+fn retired() -> Vec<Broken> {
+    let marked = register(&[0, 1, 9, 8, 0x1001, 0x0100], &[(0, 1, 255, 0, 0)]);
+    let plain = register(&[0, 1, 0, 0, 0], &[(0, 1, 255, 0, 0), (1, 2, 9, 0, 0), (3, 1, 3, 0, 0)]);
+    let last = RECORDS_AT - 1;
+    vec![
+        changed(&valid(), &[13], &[(RETIRED_AT, 1 << 5)]),
+        changed(&valid(), &[13], &[(RETIRED_AT + 1, 1)]),
+        changed(&valid(), &[13], &[(last, 128)]),
+        changed(&Register::fresh(), &[13], &[(RETIRED_AT, 2)]),
+        changed(&Register::fresh(), &[14], &[(RETIRED_AT, 1)]),
+        changed(&valid(), &[14, 16], &[(RETIRED_AT, 1)]),
+        changed(&marked, &[15], &[(RETIRED_AT, 1 << 2)]),
+        changed(&marked, &[15], &[(RETIRED_AT, 1 << 5)]),
+        changed(&plain, &[16], &[(RETIRED_AT, 1 << 2)]),
+        changed(&plain, &[16], &[(RETIRED_AT, 1 << 3)]),
+        changed(&valid(), &[15, 16], &[(RETIRED_AT, 1 << 1)]),
+        changed(&valid(), &[13, 14, 15, 16], &[(RETIRED_AT, 255)]),
+    ]
 }
 
 /// The valid block with one random byte changed, which may leave it well formed.

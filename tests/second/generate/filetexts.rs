@@ -11,6 +11,24 @@ pub fn example() -> Register {
     register(&[0, 4, 4], &[(0, 1, 9, 4, 0), (1, 2, 8, 0, 0)])
 }
 
+/// 3 and 5 have retired; nobody gave to 6.
+pub fn gone() -> Register {
+    let grants = [(0, 1, 9, 4, 0), (0, 4, 3, 0, 0), (1, 2, 8, 0, 0)];
+    retireregisters::without(register(&[0, 4, 4, 0, 1, 0, 0], &grants), &[3, 5])
+}
+
+/// A register's file as it was before document 02's C-16, without the column `retired`.
+pub fn old_form(text: &[u8]) -> Vec<u8> {
+    let mut lines: Vec<Vec<u8>> = second::callfile::lines(text).map(|line| line.to_vec()).collect();
+    let subjects = lines.iter().position(|line| line == b"\n").unwrap_or(lines.len());
+    for line in &mut lines[..subjects] {
+        let space = line.iter().rposition(|&byte| byte == b' ').unwrap_or(line.len());
+        line.truncate(space);
+        line.push(b'\n');
+    }
+    lines.concat()
+}
+
 // Places of lines in the example's file.
 pub const NAMES: usize = 0;
 pub const OWNER: usize = 1;
@@ -37,9 +55,10 @@ const NO_NUMBERS: [&[u8]; 5] = [b"", b"a", b"\0", b"\xff", b"4294967296"];
 const SIGNS: [&[u8]; 4] = [b"-", b"+", b"0", b"0x"];
 
 /// In the place of the names of the subjects.
-const OTHER_FIRST: [&[u8]; 9] = [
-    b"", b"Subject marks\n", b"subject\n", b"marks subject\n", b"subject mark\n", b"subject marks need\n",
-    b"weight next\n", DELEGATION_NAMES, b"\xef\xbb\xbfsubject marks\n",
+const OTHER_FIRST: [&[u8]; 13] = [
+    b"", b"Subject marks retired\n", b"subject\n", b"marks subject retired\n", b"subject mark retired\n",
+    b"subject marks need\n", b"weight next\n", DELEGATION_NAMES, b"\xef\xbb\xbfsubject marks retired\n",
+    b"subject marks\n", b"subject retired marks\n", b"subject marks retired need\n", b"subject marks Retired\n",
 ];
 
 /// In the place of the names of the delegations.
@@ -51,15 +70,15 @@ const OTHER_SECOND: [&[u8]; 9] = [
 
 /// After the whole file.
 const AFTER: [&[u8]; 12] = [
-    b" ", b"\0", b"a", b"\xff", b"\r", b"\n", b"\n\n", b"0", b"2 1\n", SUBJECT_NAMES, DELEGATION_NAMES,
+    b" ", b"\0", b"a", b"\xff", b"\r", b"\n", b"\n\n", b"0", b"2 1 0\n", SUBJECT_NAMES, DELEGATION_NAMES,
     b"\n0 2 0 0 0\n",
 ];
 
 /// Whole texts.
 const WHOLE: [&[u8]; 9] = [
-    b"\n", b" ", b"\0", b"subject marks\n\n", b"subject marks\n0 0\n\n", b"giver receiver weight need bar\n",
-    b"subject marks\n0 0\ngiver receiver weight need bar\n",
-    b"giver receiver weight need bar\n\nsubject marks\n0 0\n",
+    b"\n", b" ", b"\0", b"subject marks retired\n\n", b"subject marks retired\n0 0 0\n\n",
+    b"giver receiver weight need bar\n", b"subject marks retired\n0 0 0\ngiver receiver weight need bar\n",
+    b"giver receiver weight need bar\n\nsubject marks retired\n0 0 0\n",
     b"call by giver receiver weight need bar\n0 0 0 0 0 0 0\n",
 ];
 
@@ -78,11 +97,25 @@ pub fn malformed() -> Vec<Vec<u8>> {
     all.extend(OTHER_SECOND.map(|line| with_line(&text, OTHER_NAMES, line)));
     all.extend(AFTER.map(|after| [&text, after].concat()));
     all.extend(WHOLE.map(|text| text.to_vec()));
-    all.extend([[&text[..], &text].concat(), OURS.text(), vec![0; 8192], b"subject marks\n".repeat(500)]);
+    all.extend([[&text[..], &text].concat(), OURS.text(), vec![0; 8192], b"subject marks retired\n".repeat(320)]);
     all.extend(long_numbers(&text));
+    all.extend(old_forms());
     all.extend(fronts(&text));
     let mut seen = BTreeSet::new();
     all.retain(|text| seen.insert(text.clone()));
+    all
+}
+
+/// Whole files without the column; and each line of a file without it alone, the line of names
+/// or a subject's, and with it alone.
+fn old_forms() -> Vec<Vec<u8>> {
+    let registers = [Register::fresh(), example(), gone(), full::all_enrolled()];
+    let mut all: Vec<Vec<u8>> = registers.iter().map(|register| old_form(&file_text(register))).collect();
+    let (text, old) = (file_text(&gone()), old_form(&file_text(&gone())));
+    for place in 0..=gone().marks.len() {
+        all.push(with_line(&text, place, line_of(&old, place)));
+        all.push(with_line(&old, place, line_of(&text, place)));
+    }
     all
 }
 
@@ -184,14 +217,29 @@ pub fn wrapped() -> Vec<Vec<u8>> {
     all
 }
 
+/// In the place of a subject's 0 or 1 in the column `retired`; the last ones are malformed.
+const RETIRED: [&str; 16] = [
+    "0", "1", "2", "3", "254", "255", "256", "257", "65536", "65537", "4294967295", "4294967296", "4294967297", "01",
+    "-1", "",
+];
+
+/// Every subject's column `retired` with each of these: the owner's, of those who have marks and
+/// records or one of these, and of those who have none.
+pub fn retired() -> Vec<Vec<u8>> {
+    let text = file_text(&gone());
+    let places = OWNER..=gone().marks.len();
+    let with = |place: usize| RETIRED.map(|number| with_column(&text, place, 2, number.as_bytes()));
+    places.flat_map(with).collect()
+}
+
 /// The example's numbers changed so that they make no well-formed block.
-const UNFORMED: [(&str, fn(&mut Rows)); 30] = [
+const UNFORMED: [(&str, fn(&mut Rows)); 41] = [
     ("no subject", |rows| rows.subjects.clear()),
     ("no subject and no delegation", |rows| *rows = Rows { subjects: vec![], delegations: vec![] }),
     ("subjects from 1 on", |rows| rows.subjects.retain(|row| row[0] != 0)),
     ("a subject missing", |rows| rows.subjects.retain(|row| row[0] != 1)),
-    ("the owner twice", |rows| rows.subjects.insert(0, [0, 0])),
-    ("the last subject twice", |rows| rows.subjects.push([2, 4])),
+    ("the owner twice", |rows| rows.subjects.insert(0, [0, 0, 0])),
+    ("the last subject twice", |rows| rows.subjects.push([2, 4, 0])),
     ("two subjects exchanged", |rows| rows.subjects.swap(1, 2)),
     ("the owner last", |rows| rows.subjects.rotate_left(1)),
     ("3 in the place of 2", |rows| rows.subjects[2][0] = 3),
@@ -216,10 +264,24 @@ const UNFORMED: [(&str, fn(&mut Rows)); 30] = [
     ("256 subjects", |rows| enrolled(rows, 256)),
     ("257 subjects", |rows| enrolled(rows, 257)),
     ("320 subjects", |rows| enrolled(rows, 320)),
+    ("the owner has retired", |rows| rows.subjects[0][2] = 1),
+    ("the owner has retired, and has a mark", |rows| rows.subjects[0] = [0, 1, 1]),
+    ("one who gives, receives and has marks has retired", |rows| rows.subjects[1][2] = 1),
+    ("one who gives and receives has retired", |rows| rows.subjects[1] = [1, 0, 1]),
+    ("one who receives has retired", |rows| rows.subjects[2] = [2, 0, 1]),
+    ("one who gives has retired", |rows| {
+        rows.subjects.push([3, 0, 1]);
+        rows.delegations.push([3, 2, 1, 0, 0]);
+    }),
+    ("one who has a mark has retired", |rows| rows.subjects.push([3, 1, 1])),
+    ("one who has the highest mark has retired", |rows| rows.subjects.push([3, 32_768, 1])),
+    ("retired is 2", |rows| rows.subjects.push([3, 0, 2])),
+    ("retired is 256", |rows| rows.subjects.push([3, 0, 256])),
+    ("retired is 4,294,967,295", |rows| rows.subjects.push([3, 0, 4_294_967_295])),
 ];
 
 fn enrolled(rows: &mut Rows, subjects: u32) {
-    rows.subjects.extend((3..subjects).map(|number| [number, 0]));
+    rows.subjects.extend((3..subjects).map(|number| [number, 0, 0]));
 }
 
 /// The example with so many subjects, which is read if they are at most 64.
@@ -241,7 +303,7 @@ pub fn unformed() -> Vec<(&'static str, Vec<u8>)> {
     all.push(("512 delegations", with_delegations(512)));
     all.push(("a subject more than all", {
         let mut rows = Rows::of(&full::all_enrolled());
-        rows.subjects.push([64, 0]);
+        rows.subjects.push([64, 0, 0]);
         rows.text()
     }));
     all
@@ -252,7 +314,7 @@ pub fn unformed() -> Vec<(&'static str, Vec<u8>)> {
 pub fn with_delegations(delegations: usize) -> Vec<u8> {
     let pairs = (0..64).flat_map(|giver| (1..64).map(move |receiver| [giver, receiver, 255, 0, 0]));
     let rows = Rows {
-        subjects: (0..64).map(|number| [number, 0]).collect(),
+        subjects: (0..64).map(|number| [number, 0, 0]).collect(),
         delegations: pairs.filter(|row| row[0] != row[1]).take(delegations).collect(),
     };
     rows.text()
@@ -267,10 +329,10 @@ pub fn unformed_and_malformed() -> Vec<Vec<u8>> {
     let many = with_delegations(257);
     vec![
         with_line(&high, LAST, b"1 2  8 0 0\n"),
-        with_line(&high, LAST_SUBJECT, b"2 04\n"),
+        with_line(&high, LAST_SUBJECT, b"2 04 0\n"),
         with_line(&high, EMPTY, b" \n"),
         with_line(&heavy, LAST, b"1 2 8 0 0"),
-        with_line(&heavy, OWNER, b"0 00\n"),
+        with_line(&heavy, OWNER, b"0 00 0\n"),
         with_line(&order, OTHER_NAMES, b"giver receiver weight need\n"),
         with_line(&order, LAST, b"1 2 8 0 0\r\n"),
         with_column(&order, LAST, 4, b"4294967296"),

@@ -1,10 +1,14 @@
 //! The cases that every implementation is compared on: block-level ones in
-//! five kinds, those of register files, orders, marks, lists of calls, and call files.
+//! five kinds, those of register files, orders, marks, retirements, lists of calls, and
+//! call files.
 
+pub mod bits;
 pub mod broken;
+pub mod brought;
 pub mod callfiles;
 pub mod deep;
 pub mod drawnmarks;
+pub mod drawnretires;
 pub mod examples;
 pub mod filetexts;
 pub mod full;
@@ -15,11 +19,15 @@ pub mod malformed;
 pub mod marklists;
 pub mod markregisters;
 pub mod marks;
+pub mod named;
 pub mod orderregisters;
 pub mod orders;
 pub mod raises;
 pub mod refusals;
 pub mod registerfiles;
+pub mod retirelists;
+pub mod retireregisters;
+pub mod retires;
 pub mod rounds;
 pub mod slow;
 pub mod tables;
@@ -71,6 +79,7 @@ pub fn cases(kind: &Kind) -> Vec<Case> {
         "raise" => return raises::cases(),
         "order" => return orders::cases(),
         "marks" => return marks::cases(),
+        "retire" => return retires::cases(),
         _ => {}
     }
     let mut cases = Vec::new();
@@ -91,7 +100,7 @@ pub type Grant = (u8, u8, u8, u16, u16);
 
 /// A register with these marks, the owner's first, and these delegations in any order.
 pub fn register(marks: &[u16], grants: &[Grant]) -> Register {
-    let mut register = Register { marks: marks.to_vec(), delegations: Vec::new() };
+    let mut register = Register { marks: marks.to_vec(), retired: 0, delegations: Vec::new() };
     for &(giver, receiver, weight, need, bar) in grants {
         if let Err(at) = register.place(giver as u32, receiver as u32) {
             register.delegations.insert(at, Delegation { giver, receiver, weight, need, bar });
@@ -151,6 +160,16 @@ pub fn order(receiver: u32, buffer: u32) -> Passed {
 /// The subject is passed as the receiver, the marks as the need.
 pub fn set_marks(by: u32, subject: u32, marks: u32) -> Passed {
     Passed { by, receiver: subject, need: marks, ..blank(Call::SetMarks) }
+}
+
+/// The subject is passed as the receiver.
+pub fn retire(by: u32, subject: u32) -> Passed {
+    Passed { by, receiver: subject, ..blank(Call::Retire) }
+}
+
+/// A case that brings an old block over into one that holds these bytes.
+pub fn bring_over(old: &[u8], block: &[u8]) -> Case {
+    Case { passed: blank(Call::BringOver), text: Some(old.to_vec()), block: Some(block.to_vec()) }
 }
 
 /// The grant call of a listed delegation.

@@ -2,12 +2,13 @@
 //! every wrong length.
 
 use super::*;
-use second::block::{encode, BLOCK_LEN};
+use second::block::{encode, BLOCK_LEN, OLD_BLOCK_LEN};
 use second::callfile::{from_values, used_columns, values_of};
 use second::casefile::MOST_BYTES;
 
 pub const NUMBERS: [u32; 8] = [0, 63, 64, 255, 256, 65_535, 65_536, 4_294_967_295];
-pub const LENGTHS: [usize; 5] = [0, 1, BLOCK_LEN - 1, BLOCK_LEN + 1, 4096];
+/// The length before document 02's C-16 is among the wrong ones.
+pub const LENGTHS: [usize; 6] = [0, 1, OLD_BLOCK_LEN, BLOCK_LEN - 1, BLOCK_LEN + 1, 4096];
 pub const BUFFERS: [u32; 9] = [0, 1, 124, 125, 126, 127, 128, 512, 4096];
 
 pub fn cases(kind: &Kind) -> Vec<Case> {
@@ -48,6 +49,8 @@ fn base(call: Call) -> Passed {
         Call::Chain => chain(1, 2, 126),
         Call::Order => order(2, 128),
         Call::SetMarks => set_marks(0, 2, 7),
+        Call::Retire => retire(0, 2),
+        Call::BringOver => blank(Call::BringOver),
     }
 }
 
@@ -64,6 +67,8 @@ fn on_all(call: Call) -> Passed {
         Call::Chain => chain(63, 62, 126),
         Call::Order => order(63, 128),
         Call::SetMarks => set_marks(0, 63, 7),
+        Call::Retire => retire(0, 63),
+        Call::BringOver => blank(Call::BringOver),
     }
 }
 

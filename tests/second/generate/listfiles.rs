@@ -23,6 +23,7 @@ pub fn all() -> Vec<List> {
     all.extend(raises::examples().iter().map(|example| list(&example.calls())));
     all.extend(random_lists(0x4E92, raises::likely, &lists::FILE));
     all.extend(marklists::all());
+    all.extend(retirelists::all());
     all
 }
 
@@ -90,7 +91,7 @@ fn wrong_lengths() -> Vec<List> {
 /// wrong.
 fn no_calls() -> Vec<List> {
     let mut lists = Vec::new();
-    for (at, number) in [(0, 7), (3, 7), (6, 7), (0, 256), (6, MOST)] {
+    for (at, number) in [(0, 8), (3, 8), (6, 8), (0, 256), (6, MOST)] {
         let mut list = list(&few());
         list.numbers[NUMBERS * at] = number;
         lists.push(list.clone());

@@ -110,6 +110,8 @@ fn plausible(random: &mut Random, call: Call, table: &Table, register: &Register
         Call::Chain => chain(giver, receiver, random.pick(&[126, 126, 126, 127, 512, 125])),
         Call::Order => order(receiver, random.pick(&[128, 128, 128, 128, 128, 128, 127, 129])),
         Call::SetMarks => plausible_marks(random, table, register, set_marks(by, receiver, 0)),
+        Call::Retire => retire(random.pick(&[0, 0, 0, 0, 0, by]), receiver),
+        Call::BringOver => blank(Call::BringOver),
     }
 }
 

@@ -55,7 +55,7 @@ fn no_calls() -> Vec<List> {
         list.numbers[NUMBERS * at] = number;
         list
     };
-    [(1, 7), (6, 8), (12, 11), (0, 10)].map(with).to_vec()
+    [(1, 8), (6, 8), (12, 11), (0, 10)].map(with).to_vec()
 }
 
 /// Each buffer a call's share too short for the last call, which sets marks.

@@ -16,7 +16,7 @@ pub const CALLS: [Call; 6] =
 pub const KIND: Kind = Kind { name: "marks", added: &[Call::SetMarks], calls: &CALLS };
 
 /// Other lengths than a block's, beside those of the limits.
-pub const LENGTHS: [usize; 7] = [2, 4, 132, 2172, 2178, 2182, 2188];
+pub const LENGTHS: [usize; 7] = [2, 4, 140, 2180, 2186, 2190, 2196];
 
 /// No condition of the small registers names this mark.
 const UNNAMED: u16 = 0x4000;
@@ -124,7 +124,7 @@ fn of_many_rounds() -> Vec<Case> {
     let deep = encode(&rounds::built());
     let mut cases = vec![on(&deep, rounds::FIRST_MARKS)];
     let slow = slow::SLOW.iter().zip(SLOW);
-    cases.extend(slow.map(|(slow, (subject, marks, _))| on(slow.block(), set_marks(0, subject, marks))));
+    cases.extend(slow.map(|(slow, (subject, marks, _))| on(&slow.block(), set_marks(0, subject, marks))));
     cases
 }
 

@@ -75,6 +75,8 @@ pub fn candidates(call: Call) -> Vec<Passed> {
         Call::Reach => pairs().map(|(giver, receiver)| reach(giver, receiver)).collect(),
         Call::Chain => pairs().flat_map(|(g, r)| BUFFERS.map(|buffer| chain(g, r, buffer))).collect(),
         Call::Order => SUBJECTS.map(|receiver| ORDER_BUFFERS.map(|buffer| order(receiver, buffer))).concat(),
+        Call::Retire => pairs().map(|(by, subject)| retire(by, subject)).collect(),
+        Call::BringOver => vec![],
         Call::SetMarks => pairs().flat_map(|(by, s)| [5, 65_536].map(|marks| set_marks(by, s, marks))).collect(),
         Call::Grant => pairs().flat_map(|(g, r)| grants(g, r)).collect(),
         Call::Revoke => pairs().flat_map(|(g, r)| SUBJECTS.map(|by| revoke(by, g, r))).collect(),

@@ -34,8 +34,29 @@ pub fn cases() -> Vec<FileCase> {
     cases.extend(spoiled());
     cases.extend(sequences());
     cases.extend(of_other_kinds());
+    cases.extend(retired());
     cases
 }
+
+/// Files of registers in which some have retired, with every number in the column; and calls
+/// with retirements among them.
+fn retired() -> Vec<FileCase> {
+    let ends = retireregisters::without(retireregisters::wide(), &[1, 7, 8, 15, 16, 31, 32, 55, 56, 63]);
+    let all = retireregisters::without(register(&[0, 1, 2, 3], &[]), &[1, 2, 3]);
+    let full = [retireregisters::full_without_two(), retireregisters::some_without_one()];
+    let registers = [vec![filetexts::gone(), ends, all], full.to_vec()].concat();
+    let mut cases: Vec<FileCase> = registers.iter().flat_map(round_trip).collect();
+    cases.extend(filetexts::retired().iter().map(|text| read(&other_block(), text, b"")));
+    let mut random = Random::new(0x5E9D);
+    (0..6).for_each(|_| cases.extend(sequence(&mut random, 28, &RETIRING)));
+    cases
+}
+
+/// The calls of sequences in which subjects retire.
+const RETIRING: [Call; 12] = [
+    Call::Enrol, Call::Grant, Call::Grant, Call::Grant, Call::Grant, Call::Grant, Call::Revoke, Call::Reach,
+    Call::SetMarks, Call::Retire, Call::Retire, Call::Retire,
+];
 
 /// A read of a file into a block, lent a table's text.
 fn read(block: &[u8], file: &[u8], table: &[u8]) -> FileCase {
@@ -278,18 +299,18 @@ fn sequences() -> Vec<FileCase> {
     let mut random = Random::new(0x5E9C);
     let mut cases = Vec::new();
     for _ in 0..6 {
-        cases.extend(sequence(&mut random, 28));
+        cases.extend(sequence(&mut random, 28, &lists::CUT));
     }
     cases
 }
 
-fn sequence(random: &mut Random, length: usize) -> Vec<FileCase> {
+fn sequence(random: &mut Random, length: usize, calls: &[Call]) -> Vec<FileCase> {
     let fresh = Bytes { block: encode(&Register::fresh()), ..Bytes::default() };
     let mut cases = vec![FileCase { asked: Asked::Call(open()), on: fresh.clone() }];
     let mut left = fresh;
     let table = random_table(random).text();
     for at in 0..length {
-        let case = if at < 4 { enrolment(random, &left) } else { drawn(random, &table, &left) };
+        let case = if at < 4 { enrolment(random, &left) } else { drawn(random, calls, &table, &left) };
         left = case.made(&FAST).1;
         cases.push(case);
     }
@@ -305,7 +326,7 @@ fn called(n: Passed, table: &[u8], left: &Bytes) -> FileCase {
 }
 
 /// A write, a read of what was written before or of another file, or another call.
-fn drawn(random: &mut Random, table: &[u8], left: &Bytes) -> FileCase {
+fn drawn(random: &mut Random, calls: &[Call], table: &[u8], left: &Bytes) -> FileCase {
     let lent = if random.chance(20) { table } else { b"" };
     match random.below(12) {
         0 | 1 => FileCase { asked: Asked::Write(BUFFER), on: left.clone() },
@@ -315,13 +336,13 @@ fn drawn(random: &mut Random, table: &[u8], left: &Bytes) -> FileCase {
             let spoilt = random.chance(40);
             read(&left.block, &if spoilt { changed(random, &file) } else { file }, lent)
         }
-        _ => likely(random, lent, left),
+        _ => likely(random, calls, lent, left),
     }
 }
 
 /// Another call; one that takes no table is lent none.
-fn likely(random: &mut Random, table: &[u8], left: &Bytes) -> FileCase {
-    let call = random.pick(&lists::CUT);
+fn likely(random: &mut Random, calls: &[Call], table: &[u8], left: &Bytes) -> FileCase {
+    let call = random.pick(calls);
     let lent = if takes_table(call) { table } else { b"" };
     let register = decode(&left.block).unwrap_or(Register::fresh());
     let n = raises::likely(random, call, &Table::read(lent).unwrap_or(OURS), &register);

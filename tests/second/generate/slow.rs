@@ -1,8 +1,9 @@
 //! Slow cuts, found by a search on the time that a revocation takes. Each file has
-//! a block and then by, giver and receiver of the revocation.
+//! a block of 2,180 bytes, which is brought over, and then by, giver and receiver of
+//! the revocation.
 
 use super::*;
-use second::block::BLOCK_LEN;
+use second::block::{brought, OLD_BLOCK_LEN};
 
 /// A slow cut: its block with its call, and how many rounds it takes.
 pub struct Slow {
@@ -19,19 +20,19 @@ pub const SLOW: [Slow; 4] = [
 ];
 
 impl Slow {
-    pub fn block(&self) -> &[u8] {
-        &self.bytes[..BLOCK_LEN]
+    pub fn block(&self) -> Vec<u8> {
+        brought(&self.bytes[..OLD_BLOCK_LEN]).unwrap_or_default()
     }
 
     pub fn cut(&self) -> Passed {
-        let [by, giver, receiver] = [0, 1, 2].map(|at| self.bytes[BLOCK_LEN + at] as u32);
+        let [by, giver, receiver] = [0, 1, 2].map(|at| self.bytes[OLD_BLOCK_LEN + at] as u32);
         revoke(by, giver, receiver)
     }
 }
 
 pub fn cases(kind: &Kind) -> Vec<Case> {
     match kind.name {
-        "cut" => SLOW.iter().map(|slow| on(slow.block(), slow.cut())).collect(),
+        "cut" => SLOW.iter().map(|slow| on(&slow.block(), slow.cut())).collect(),
         _ => Vec::new(),
     }
 }

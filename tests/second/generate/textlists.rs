@@ -156,7 +156,7 @@ pub fn outside(texts: &[u8], few: &[(Passed, Place)], taking: &[Call], places: &
 /// outside too.
 fn no_calls() -> Vec<List> {
     let mut lists = Vec::new();
-    for (number, place) in [(7, (0, MOST)), (7, (MOST, 1)), (MOST, (MOST, MOST))] {
+    for (number, place) in [(8, (0, MOST)), (8, (MOST, 1)), (MOST, (MOST, MOST))] {
         let mut list = under(&texts(), &few());
         list.numbers[4 * NUMBERS] = number;
         list.numbers[4 * NUMBERS + 7] = place.0;

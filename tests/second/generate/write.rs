@@ -1,6 +1,6 @@
 //! Writes the cases: files of at most 65,536 bytes, an index and the counts.
 
-use super::{callfiles, cases, listfiles, marks, orders, registerfiles, Call, Kind, KINDS};
+use super::{callfiles, cases, listfiles, marks, orders, registerfiles, retires, Call, Kind, KINDS};
 use second::callfile::{print, MOST_INPUT};
 use second::casefile::{case_line, expected_line, Case};
 use second::engine::FAST;
@@ -117,7 +117,7 @@ pub fn write_all(folder: &Path) -> io::Result<()> {
     let of_files = registerfiles::cases();
     counts.push_str(&format!("file {}\n", of_files.len()));
     write_files(folder, "file", "cases", &file_files(&of_files))?;
-    for (name, cases) in [&orders::KIND, &marks::KIND].into_iter().flat_map(parts) {
+    for (name, cases) in [&orders::KIND, &marks::KIND, &retires::KIND].into_iter().flat_map(parts) {
         counts.push_str(&format!("{name} {}\n", cases.len()));
         write_files(folder, name, "cases", &files(&cases))?;
     }

@@ -3,7 +3,7 @@ use native.Mathlib.Omega.{arith}
 use borrow.Author.Needs.{needs}
 use lib.Pow.{shl-exact}
 use Rattle.queue.specs.Queue.{setBits}
-use Rattle.queue.proofs.Buckets.{put-in}
+use Rattle.rules.proofs.Bits.{put-in}
 use Rattle.queue.proofs.with.Statement.{statement}
 use Rattle.queue.proofs.with.Tie as tie
 

@@ -1,6 +1,7 @@
 -- `refusals::reach_refusal` is the whole refusal of the call. Assumes nothing.
 use borrow.Author.Needs.{needs}
 use Rattle.rules.specs.Call.{Call, askReach}
+use Rattle.rules.specs.Refusal.{held}
 use Rattle.refusals.proofs.EarlyTests.{EarlyFound, early-found}
 use Rattle.refusals.proofs.reach_refusal.Statement.{statement}
 use Rattle.refusals.proofs.reach_refusal.Tie as tie
@@ -20,11 +21,12 @@ early-requires c κs = search needs
 returns : tie.Need-returns
 returns c t = found (c .before) .refused (c .if1 .taken) t
 
-reach-held-requires : tie.Need-reach-held-requires
-reach-held-requires c κs = found (c .before) .checked (c .if1 .left) .formed
+pair-held-requires : tie.Need-pair-held-requires
+pair-held-requires c κs = found (c .before) .checked (c .if1 .left) .formed
 
 returns-2 : tie.Need-returns-2
-returns-2 c t = let e = c .before in found (e .before) .late (e .if1 .left) t _ (c .reach-held .ensures t)
+unfolding held
+returns-2 c t = let e = c .before in found (e .before) .late (e .if1 .left) t _ (c .pair-held .ensures)
 
 pub reach-refusal-spec : {M : Type 1} → statement M
-reach-refusal-spec = tie.close (tie.spec pair-passed-requires early-requires returns reach-held-requires returns-2)
+reach-refusal-spec = tie.close (tie.spec pair-passed-requires early-requires returns pair-held-requires returns-2)

@@ -22,12 +22,12 @@ early-requires c κs = search needs
 returns : tie.Need-returns
 returns c = found (c .before) .refused (c .if1 .taken) steps
 
-not-enrolled-requires : tie.Need-not-enrolled-requires
-not-enrolled-requires c κs = found (c .before) .checked (c .if1 .left) .formed
+subject-held-requires : tie.Need-subject-held-requires
+subject-held-requires c κs = found (c .before) .checked (c .if1 .left) .formed
 
 returns-2 : tie.Need-returns-2
 unfolding held
-returns-2 c = let e = c .before in found (e .before) .late (e .if1 .left) steps _ (c .not-enrolled .ensures)
+returns-2 c = let e = c .before in found (e .before) .late (e .if1 .left) steps _ (c .subject-held .ensures)
 
 pub use-refusal-spec : {M : Type 1} → statement M
-use-refusal-spec = tie.close (tie.spec use-passed-requires early-requires returns not-enrolled-requires returns-2)
+use-refusal-spec = tie.close (tie.spec use-passed-requires early-requires returns subject-held-requires returns-2)

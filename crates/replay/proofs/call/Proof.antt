@@ -96,15 +96,28 @@ returns-7 c =
     let s = c .before .before .before .before .before .before .before .before .before .before .before .before .before in
     call-named (s .args .number) (named s) (s .args .table .now) (s .args .block .now) _ _ 6 (c .before .before .before .before .if7 .taken) tt (c .before .before .set-marks .ensures .outcome)
 
+retire-requires : tie.Need-retire-requires
+retire-requires c κs = search needs
+
+same-length-8 : tie.Need-same-length-8
+same-length-8 c = search needs
+
+returns-8 : tie.Need-returns-8
+unfolding callOf
+returns-8 c =
+    let s = c .before .before .before .before .before .before .before .before .before .before .before .before .before .before in
+    call-named (s .args .number) (named s) (s .args .table .now) (s .args .block .now) _ _ 7 (c .before .before .before .before .if8 .taken) tt (c .before .before .retire .ensures .outcome)
+
 refused-requires : tie.Need-refused-requires
 refused-requires c κs = search needs
 
-returns-8 : tie.Need-returns-8
-returns-8 c =
-    let e = c .before in
+returns-9 : tie.Need-returns-9
+returns-9 c =
+    let f = c .before in
+    let e = f .before in
     let s = e .before .before .before .before .before .before .before .before .before in
     call-other (s .args .number) (named s) (s .args .table .now) (s .args .block .now) _ _
-    (no-call (s .args .number) (e .before .before .before .before .before .before .if1 .left) (e .before .before .before .before .before .if2 .left) (e .before .before .before .before .if3 .left) (e .before .before .before .if4 .left) (e .before .before .if5 .left) (e .before .if6 .left) (e .if7 .left))
+    (no-call (s .args .number) (e .before .before .before .before .before .before .if1 .left) (e .before .before .before .before .before .if2 .left) (e .before .before .before .before .if3 .left) (e .before .before .before .if4 .left) (e .before .before .if5 .left) (e .before .if6 .left) (e .if7 .left) (f .if8 .left))
     (c .refused .ensures) refl
 
 pub call-spec : {M : Type 1} → statement M
@@ -132,5 +145,8 @@ call-spec =
     set-marks-requires
     same-length-7
     returns-7
+    retire-requires
+    same-length-8
+    returns-8
     refused-requires
-    returns-8)
+    returns-9)

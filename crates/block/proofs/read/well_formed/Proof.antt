@@ -1,13 +1,16 @@
 -- `block::well_formed` is the definition's `wellFormed`, for any bytes. Assumes nothing.
-use mathlib.Core.Path.{_≡_, refl, sym, _∙_}
-use mathlib.Core.Bool.{Bool, true, and-true}
+use mathlib.Core.Path.{_≡_, refl, sym, ap, _∙_}
+use mathlib.Core.Bool.{Bool, true, _&&_, and-true}
 use mathlib.Core.List.{List, [], _∷_, _++_}
 use Prim.Native.Nat.{ℕ, _≤_}
 use native.Mathlib.Omega.{arith}
 use borrow.Author.Needs.{needs}
 use borrow.Author.Tests.{eq-eqb, ne-eqb, not-true, not-false}
 use Rattle.block.specs.Layout.{mostRecords}
-use Rattle.block.specs.WellFormed.{allPass, rightSize, headTests, headFormed, ownerUnmarked, restUnmarked, recordsFormed, recordsRise, restZero, wellFormed}
+use Rattle.block.specs.Bytes.{allFrom}
+use Rattle.block.specs.Block.{retiredIn}
+use Rattle.block.specs.Records.{delegationAt}
+use Rattle.block.specs.WellFormed.{allPass, rightSize, headTests, headFormed, ownerUnmarked, restUnmarked, retiredFormed, recordsFormed, recordsRise, isApart, recordsApart, restZero, wellFormed}
 use Rattle.block.proofs.Fields.{head-some, head-few}
 use Rattle.block.proofs.Tests.{tests-group, tests-on, tests-stop, tests-last}
 use Rattle.block.proofs.read.well_formed.Statement.{statement}
@@ -21,8 +24,15 @@ fromRest = restZero ∷ []
 abbrev ofRecords : List (List ℕ → Bool)
 ofRecords = recordsFormed ∷ recordsRise ∷ []
 
+-- and those of the bits
+abbrev ofRetired : List (List ℕ → Bool)
+ofRetired = retiredFormed ∷ recordsApart ∷ []
+
+abbrev fromRetired : List (List ℕ → Bool)
+fromRetired = ofRetired ++ fromRest
+
 abbrev fromRecords : List (List ℕ → Bool)
-fromRecords = ofRecords ++ fromRest
+fromRecords = ofRecords ++ fromRetired
 
 abbrev fromMarks : List (List ℕ → Bool)
 fromMarks = restUnmarked ∷ fromRecords
@@ -43,6 +53,9 @@ seen4 c = seen3 (c .before .before)
 abbrev seen5 : tie.Else5 → tie.After-count
 seen5 c = seen4 (c .before .before)
 
+abbrev seen6 : tie.Else6 → tie.After-count
+seen6 c = seen5 (c .before .before)
+
 -- ── what each call answers ──
 head-is : (c : tie.Else2) → headFormed (c .before .before .before .before .args .b .now) ≡ true
 head-is c = sym (c .before .head-formed .ensures) ∙ not-false (c .before .head-formed .result) (c .if2 .left)
@@ -55,6 +68,13 @@ rest-is c = c .zero-range .ensures ∙ simp (seen3 (c .before) .before .subjects
 
 records-are : (c : tie.After-records-formed) → c .records-formed .result ≡ allPass ofRecords (given (seen4 (c .before)))
 records-are c = c .records-formed .ensures ∙ simp (seen4 (c .before) .before .subjects .ensures, seen4 (c .before) .count .ensures, and-true)
+
+retired-are : (c : tie.After-retired-formed) → c .retired-formed .result ≡ allPass ofRetired (given (seen5 (c .before)))
+retired-are c =
+    let b = given (seen5 (c .before)) in
+    c .retired-formed .ensures
+    ∙ ap (λ (n : ℕ). retiredFormed b && allFrom (λ k. isApart (retiredIn b) (delegationAt b k)) 0 n) (seen5 (c .before) .count .ensures)
+    ∙ ap (λ (x : Bool). retiredFormed b && x) (sym (and-true (recordsApart b)))
 
 -- ── the tests that are left past each early return ──
 past-size : (c : tie.Else1) → let b = c .before .before .args .b .now in wellFormed b ≡ allPass (headFormed ∷ fromOwner) b
@@ -69,13 +89,18 @@ past-head c = tests-on headFormed fromOwner (c .before .before .before .before .
 past-owner : (c : tie.Else3) → wellFormed (given (seen3 c)) ≡ allPass fromMarks (given (seen3 c))
 past-owner c = tests-on ownerUnmarked fromMarks (given (seen3 c)) (past-head (seen3 c .before .before)) (eq-eqb _ _ (sym (c .before .read-two .ensures) ∙ c .if3 .left))
 
-past-rest : (c : tie.Else4) → wellFormed (given (seen4 c)) ≡ allPass (allPass ofRecords ∷ fromRest) (given (seen4 c))
+past-rest : (c : tie.Else4) → wellFormed (given (seen4 c)) ≡ allPass (allPass ofRecords ∷ fromRetired) (given (seen4 c))
 past-rest c =
     tests-on restUnmarked fromRecords (given (seen4 c)) (past-owner (c .before .before)) (sym (rest-is (c .before)) ∙ not-false (c .before .zero-range .result) (c .if4 .left))
-    ∙ tests-group ofRecords fromRest (given (seen4 c))
+    ∙ tests-group ofRecords fromRetired (given (seen4 c))
 
-past-records : (c : tie.Else5) → wellFormed (given (seen5 c)) ≡ allPass fromRest (given (seen5 c))
-past-records c = tests-on (allPass ofRecords) fromRest (given (seen5 c)) (past-rest (c .before .before)) (sym (records-are (c .before)) ∙ not-false (c .before .records-formed .result) (c .if5 .left))
+past-records : (c : tie.Else5) → wellFormed (given (seen5 c)) ≡ allPass (allPass ofRetired ∷ fromRest) (given (seen5 c))
+past-records c =
+    tests-on (allPass ofRecords) fromRetired (given (seen5 c)) (past-rest (c .before .before)) (sym (records-are (c .before)) ∙ not-false (c .before .records-formed .result) (c .if5 .left))
+    ∙ tests-group ofRetired fromRest (given (seen5 c))
+
+past-retired : (c : tie.Else6) → wellFormed (given (seen6 c)) ≡ allPass fromRest (given (seen6 c))
+past-retired c = tests-on (allPass ofRetired) fromRest (given (seen6 c)) (past-records (c .before .before)) (sym (retired-are (c .before)) ∙ not-false (c .before .retired-formed .result) (c .if6 .left))
 
 -- ── the needs ──
 returns : tie.Need-returns
@@ -125,21 +150,29 @@ records-formed-requires c κs = (rw (seen4 c .before .subjects .ensures) (head-s
 returns-5 : tie.Need-returns-5
 returns-5 c =
     let e = c .before .before in
-    tests-stop (allPass ofRecords) fromRest (given (seen4 e)) (past-rest e) (sym (records-are (c .before)) ∙ not-true (c .before .records-formed .result) (c .if5 .taken))
+    tests-stop (allPass ofRecords) fromRetired (given (seen4 e)) (past-rest e) (sym (records-are (c .before)) ∙ not-true (c .before .records-formed .result) (c .if5 .taken))
+
+retired-formed-requires : tie.Need-retired-formed-requires
+retired-formed-requires c κs = (omega (arith, few (seen5 c)), omega (arith, few (seen5 c)))
+
+returns-6 : tie.Need-returns-6
+returns-6 c =
+    let e = c .before .before in
+    tests-stop (allPass ofRetired) fromRest (given (seen5 e)) (past-records e) (sym (retired-are (c .before)) ∙ not-true (c .before .retired-formed .result) (c .if6 .taken))
 
 mul-zero-range-2 : tie.Need-mul-zero-range-2
-mul-zero-range-2 c = omega (arith, few (seen5 c))
+mul-zero-range-2 c = omega (arith, few (seen6 c))
 
 add-zero-range-2 : tie.Need-add-zero-range-2
-add-zero-range-2 c = omega (arith, few (seen5 c))
+add-zero-range-2 c = omega (arith, few (seen6 c))
 
 zero-range-requires-2 : tie.Need-zero-range-requires-2
 zero-range-requires-2 c κs = search needs
 
-returns-6 : tie.Need-returns-6
-returns-6 c =
+returns-7 : tie.Need-returns-7
+returns-7 c =
     let e = c .before in
-    c .zero-range2 .ensures ∙ rw (seen5 e .count .ensures) (sym (tests-last restZero (given (seen5 e)) (past-records e)))
+    c .zero-range2 .ensures ∙ rw (seen6 e .count .ensures) (sym (tests-last restZero (given (seen6 e)) (past-retired e)))
 
 pub well-formed-spec : {M : Type 1} → statement M
 well-formed-spec =
@@ -159,7 +192,9 @@ well-formed-spec =
     returns-4
     records-formed-requires
     returns-5
+    retired-formed-requires
+    returns-6
     mul-zero-range-2
     add-zero-range-2
     zero-range-requires-2
-    returns-6)
+    returns-7)

@@ -5,7 +5,8 @@ use Prim.Native.Nat.{_<_}
 use native.Mathlib.Omega.{arith}
 use Rattle.block.proofs.Bytes.{fits-bytes}
 use Rattle.block.proofs.Held.{size-held, count-most, held-formed}
-use Rattle.queue.specs.Queue.{setBits, bit}
+use Rattle.rules.specs.Bits.{bit}
+use Rattle.queue.specs.Queue.{setBits}
 use Rattle.search.specs.Named.{MarksAmong}
 use Rattle.reckoning.proofs.Filling.{each-held, held-each}
 use Rattle.reckoning.proofs.indexed.index_of.Statement.{statement}

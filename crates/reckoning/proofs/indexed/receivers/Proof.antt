@@ -3,7 +3,7 @@ use mathlib.Core.Path.{subst}
 use Prim.Native.Nat.{ℕ, _-_, _≤_}
 use native.Mathlib.Omega.{arith}
 use Rattle.block.specs.Records.{delegationAt}
-use Rattle.queue.specs.Queue.{BitPut}
+use Rattle.rules.specs.Bits.{BitPut}
 use Rattle.reckoning.specs.Reckoned.{HasReceivers}
 use Rattle.reckoning.proofs.Filling.{set-on}
 use Rattle.reckoning.proofs.indexed.receivers.Statement.{statement}

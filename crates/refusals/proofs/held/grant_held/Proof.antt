@@ -2,16 +2,15 @@
 use borrow.Author.Needs.{needs}
 use mathlib.Core.Path.{_≡_, sym, ap, _∙_}
 use mathlib.Core.Bool.{Bool}
-use mathlib.Core.List.{List, [], _∷_}
+use mathlib.Core.List.{List, [], _∷_, _++_}
 use Prim.Native.Nat.{ℕ}
-use lib.Dec.{leb}
 use Rattle.rules.specs.Register.{Delegation, granted}
-use Rattle.rules.specs.Refusal.{firstOf, notEnrolled, pairStands, allStand, overweight, held}
+use Rattle.rules.specs.Refusal.{firstOf, subjectsHeld, pairStands, allStand, overweight, held}
 use Rattle.rules.proofs.Refusals.{firstOf-append, passes-of}
 use Rattle.block.specs.Block.{decode}
 use Rattle.block.proofs.Bytes.{fits-bytes}
 use Rattle.refusals.specs.Joined.{orElse}
-use Rattle.refusals.proofs.Joining.{joined-first, any-tests}
+use Rattle.refusals.proofs.Joining.{joined-after}
 use Rattle.refusals.proofs.Holding.{both-of}
 use Rattle.refusals.proofs.held.grant_held.Statement.{statement}
 use Rattle.refusals.proofs.held.grant_held.Tie as tie
@@ -19,11 +18,8 @@ use Rattle.refusals.proofs.held.grant_held.Tie as tie
 abbrev delegation : tie.Start → Delegation
 delegation s = let a = s .args in granted (a .giver) (a .receiver) (a .weight) (a .need) (a .bar)
 
-not-enrolled-requires : tie.Need-not-enrolled-requires
-not-enrolled-requires c κs = search needs
-
-not-enrolled-requires-2 : tie.Need-not-enrolled-requires-2
-not-enrolled-requires-2 c κs = search needs
+pair-held-requires : tie.Need-pair-held-requires
+pair-held-requires c κs = search needs
 
 no-place-requires : tie.Need-no-place-requires
 no-place-requires c κs = search needs
@@ -33,20 +29,18 @@ abbrev tests : tie.Start → List (ℕ × Bool)
 tests s =
     let a = s .args in
     let R = decode (a .block .now) in
-    notEnrolled R (a .giver ∷ a .receiver ∷ []) ∷ pairStands R (delegation s) ∷ allStand R (delegation s) ∷ []
+    subjectsHeld R (a .giver ∷ a .receiver ∷ []) ++ (pairStands R (delegation s) ∷ allStand R (delegation s) ∷ [])
 
-before-reach : (c : tie.After-no-place) → c .no-place .result ≡ firstOf (tests (c .before .before .before .before))
+before-reach : (c : tie.After-no-place) → c .no-place .result ≡ firstOf (tests (c .before .before .before))
 before-reach c =
-    let s = c .before .before .before .before in
+    let s = c .before .before .before in
     let a = s .args in
     let R = decode (a .block .now) in
-    rw (c .no-place .ensures, c .before .not-enrolled2 .ensures, c .before .before .not-enrolled .ensures)
-    (joined-first (notEnrolled R (a .giver ∷ []) ∷ notEnrolled R (a .receiver ∷ []) ∷ pairStands R (delegation s) ∷ allStand R (delegation s) ∷ []) tt
-    ∙ any-tests 9 (λ x. leb (R .subjects) x) (a .giver ∷ a .receiver ∷ []) (pairStands R (delegation s) ∷ allStand R (delegation s) ∷ []))
+    rw (c .no-place .ensures, c .before .pair-held .ensures) (joined-after (subjectsHeld R (a .giver ∷ a .receiver ∷ [])) (pairStands R (delegation s) ∷ allStand R (delegation s) ∷ []) tt tt)
 
 overweight-requires : tie.Need-overweight-requires
 overweight-requires c κs =
-    let k = c .before .before .before in
+    let k = c .before .before in
     let s = k .before in
     let a = s .args in
     let b = a .block .now in
@@ -55,7 +49,7 @@ overweight-requires c κs =
 returns : tie.Need-returns
 unfolding held
 returns c =
-    let s = c .before .before .before .before .before in
+    let s = c .before .before .before .before in
     let last = overweight (s .args .table .now) (decode (s .args .block .now)) (delegation s ∷ []) in
     c .overweight .ensures ∙ ap (λ (n : ℕ). orElse n last) (before-reach (c .before)) ∙ sym (firstOf-append (tests s) (last ∷ []) tt)
 
@@ -63,8 +57,7 @@ pub grant-held-spec : {M : Type 1} → statement M
 grant-held-spec =
     tie.close
     (tie.spec
-    not-enrolled-requires
-    not-enrolled-requires-2
+    pair-held-requires
     no-place-requires
     overweight-requires
     returns)
