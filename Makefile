@@ -30,7 +30,7 @@ archive := target/staticlib/libseatreg.a
 program := target/bin/seatcalls
 header := include/seatreg.h
 # The crates below both the archive and the program.
-below := text rules steptable block change regfile queue runs search reckoning rounds refusals order register transfer demands
+below := text rules steptable block change regfile queue runs search reckoning rounds refusals order register slips transfer demands
 sources = $(shell find $(addprefix crates/,$(1)) -name '*.rt' -o -name '*.antt')
 second := target/second/libsecond.rlib
 generate := target/second/libgenerate.rlib

@@ -2,7 +2,8 @@
 //! run: nanoseconds a call, and their ratio. A call that is lent a table's text
 //! is also measured beside the same call without it; an order beside the second
 //! implementation's by a search; a read of a register file, which judges support
-//! as a round does, beside a cut of one round.
+//! as a round does, beside a cut of one round; a cut with a slip and the taking back,
+//! which makes the cut again, beside the cut without one.
 
 #[path = "../tests/compare/contents.rs"]
 mod contents;
@@ -12,22 +13,28 @@ mod entry;
 mod lent;
 
 use contents::Asked;
-use entry::{entry_bring_over, entry_call, entry_call_table, entry_order, entry_read, entry_write, FileCall};
+use entry::{
+    entry_bring_over, entry_call, entry_call_table, entry_cut_slip, entry_order, entry_read, entry_take_back, entry_write,
+    FileCall,
+};
 use generate::{examples, register, retires, rounds, slow, Grant};
 use lent::Lent;
 use second::block::{encode, Delegation, Register, BLOCK_LEN, MOST_DELEGATIONS, RECORDS_AT, RETIRED_AT};
 use second::call::blank;
 use second::engine::FAST;
-use second::host::{host_bring_over, host_call, host_call_table, host_read, host_write};
+use second::host::{
+    host_bring_over, host_call, host_call_table, host_cut_slip, host_read, host_take_back, host_write,
+};
 use second::order::popped;
 use second::refusal::{admit, Call, Passed, NOT_WELL_FORMED, ORDER_BUFFER};
 use second::regfile::{file_text, LEAST_TEXT};
+use second::slip::{cut_slip, SLIP_LEN};
 use second::table::OURS;
 use std::time::Instant;
 
 /// A row: what is measured, the block, the call, what it returns, how many
 /// rounds it takes, the table's text that it is lent, and the register file, the
-/// buffer of an order or the old block.
+/// buffer of an order, the slip or the old block.
 struct Row {
     what: &'static str,
     block: Vec<u8>,
@@ -49,6 +56,11 @@ fn main() {
     for row in retire_rows() {
         measure(&row);
     }
+    let full = full_register();
+    let last = revoke_of(full.delegations.last().expect("256 delegations"));
+    measure_slips("full register", &encode(&full), last, 1);
+    measure_slips("8 subjects, weights 9 and 5", &encode(&eight()), passed(Call::Revoke, 0, 0, 7, 0), 2);
+    measure_slips("485 rounds", &deep_block(), rounds::FIRST_CUT, 485);
 }
 
 fn rows() -> Vec<Row> {
@@ -139,6 +151,11 @@ fn row(what: &'static str, block: &[u8], call: Passed, rounds: u32) -> Row {
 
 fn file_row(what: &'static str, call: FileCall, block: &[u8], file: Vec<u8>) -> Row {
     Row { what, block: block.to_vec(), asked: Asked::File(call), refusal: 0, rounds: 0, text: None, file }
+}
+
+/// Lent an empty text, which stands for our table. The rounds are those of the cut that is made or made again.
+fn slip_row(what: &'static str, block: &[u8], asked: Asked, rounds: u32, slip: Vec<u8>) -> Row {
+    Row { what, block: block.to_vec(), asked, refusal: 0, rounds, text: None, file: slip }
 }
 
 /// The same with our table's text.
@@ -266,7 +283,7 @@ const BATCH: usize = 32;
 /// What a batch of calls took, in nanoseconds a call, and what the first left.
 struct Batch {
     time: u64,
-    /// The block, the register file, the buffer of an order or the old block, and the answers.
+    /// The block, the register file, the buffer of an order, the slip or the old block, and the answers.
     left: [Vec<u8>; 3],
 }
 
@@ -280,6 +297,8 @@ fn archive_batch(row: &Row, size: usize, text: Option<&[u8]>) -> Batch {
         let refusal = match row.asked {
             Asked::Call(n) if text.is_some() => entry_call_table(&n, block, &mut table, &mut answers),
             Asked::Call(n) => entry_call(&n, block, &mut answers),
+            Asked::CutSlip(n) => entry_cut_slip(&n, block, &mut table, &mut file, &mut answers),
+            Asked::TakeBack(by) => entry_take_back(by, block, &mut table, &mut file, &mut answers),
             Asked::Order(receiver) => entry_order(receiver, block, &mut table, &mut file, &mut answers),
             Asked::File(FileCall::Write) => entry_write(block, &mut file, &mut answers),
             Asked::File(FileCall::Read) => entry_read(block, &mut file, &mut table, &mut answers),
@@ -299,6 +318,8 @@ fn second_batch(row: &Row, size: usize) -> Batch {
     for block in &mut blocks {
         let refusal = match row.asked {
             Asked::Call(n) => host_call_table(&FAST, &n, text, block, &mut answers),
+            Asked::CutSlip(n) => host_cut_slip(&FAST, &n, text, block, &mut file, &mut answers),
+            Asked::TakeBack(by) => host_take_back(&FAST, block, by, text, &file, &mut answers),
             Asked::Order(receiver) => popped_order(receiver, block, text, &mut file, &mut answers),
             Asked::File(FileCall::Write) => host_write(block, &mut file, &mut answers),
             Asked::File(FileCall::Read) => host_read(&FAST, block, &file, text, &mut answers),
@@ -335,7 +356,7 @@ fn measure(row: &Row) -> u64 {
     for _ in 0..repeats {
         let (one, other) = (archive_batch(row, size, row.text.as_deref()), second_batch(row, size));
         assert_eq!(one.left, other.left);
-        assert!(row.rounds == 0 || one.left[2][8..] == row.rounds.to_le_bytes());
+        assert!(!answers_rounds(row) || one.left[2][8..] == row.rounds.to_le_bytes());
         ours.push(one.time);
         theirs.push(other.time);
         if row.text.is_some() {
@@ -350,6 +371,23 @@ fn measure(row: &Row) -> u64 {
         print_difference(time, median(without));
     }
     time
+}
+
+/// Whether the third answer is the rounds.
+fn answers_rounds(row: &Row) -> bool {
+    row.rounds > 0 && !matches!(row.asked, Asked::TakeBack(_))
+}
+
+/// A revocation, the same with a slip, and the taking back of it, each beside the first.
+fn measure_slips(what: &str, block: &[u8], cut: Passed, rounds: u32) {
+    let (mut after, mut slip) = (block.to_vec(), vec![0; SLIP_LEN]);
+    assert_eq!(cut_slip(&FAST, &cut, b"", &mut after, &mut slip).refusal, 0);
+    println!("slips, {what}");
+    let plain = measure(&row("  revoke", block, cut, rounds));
+    let with = measure(&slip_row("  revoke with a slip", block, Asked::CutSlip(cut), rounds, vec![0; SLIP_LEN]));
+    let back = measure(&slip_row("  take back", &after, Asked::TakeBack(cut.by), rounds, slip));
+    println!("{:<44} {:>33.2}", "  with a slip, ratio to without", with as f64 / plain as f64);
+    println!("{:<44} {:>33.2}", "  take back, ratio to the cut", back as f64 / plain as f64);
 }
 
 /// The register's file written and read, and beside it a cut of one round on the

@@ -1,8 +1,8 @@
 /* A host of the seat register: a maker passes a right to two distributors, both pass it to a dealer,
- * the dealer to a firm. Then one distributor is cut off, and the dealer keeps what the other gives.
- * After each cut the host says which delegations fell or were lowered. Then the dealer is raised, his
- * certificate lapses and is renewed, the other distributor leaves, and at last the register goes to
- * another machine, as text. */
+ * the dealer to a firm. Then the wrong distributor is cut off, which is taken back, and then the right one,
+ * and the dealer keeps what the other gives. After each cut the host says which delegations fell or were
+ * lowered. Then the dealer is raised, his certificate lapses and is renewed, the other distributor leaves, and
+ * at last the register goes to another machine, as text. */
 #include <inttypes.h>
 #include <stdio.h>
 #include <stdlib.h>
@@ -17,6 +17,7 @@ enum { MAKER = SEATREG_OWNER, NORTH, SOUTH, DEALER, FIRM, VISITOR };
 
 static uint8_t block[SEATREG_BLOCK_SIZE];     /* the register */
 static uint8_t before[SEATREG_BLOCK_SIZE];    /* the register before a cut, a change of marks or a retirement */
+static uint8_t slip[SEATREG_SLIP_SIZE];       /* of the last cut that wrote one; kept as safely as the register */
 static uint8_t answers[SEATREG_ANSWERS_SIZE]; /* of the last call that was accepted */
 static uint8_t text[SEATREG_TEXT_SIZE];       /* the register as text, a register file */
 static uint8_t other[SEATREG_BLOCK_SIZE];     /* the register on the other machine */
@@ -91,6 +92,35 @@ static void print_fallen(void)
         else if (weight < (int)d.weight)
             printf("  %" PRIu32 "-%" PRIu32 " lowered from %" PRIu32 " to %d\n", d.giver, d.receiver, d.weight, weight);
     }
+}
+
+/* Hands the slip in. */
+static void take_back(uint32_t by, uint32_t expected)
+{
+    uint32_t r = seatreg_take_back(block, sizeof block, by, OUR_TABLE, slip, sizeof slip, answers, sizeof answers);
+
+    check("take back", r, expected);
+    if (r == SEATREG_ACCEPTED)
+        printf("take back by %" PRIu32 "\n", by);
+    else
+        printf("take back by %" PRIu32 ": refused with %" PRIu32 "\n", by, r);
+}
+
+/* What the maker gave SOUTH is revoked, the wrong line. Before anything else changes the register, the slip
+ * of this cut takes it back. The dealer may not hand it in; and handed in again, it is refused. */
+static void wrong_line(void)
+{
+    uint32_t r = seatreg_revoke_slip(block, sizeof block, MAKER, MAKER, SOUTH, OUR_TABLE,
+                                     slip, sizeof slip, answers, sizeof answers);
+
+    check("revoke", r, SEATREG_ACCEPTED);
+    printf("revoke %d-%d, the wrong line\n", MAKER, SOUTH);
+    memcpy(before, slip, sizeof before); /* a slip begins with the block before the cut */
+    print_fallen();
+    take_back(DEALER, SEATREG_MAY_NOT);
+    take_back(MAKER, SEATREG_ACCEPTED);
+    check("memcmp", memcmp(before, block, sizeof block) != 0, 0);
+    take_back(MAKER, SEATREG_OTHER_SLIP);
 }
 
 /* What the maker gave NORTH is revoked; then what SOUTH gave the dealer is lowered to use alone. */
@@ -240,6 +270,7 @@ int main(void)
     r = seatreg_grant(block, sizeof block, DEALER, VISITOR, SEATREG_UNLIMITED, 0, 0, answers, sizeof answers);
     check("grant", r, SEATREG_OVERWEIGHT);
     printf("grant %d-%d weight %d: refused with %" PRIu32 "\n", DEALER, VISITOR, SEATREG_UNLIMITED, r);
+    wrong_line();
     cut();
 
     /* A raise: the pair and the condition that stand, and more weight. Nothing else changes, so what

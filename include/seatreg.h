@@ -19,6 +19,32 @@
  * call clears a retirement, and the number is never given to another subject. Only open, read and
  * bring_over, which put another register into the block, leave those retired whom that register has.
  *
+ * SLIPS take a cut back. seatreg_revoke_slip and seatreg_downgrade_slip do what the cuts without a slip do,
+ * and write a slip; seatreg_take_back is handed it and puts the block back as it was before the cut, byte for
+ * byte. No other call writes one.
+ *   - A slip is 4,381 bytes that the host owns: the whole block before the cut (2,188 bytes), five bytes that
+ *     say which cut it was (2 for a revocation or 3 for a downgrade, by, giver, receiver, the new weight or 0
+ *     for a revocation), and the whole block after it (2,188 bytes). Like a block it may be copied, saved and
+ *     loaded as it is. seatreg_slip_cut reads the five bytes.
+ *   - It is good only while the register is just what the cut left, and under the table of the cut. After any
+ *     other change it gets 20 from who may hand it in, until the register is again what it was then; so does a
+ *     slip that was handed in already, and one under another table by which that cut leaves something else. So
+ *     hand it in before the next call that changes the register, and lend the same table. Cuts are taken back
+ *     the last one first.
+ *   - Who may: the owner, and the giver on the slip, also where the owner made the cut. Another caller gets 14.
+ *   - Whoever has lost the slip can't take the cut back; a copy of the block from before does the same.
+ *   - KEEP SLIPS WHERE THE BLOCK IS KEPT, AND TAKE NONE FROM A SUBJECT. A slip has no signature: the call looks
+ *     whether the cut on it leads from the block before to the register, and not whether such a cut was ever
+ *     made. So an enrolled subject that isn't retired and gets to write a slip, with or without the right, names
+ *     itself as the giver of a delegation that never stood and that the slip revokes, hands it in, and the
+ *     delegation stands. Such a slip can add delegations and make standing ones heavier, supported or not: for
+ *     instance any that the rounds of its cut would drop again. It can do nothing else: subjects, marks and who
+ *     is retired stay, and every delegation that stands stays, at least as heavy. So a slip is worth as much as
+ *     the block.
+ *   - What is restored can be unsupported: after a slip that a cut wrote, where it was so before the cut. The
+ *     next cut, set_marks or retire settles it. Until then every slip gets 20 under that table: what a cut
+ *     leaves is supported.
+ *
  * WHAT A CALL RETURNS. Every call returns a refusal number, 0 when it is accepted.
  *   - Refused: no byte changes, neither of the block nor of the answers nor of any other buffer.
  *   - Accepted: the three answers are written, 12 bytes, each answer signed, four bytes, low byte
@@ -30,7 +56,8 @@
  *
  * THE STEP TABLE has a next for each weight: what a limit falls to at one step, -1 where nothing may
  * follow. In ours 0 gives -1, each other weight one less, and 255 keeps 255. The calls whose names end
- * in _table, set_marks, retire, order and read are lent one as text; all others that need a table use ours.
+ * in _table or _slip, set_marks, retire, take_back, order and read are lent one as text; all others that need
+ * a table use ours.
  *   - Its form: the line "weight next", then a line of a weight and its next for each of the weights 0
  *     to 255, in order. Numbers are decimal and at most 4,294,967,295, one space between, no leading
  *     zero, no sign but that of -1, which only a next may be. Every line ends with byte 10, the last
@@ -81,25 +108,28 @@
  *   - Each pointer is valid for the length passed with it until the call returns: `answers` for
  *     reading and writing, `block` too, but for reach, use, order and write, which only read it, `table`
  *     and `old` for reading, `out` for reading and writing, `text` for reading and writing in write and
- *     for reading in read. No alignment is needed.
+ *     for reading in read, `slip` for reading and writing in the cuts and for reading in take_back. No
+ *     alignment is needed.
  *   - The buffers of one call, two to four, lie apart: they share no byte. So a text isn't read into
- *     bytes in which it lies itself, nor an old block brought over into its own bytes.
+ *     bytes in which it lies itself, nor an old block brought over into its own bytes, and the register is
+ *     not one of the two blocks in the slip.
  *   - No pointer is null, not even with a length of 0. With a length of 0 it need not point to
- *     anything: nothing is read or written through it. For a block, old, answers or out of length 0 the
- *     call returns 1; a table's text may have length 0, and for a register file of length 0 it returns 7.
+ *     anything: nothing is read or written through it. For a block, old, answers, out or slip of length 0
+ *     the call returns 1; a table's text may have length 0, and for a register file of length 0 it returns 7.
  *   - While a call runs, no other thread writes the bytes lent to it, nor reads bytes that it may
  *     write: no two calls at the same time on one block, with one answers buffer, or writing into one
- *     buffer of an order or for text. Reach, use, order and write only read the block, so several of
- *     these may run on one block, each with buffers of its own. One table's text may be lent to any
- *     number of calls, and so may one register file to reads and one old block to bring_overs.
+ *     buffer of an order or for text, or one slip. Reach, use, order and write only read the block, so
+ *     several of these may run on one block, each with buffers of its own. One table's text may be lent to
+ *     any number of calls, and so may one register file to reads, one old block to bring_overs, and one slip
+ *     to take_backs on different blocks.
  *   - The thread that calls has enough stack: a call needs at most 32 KiB of stack on x86-64. This
  *     is measured; the proofs know of no stack.
  *
  * WHAT THE REGISTER CAN'T KNOW. Who is calling: that a request really comes from the subject passed
- * as `by`, or as the giver of a grant, is the host's to establish. Who wrote the block or the file:
- * bytes that were changed and are still well formed are taken as they are, and so is a file that was
- * changed and is still a supported register's. One register is one block: of two copies that have gone
- * different ways, neither is aware of the other.
+ * as `by`, or as the giver of a grant, is the host's to establish. Who wrote the block, the file or
+ * the slip: bytes that were changed and are still well formed are taken as they are, and so is a file that was
+ * changed and is still a supported register's, and a slip that no cut wrote and that fits. One register is one
+ * block: of two copies that have gone different ways, neither is aware of the other.
  */
 #ifndef SEATREG_H
 #define SEATREG_H
@@ -110,8 +140,8 @@
 /* The version of this header and of the archive that comes with it, as text and as a number: 10,000
  * times the first part, plus 100 times the second, plus the third. README.md, 'Versions', says which
  * changes raise which part. */
-#define SEATREG_VERSION "2.0.0"
-#define SEATREG_VERSION_NUMBER 20000
+#define SEATREG_VERSION "2.1.0"
+#define SEATREG_VERSION_NUMBER 20100
 
 /* Where the compiler has such attributes, it warns of a host that doesn't look at what a call
  * returns, and of a pointer that it can see to be null. */
@@ -125,10 +155,11 @@
 extern "C" {
 #endif
 
-/* Lengths of the block, the answers and the buffer of an order: pass these and nothing else. */
+/* Lengths of the block, the answers, the buffer of an order and a slip: pass these and nothing else. */
 #define SEATREG_BLOCK_SIZE 2188
 #define SEATREG_ANSWERS_SIZE 12
 #define SEATREG_ORDER_SIZE 128
+#define SEATREG_SLIP_SIZE 4381
 
 /* The length of a block that was stored before version 2.0.0; only seatreg_bring_over takes one. */
 #define SEATREG_OLD_BLOCK_SIZE 2180
@@ -150,6 +181,10 @@ extern "C" {
 
 /* What reach answers where there is no chain. */
 #define SEATREG_NO_REACH (-1)
+
+/* Which cut a slip is of. */
+#define SEATREG_SLIP_REVOKE 2
+#define SEATREG_SLIP_DOWNGRADE 3
 
 /* What a call returns; seatreg_refusal_text says each in words. They are listed in the order in which
  * they apply. 7 is also for the lines of a call file. */
@@ -173,18 +208,19 @@ enum seatreg_refusal {
     SEATREG_ALL_STAND = 12,
     SEATREG_NO_PAIR = 13,
     SEATREG_MAY_NOT = 14,
+    SEATREG_OTHER_SLIP = 20,
     SEATREG_NOT_BELOW = 15,
     SEATREG_OVERWEIGHT = 16,
     /* by what a register file holds */
     SEATREG_UNSUPPORTED = 18
 };
 
-/* A short text for what a call returned, never null; for a number above 19, "no such refusal". */
+/* A short text for what a call returned, never null; for a number above 20, "no such refusal". */
 static inline const char *seatreg_refusal_text(uint32_t refusal)
 {
     static const char *const texts[] = {
         "accepted",
-        "the block is not 2,188 bytes, an old block not of the old length, the answers not 12, the buffer of an order not 128, or the buffer for text under 8,192",
+        "the block is not 2,188 bytes, an old block not of the old length, the answers not 12, the buffer of an order not 128, a slip not 4,381, or the buffer for text under 8,192",
         "a subject number is above 63",
         "the weight is above 255",
         "marks, need or bar above 65,535, or need and bar share a mark",
@@ -197,12 +233,13 @@ static inline const char *seatreg_refusal_text(uint32_t refusal)
         "a delegation for this pair stands, and this is no raise",
         "256 delegations stand and the pair is not among them",
         "no delegation for this pair stands",
-        "by is neither the giver nor the owner, or, where only the owner may, by is not the owner",
+        "by is neither the giver, of a slip the giver on it, nor the owner, or, where only the owner may, by is not the owner",
         "the new weight isn't below the present one",
         "no chain from the owner carries the weight",
         "an entry of the step table breaks a rule",
         "a delegation of a register file is unsupported",
-        "a named subject, by included, is retired"
+        "a named subject, by included, is retired",
+        "the slip is not that of a cut which leaves this register under this table"
     };
     return refusal < sizeof texts / sizeof texts[0] ? texts[refusal] : "no such refusal";
 }
@@ -368,6 +405,55 @@ SEATREG_CALL uint32_t seatreg_retire(uint8_t *block, size_t block_len,
                                      const uint8_t *table, size_t table_len,
                                      uint8_t *answers, size_t answers_len);
 
+/* Revoke with a slip, a cut: does what seatreg_revoke_table does, and writes the slip that takes it back, as
+ * SLIPS says.
+ *   by, giver, receiver: as for seatreg_revoke.
+ *   table: as for the calls above: the text of the table that is lent with every other call on the
+ *     register, or table_len 0 for ours.
+ *   slip: the buffer, 4,381 bytes (SEATREG_SLIP_SIZE), neither fewer nor more, of any content.
+ *   Refusals in order: 1, 2, 5, 6, 7, 17, 8, 9, 19, 13, 14.
+ *   Answers: dropped, lowered, rounds, as for seatreg_revoke_table.
+ *   Slip: all 4,381 bytes are written where the call is accepted, and stay where it is refused.
+ *   Block: the best remainder under this table. */
+SEATREG_CALL uint32_t seatreg_revoke_slip(uint8_t *block, size_t block_len,
+                                          uint32_t by, uint32_t giver, uint32_t receiver,
+                                          const uint8_t *table, size_t table_len,
+                                          uint8_t *slip, size_t slip_len,
+                                          uint8_t *answers, size_t answers_len);
+
+/* Downgrade with a slip, a cut: does what seatreg_downgrade_table does, and writes the slip that takes it
+ * back, as SLIPS says.
+ *   by, giver, receiver, weight: as for seatreg_downgrade. table, slip: as for seatreg_revoke_slip.
+ *   Refusals in order: 1, 2, 3, 5, 6, 7, 17, 8, 9, 19, 13, 14, 15.
+ *   Answers: dropped, lowered, rounds, as for seatreg_downgrade_table.
+ *   Slip: all 4,381 bytes are written where the call is accepted, and stay where it is refused.
+ *   Block: the best remainder under this table. */
+SEATREG_CALL uint32_t seatreg_downgrade_slip(uint8_t *block, size_t block_len,
+                                             uint32_t by, uint32_t giver, uint32_t receiver, uint32_t weight,
+                                             const uint8_t *table, size_t table_len,
+                                             uint8_t *slip, size_t slip_len,
+                                             uint8_t *answers, size_t answers_len);
+
+/* Takes a cut back: puts the block before the cut, which the slip holds, in the place of the register. SLIPS
+ * says how long a slip is good, and why none is taken from a subject.
+ *   by: who asks; the owner and the giver on the slip may. It need not be who made the cut.
+ *   table: the text of the table that the cut was made under, or table_len 0 for ours.
+ *   slip: 4,381 bytes (SEATREG_SLIP_SIZE), as the cut wrote them; only read.
+ *   Refusals in order: 1, 2, 7, 17, 8, 9, 19, 14, 20.
+ *     2, 9 and 19 are for by alone, and 8 for the block alone: the subjects on the slip and the blocks in it
+ *     get 20 where something is wrong with them. 14 looks at the giver on the slip, whatever else it holds.
+ *     20 is for every slip but one whose block after is the register, byte for byte, and whose cut, made
+ *     again on its block before by the by on the slip and under this table, is accepted and writes these same
+ *     4,381 bytes. Directly after a cut, the slip that it wrote is always accepted from who made the cut, under
+ *     the same table.
+ *   Answers: 0, 0, 0.
+ *   Block: the block before, byte for byte. Nothing is lowered or dropped in it. */
+SEATREG_CALL uint32_t seatreg_take_back(uint8_t *block, size_t block_len,
+                                        uint32_t by,
+                                        const uint8_t *table, size_t table_len,
+                                        const uint8_t *slip, size_t slip_len,
+                                        uint8_t *answers, size_t answers_len);
+
 /* Order: from whom the right can come to one receiver, and how far, the heaviest giver first. It writes
  * precisely the subjects whose reach for this receiver isn't -1, each with that reach, its limit.
  *   receiver: any enrolled subject but the owner and those retired.
@@ -495,6 +581,29 @@ SEATREG_CALL static inline struct seatreg_delegation seatreg_delegation_at(const
     d.need = (uint32_t)record[4] | (uint32_t)record[5] << 8;
     d.bar = (uint32_t)record[6] | (uint32_t)record[7] << 8;
     return d;
+}
+
+/* The cut on a slip. */
+struct seatreg_cut {
+    uint32_t kind;     /* SEATREG_SLIP_REVOKE or SEATREG_SLIP_DOWNGRADE */
+    uint32_t by;       /* who made it */
+    uint32_t giver;    /* this one and the owner may take it back */
+    uint32_t receiver;
+    uint32_t weight;   /* the new weight; 0 for a revocation */
+};
+
+/* Which cut a slip is of: for 4,381 bytes that a cut wrote; of others it gives what they hold. The block before
+ * is the slip's first 2,188 bytes, so the readers above list it when they are passed the slip itself. */
+SEATREG_CALL static inline struct seatreg_cut seatreg_slip_cut(const uint8_t *slip)
+{
+    const uint8_t *five = slip + SEATREG_BLOCK_SIZE;
+    struct seatreg_cut cut;
+    cut.kind = five[0];
+    cut.by = five[1];
+    cut.giver = five[2];
+    cut.receiver = five[3];
+    cut.weight = five[4];
+    return cut;
 }
 
 #ifdef __cplusplus

@@ -4,7 +4,10 @@
 use crate::contents::{Asked, Contents};
 use crate::draw::{answers_length, block_length, Drawn};
 use crate::olds::old_layout;
-use crate::entry::{entry_bring_over, entry_call, entry_call_table, entry_order, entry_read, entry_write, FileCall};
+use crate::entry::{
+    entry_bring_over, entry_call, entry_call_table, entry_cut_slip, entry_order, entry_read, entry_take_back, entry_write,
+    FileCall,
+};
 use crate::fault::Fault;
 use crate::lent::Lent;
 use crate::readers::{due, read, Listed};
@@ -18,7 +21,7 @@ use second::random::Random;
 /// The buffers lent to the entry points; a buffer that an entry point doesn't take is empty and not lent.
 pub struct Buffers {
     pub block: Lent,
-    /// The register file of a read, the buffer that a write or an order writes into, or the old block.
+    /// The register file of a read, the buffer that a write or an order writes into, the slip, or the old block.
     pub file: Lent,
     /// The table's text.
     pub table: Lent,
@@ -53,7 +56,7 @@ impl Buffers {
         };
         let back = self.back(random, &asked, &text, due, &left, fault);
         (fault.after)(number, self);
-        let listed_right = number != 0 || due != 0 || self.listed_right(fault.listed);
+        let listed_right = number != 0 || due != 0 || self.listed_right(&asked, fault.listed);
 
         let same = |part: &Part| match part {
             Part::Number => number == due,
@@ -96,6 +99,12 @@ impl Buffers {
                 entry_call_table(&(fault.before)(n), &mut self.block, &mut self.table, &mut self.answers)
             }
             Asked::Call(n) => entry_call(&(fault.before)(n), &mut self.block, &mut self.answers),
+            Asked::CutSlip(n) => {
+                entry_cut_slip(n, &mut self.block, &mut self.table, &mut self.file, &mut self.answers)
+            }
+            Asked::TakeBack(by) => {
+                entry_take_back(*by, &mut self.block, &mut self.table, &mut self.file, &mut self.answers)
+            }
             Asked::Order(receiver) => {
                 entry_order(*receiver, &mut self.block, &mut self.table, &mut self.file, &mut self.answers)
             }
@@ -115,6 +124,8 @@ impl Buffers {
         }
         let (number, left) = match asked {
             Asked::Call(n) => fault.call(n.call)?(lent, n),
+            Asked::CutSlip(n) => fault.cut_slip?(lent, n),
+            Asked::TakeBack(by) => fault.take_back?(lent, *by),
             Asked::Order(receiver) => fault.order?(lent, *receiver),
             Asked::File(FileCall::Write) => fault.write?(lent),
             Asked::File(FileCall::Read) => fault.read?(lent),
@@ -148,11 +159,12 @@ impl Buffers {
     }
 
     /// After an accepted call the readers list what the second implementation decodes.
-    fn listed_right(&self, change: fn(&mut Listed)) -> bool {
+    fn listed_right(&self, asked: &Asked, change: fn(&mut Listed)) -> bool {
         let (block, answers) = (self.block.content(), self.answers.content());
-        let mut listed = read(block, answers);
+        let slip = matches!(asked, Asked::CutSlip(_) | Asked::TakeBack(_)).then(|| self.file.content());
+        let mut listed = read(block, answers, slip);
         change(&mut listed);
-        due(block, answers) == Some(listed)
+        due(block, answers, slip) == Some(listed)
     }
 }
 

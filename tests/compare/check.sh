@@ -23,7 +23,7 @@ alone() {
     nm "$archive" >"$out/symbols" &&
         sed -nE 's/^SEATREG_CALL uint32_t (seatreg_[a-z_]+)\(.*/\1/p' include/seatreg.h | sort >"$out/functions" &&
         sed -nE 's/.* T (seatreg_.*)/\1/p' "$out/symbols" | sort | diff "$out/functions" - &&
-        test "$(wc -l <"$out/functions")" -eq 17 &&
+        test "$(wc -l <"$out/functions")" -eq 20 &&
         ! grep -E ' [bBdDsSgGcC] ' "$out/symbols" &&
         ! grep ' U ' "$out/symbols" | grep -vwE 'memcpy|memset'
 }
@@ -71,9 +71,9 @@ texts() {
 #include "seatreg.h"
 int main(void)
 {
-    for (uint32_t n = 0; n <= SEATREG_RETIRED; n++)
+    for (uint32_t n = 0; n <= SEATREG_OTHER_SLIP; n++)
         printf("%u %s\n", (unsigned)n, seatreg_refusal_text(n));
-    return strcmp(seatreg_refusal_text(SEATREG_RETIRED + 1), "no such refusal") != 0 ||
+    return strcmp(seatreg_refusal_text(SEATREG_OTHER_SLIP + 1), "no such refusal") != 0 ||
            strcmp(seatreg_refusal_text(UINT32_MAX), "no such refusal") != 0;
 }
 END
@@ -94,7 +94,7 @@ user() {
 extern uint32_t USER(uint8_t *block, uint8_t *answers);
 uint32_t USER(uint8_t *block, uint8_t *answers)
 {
-    static uint8_t order[SEATREG_ORDER_SIZE], text[SEATREG_TEXT_SIZE], old[SEATREG_OLD_BLOCK_SIZE];
+    static uint8_t order[SEATREG_ORDER_SIZE], text[SEATREG_TEXT_SIZE], old[SEATREG_OLD_BLOCK_SIZE], slip[SEATREG_SLIP_SIZE];
     uint32_t sum = seatreg_open(block, SEATREG_BLOCK_SIZE, answers, SEATREG_ANSWERS_SIZE);
     sum += seatreg_enrol(block, SEATREG_BLOCK_SIZE, 1, answers, SEATREG_ANSWERS_SIZE);
     sum += seatreg_grant(block, SEATREG_BLOCK_SIZE, SEATREG_OWNER, 1, 9, 1, 2, answers, SEATREG_ANSWERS_SIZE);
@@ -116,7 +116,18 @@ uint32_t USER(uint8_t *block, uint8_t *answers)
     sum += seatreg_order(block, SEATREG_BLOCK_SIZE, 1, NO_TEXT, order, sizeof order, answers, SEATREG_ANSWERS_SIZE);
     if (seatreg_answer(answers, 0) != 4 || order[0] != 0 || order[1] != 255 || order[2] != 1 || order[3] != 7)
         return 4;
+    sum += seatreg_downgrade_slip(block, SEATREG_BLOCK_SIZE, SEATREG_OWNER, SEATREG_OWNER, 1, 7, NO_TEXT, slip, sizeof slip, answers, SEATREG_ANSWERS_SIZE);
+    sum += seatreg_take_back(block, SEATREG_BLOCK_SIZE, SEATREG_OWNER, NO_TEXT, slip, sizeof slip, answers, SEATREG_ANSWERS_SIZE);
+    struct seatreg_cut cut = seatreg_slip_cut(slip);
+    if (cut.kind != SEATREG_SLIP_DOWNGRADE || cut.by != SEATREG_OWNER || cut.giver != SEATREG_OWNER || cut.receiver != 1 || cut.weight != 7)
+        return 8;
+    sum += seatreg_revoke_slip(block, SEATREG_BLOCK_SIZE, SEATREG_OWNER, SEATREG_OWNER, 1, NO_TEXT, slip, sizeof slip, answers, SEATREG_ANSWERS_SIZE);
+    if (seatreg_slip_cut(slip).kind != SEATREG_SLIP_REVOKE || seatreg_delegations(slip) != 1 || seatreg_delegation_at(slip, 0).weight != 8)
+        return 9;
+    sum += seatreg_take_back(block, SEATREG_BLOCK_SIZE, SEATREG_OWNER, NO_TEXT, slip, sizeof slip, answers, SEATREG_ANSWERS_SIZE);
     sum += seatreg_revoke_table(block, SEATREG_BLOCK_SIZE, SEATREG_OWNER, SEATREG_OWNER, 1, NO_TEXT, answers, SEATREG_ANSWERS_SIZE);
+    if (seatreg_take_back(block, SEATREG_BLOCK_SIZE, 1, NO_TEXT, slip, sizeof slip, answers, SEATREG_ANSWERS_SIZE) != SEATREG_MAY_NOT)
+        return 10;
     sum += seatreg_retire(block, SEATREG_BLOCK_SIZE, SEATREG_OWNER, 1, NO_TEXT, answers, SEATREG_ANSWERS_SIZE);
     if (seatreg_is_retired(block, 0) != 0 || seatreg_is_retired(block, 1) != 1 || seatreg_marks(block, 1) != 0)
         return 5;
@@ -183,6 +194,9 @@ uint32_t null(uint8_t *block, uint8_t *answers)
            seatreg_reach_table(block, SEATREG_BLOCK_SIZE, 0, 1, 0, 0, answers, SEATREG_ANSWERS_SIZE) +
            seatreg_set_marks(block, SEATREG_BLOCK_SIZE, 0, 1, 0, 0, 0, answers, SEATREG_ANSWERS_SIZE) +
            seatreg_retire(block, SEATREG_BLOCK_SIZE, 0, 1, 0, 0, answers, SEATREG_ANSWERS_SIZE) +
+           seatreg_revoke_slip(block, SEATREG_BLOCK_SIZE, 0, 0, 1, 0, 0, 0, 0, answers, SEATREG_ANSWERS_SIZE) +
+           seatreg_downgrade_slip(block, SEATREG_BLOCK_SIZE, 0, 0, 1, 0, 0, 0, 0, 0, answers, SEATREG_ANSWERS_SIZE) +
+           seatreg_take_back(block, SEATREG_BLOCK_SIZE, 0, 0, 0, 0, 0, answers, SEATREG_ANSWERS_SIZE) +
            seatreg_order(block, SEATREG_BLOCK_SIZE, 1, 0, 0, 0, 0, answers, SEATREG_ANSWERS_SIZE) +
            seatreg_write(block, SEATREG_BLOCK_SIZE, 0, 0, answers, SEATREG_ANSWERS_SIZE) +
            seatreg_read(block, SEATREG_BLOCK_SIZE, 0, 0, 0, 0, answers, SEATREG_ANSWERS_SIZE) +
@@ -192,7 +206,7 @@ END
         ! gcc -std=c99 "${strict[@]}" -Iinclude -c "$out/ignored.c" -o "$out/ignored.o" 2>"$out/ignored" &&
         grep -q 'unused-result' "$out/ignored" &&
         ! gcc -std=c99 "${strict[@]}" -Iinclude -c "$out/null.c" -o "$out/null.o" 2>"$out/null" &&
-        test "$(grep -c 'Werror=nonnull' "$out/null")" -eq 10 &&
+        test "$(grep -c 'Werror=nonnull' "$out/null")" -eq 16 &&
         gcc -std=c99 -U__GNUC__ -Iinclude -E "$out/ignored.c" >"$out/plain" &&
         ! grep -E '__attribute__|SEATREG_CALL' "$out/plain" &&
         gcc -std=c99 -U__GNUC__ "${strict[@]}" -Iinclude -c "$out/ignored.c" -o "$out/ignored.o"

@@ -3,14 +3,16 @@
 
 use crate::entry::FileCall;
 use second::engine::FAST;
-use second::host::{host_bring_over, host_call_table, host_order, host_read, host_write};
+use second::host::{host_bring_over, host_call_table, host_cut_slip, host_order, host_read, host_take_back, host_write};
 use second::refusal::Passed;
 
-/// A call with its numbers, the order for a receiver, a call on a register file, or the bringing over of an
-/// old block.
+/// A call with its numbers, a cut that writes a slip, the taking back of one by a caller, the order for a
+/// receiver, a call on a register file, or the bringing over of an old block.
 #[derive(Clone, Copy, Debug)]
 pub enum Asked {
     Call(Passed),
+    CutSlip(Passed),
+    TakeBack(u32),
     Order(u32),
     File(FileCall),
     BringOver,
@@ -20,7 +22,7 @@ pub enum Asked {
 #[derive(Clone)]
 pub struct Contents {
     pub block: Vec<u8>,
-    /// The register file of a read, the buffer that a write or an order writes into, or the old block.
+    /// The register file of a read, the buffer that a write or an order writes into, the slip, or the old block.
     pub file: Vec<u8>,
     /// The table's text.
     pub table: Vec<u8>,
@@ -32,6 +34,12 @@ impl Contents {
     pub fn call(&mut self, asked: &Asked) -> u32 {
         match asked {
             Asked::Call(n) => host_call_table(&FAST, n, &self.table, &mut self.block, &mut self.answers),
+            Asked::CutSlip(n) => {
+                host_cut_slip(&FAST, n, &self.table, &mut self.block, &mut self.file, &mut self.answers)
+            }
+            Asked::TakeBack(by) => {
+                host_take_back(&FAST, &mut self.block, *by, &self.table, &self.file, &mut self.answers)
+            }
             Asked::Order(receiver) => {
                 host_order(&FAST, &self.block, *receiver, &self.table, &mut self.file, &mut self.answers)
             }

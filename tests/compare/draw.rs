@@ -3,7 +3,9 @@
 use crate::contents::Asked;
 use crate::entry::FileCall;
 use crate::filetexts::{buffer, Files};
+use crate::handed::{slip_buffer, Handed, Slips};
 use crate::olds::Olds;
+use crate::report::Case;
 use crate::tables::{Tables, Text};
 use second::block::*;
 use second::call::{blank, retire_subject, run_table};
@@ -45,7 +47,7 @@ pub struct Drawn {
     pub asked: Asked,
     /// The table's text; for a write, that of the read which follows it.
     pub text: Text,
-    /// The register file of a read, the buffer of a write or of an order, the old block.
+    /// The register file of a read, the buffer of a write or of an order, the slip or its buffer, the old block.
     pub file: Vec<u8>,
 }
 
@@ -53,6 +55,10 @@ pub struct Drawn {
 #[derive(Clone, Copy)]
 enum What {
     Call(Call),
+    CutSlip(Call),
+    TakeBack,
+    /// A cut that wrote a slip, made again with a slip or without one.
+    Again,
     Order,
     File(FileCall),
     BringOver,
@@ -70,6 +76,8 @@ enum Mostly {
     Marks,
     /// Retirements, and calls that name a retired subject.
     Retires,
+    /// Cuts that write a slip, and slips handed in.
+    Slips,
     Orders,
     /// Calls on a register file.
     Files,
@@ -88,6 +96,7 @@ pub struct List {
     mostly: Mostly,
     conditions: u32,
     tables: Tables,
+    slips: Slips,
     /// The register of the last well-formed block.
     register: Register,
 }
@@ -96,18 +105,19 @@ impl List {
     pub fn draw(random: &mut Random) -> List {
         let conditions = random.pick(&[0, 20, 50, 80]);
         match random.below(100) {
-            0..=8 => List::fresh(random, conditions, (2, 8), (20, 90)),
-            9..=11 => List::fresh(random, conditions, (9, 30), (80, 250)),
-            12 => List { mostly: Mostly::Fills, ..List::fresh(random, conditions, (40, 66), (380, 480)) },
-            13..=22 => List { left: random.range(2, 10), ..List::on_register(random, conditions, Kind::Formed) },
-            23..=34 => List::on_marks(random),
-            35..=46 => List::on_retirements(random),
-            47..=54 => List::on_orders(random),
-            55..=63 => List::on_files(random),
-            64..=67 => List::on_olds(random),
-            68..=73 => List::on_raises(random),
-            74..=86 => List { left: random.range(2, 10), mostly: Mostly::Cuts, ..List::on_dense(random) },
-            87..=97 => List { left: random.range(10, 40), ..List::on_register(random, conditions, Kind::Spoiled) },
+            0..=7 => List::fresh(random, conditions, (2, 8), (20, 90)),
+            8 | 9 => List::fresh(random, conditions, (9, 30), (80, 250)),
+            10 => List { mostly: Mostly::Fills, ..List::fresh(random, conditions, (40, 66), (380, 480)) },
+            11..=18 => List { left: random.range(2, 10), ..List::on_register(random, conditions, Kind::Formed) },
+            19..=29 => List::on_marks(random),
+            30..=40 => List::on_retirements(random),
+            41..=48 => List::on_slips(random),
+            49..=57 => List::on_orders(random),
+            58..=65 => List::on_files(random),
+            66..=69 => List::on_olds(random),
+            70..=76 => List::on_raises(random),
+            77..=87 => List { left: random.range(2, 10), mostly: Mostly::Cuts, ..List::on_dense(random) },
+            88..=97 => List { left: random.range(10, 40), ..List::on_register(random, conditions, Kind::Spoiled) },
             _ => List { kind: Kind::Noise, opens: false, ..List::fresh(random, conditions, (0, 0), (5, 20)) },
         }
     }
@@ -128,9 +138,9 @@ impl List {
         let (left, conditions) = (random.range(12, 30), random.pick(&[20, 50, 80]));
         let kind = any_kind(random);
         let list = match random.below(20) {
-            0 => List::on_full(random, conditions),
-            1..=3 => List::on_dense(random),
-            4..=14 => List::on_granted(random, kind),
+            0 | 1 => List::on_full(random, conditions),
+            2..=4 => List::on_dense(random),
+            5..=15 => List::on_granted(random, kind),
             _ => List::on_register(random, conditions, kind),
         };
         List { left, mostly: Mostly::Marks, ..list }
@@ -151,6 +161,20 @@ impl List {
         List { left, mostly: Mostly::Retires, ..list }
     }
 
+    /// Most calls are cuts that write a slip, or hand one in, on blocks of any content, in many of which all is
+    /// supported.
+    pub fn on_slips(random: &mut Random) -> List {
+        let (left, conditions) = (random.range(14, 36), random.pick(&[0, 20, 50, 80]));
+        let kind = random.pick(&[Kind::Formed, Kind::Formed, Kind::Formed, Kind::Formed, Kind::Spoiled, Kind::Noise]);
+        let list = match random.below(20) {
+            0..=4 => List::on_full(random, conditions),
+            5 | 6 => List::on_dense(random),
+            7..=13 => List::on_granted(random, kind),
+            _ => List::on_register(random, conditions, kind),
+        };
+        List { left, mostly: Mostly::Slips, ..list }
+    }
+
     /// Most calls bring over an old block, into blocks of any content.
     pub fn on_olds(random: &mut Random) -> List {
         let (left, conditions) = (random.range(10, 30), random.pick(&[0, 20, 50, 80]));
@@ -163,8 +187,8 @@ impl List {
         let (left, conditions) = (random.range(8, 24), random.pick(&[0, 0, 20, 50, 80]));
         let kind = any_kind(random);
         let list = match random.below(20) {
-            0 | 1 => List::on_full(random, conditions),
-            2..=10 => List::on_unlimited(random, conditions, kind),
+            0..=2 => List::on_full(random, conditions),
+            3..=11 => List::on_unlimited(random, conditions, kind),
             _ => List::on_register(random, conditions, kind),
         };
         List { left, mostly: Mostly::Orders, ..list }
@@ -187,6 +211,7 @@ impl List {
             mostly: Mostly::Any,
             conditions,
             tables: Tables::draw(random),
+            slips: Slips::none(),
             register: Register::fresh(),
         }
     }
@@ -279,6 +304,12 @@ impl List {
         }
         Some(match self.what(random) {
             What::Call(call) => self.call(random, call),
+            What::CutSlip(call) => self.cut_slip(random, call),
+            What::TakeBack => {
+                let Handed { by, text, slip } = self.slips.next(random, &self.register, &self.tables);
+                Drawn { asked: Asked::TakeBack(by), text, file: slip }
+            }
+            What::Again => self.again(random),
             What::Order => self.order(random),
             What::File(FileCall::Write) => {
                 let (text, file) = (self.tables.usual(random).lent(), buffer(random));
@@ -310,6 +341,28 @@ impl List {
         Drawn { asked: Asked::Call(self.odd(random, &n)), text, file: Vec::new() }
     }
 
+    /// Keeps the slip that a cut wrote.
+    pub fn keep(&mut self, case: &Case) {
+        if matches!(case.asked, Asked::CutSlip(_)) && case.due == 0 {
+            self.slips.keep(&case.left.file, &case.text);
+        }
+    }
+
+    fn cut_slip(&self, random: &mut Random, call: Call) -> Drawn {
+        let text = self.tables.next(random).lent();
+        let n = plausible(random, call, &self.register, self.conditions, &text.table);
+        Drawn { asked: Asked::CutSlip(self.odd(random, &n)), text, file: slip_buffer(random) }
+    }
+
+    /// A cut with a slip where none is kept.
+    fn again(&self, random: &mut Random) -> Drawn {
+        match self.slips.again(random) {
+            Some((n, text)) if random.chance(50) => Drawn { asked: Asked::Call(n), text, file: Vec::new() },
+            Some((n, text)) => Drawn { asked: Asked::CutSlip(n), text, file: slip_buffer(random) },
+            None => self.cut_slip(random, Call::Revoke),
+        }
+    }
+
     /// For a receiver that is likely to be enrolled.
     fn order(&self, random: &mut Random) -> Drawn {
         let text = self.tables.next(random).lent();
@@ -319,10 +372,14 @@ impl List {
 
     /// The call, rarely with an odd number, or with the number of a retired subject.
     fn odd(&self, random: &mut Random, n: &Passed) -> Passed {
-        let of_100 = if self.mostly == Mostly::Retires { 30 } else { 5 };
+        let (odd, retired) = match self.mostly {
+            Mostly::Retires => (8, 30),
+            Mostly::Slips => (18, 5),
+            _ => (10, 5),
+        };
         match random.below(100) {
-            0..=7 => with_odd_number(random, n),
-            at if at < 8 + of_100 => with_retired_number(random, n, &self.register),
+            at if at < odd => with_odd_number(random, n),
+            at if at < odd + retired => with_retired_number(random, n, &self.register),
             _ => *n,
         }
     }
@@ -349,6 +406,9 @@ impl List {
             (Mostly::Marks, 60, 4, What::Call(Call::SetMarks)),
             (Mostly::Retires, 45, 2, What::Call(Call::Retire)),
             (Mostly::Retires, 8, 0, What::Call(Call::Enrol)),
+            (Mostly::Slips, if self.slips.is_empty() { 15 } else { 55 }, 0, What::TakeBack),
+            (Mostly::Slips, 15, 0, What::Again),
+            (Mostly::Slips, 80, 1, What::CutSlip(cut)),
             (Mostly::Orders, 80, 2, What::Order),
             (Mostly::Files, 80, 10, What::File(file)),
             (Mostly::Olds, 80, 1, What::BringOver),
@@ -670,13 +730,18 @@ fn with_odd_number(random: &mut Random, n: &Passed) -> Passed {
     }
     let mut values = values_of(n);
     let value = &mut values[1 + random.pick(&places)];
-    *value = match random.below(4) {
+    *value = odd_value(random, *value);
+    from_values(values).unwrap_or(*n)
+}
+
+/// Some other number in the place of this one.
+pub fn odd_value(random: &mut Random, value: u32) -> u32 {
+    match random.below(4) {
         0 => random.next() as u32,
         1 => random.pick(&EDGES),
         2 => value.wrapping_add(random.pick(&[256, 65_536, 0x8000_0000, 0xFFFF_FF00])),
         _ => random.below(70),
-    };
-    from_values(values).unwrap_or(*n)
+    }
 }
 
 /// The call with a retired subject, if there is one, in one of the places of subjects that it uses; sometimes

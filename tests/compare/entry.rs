@@ -51,6 +51,18 @@ extern "C" {
         block: *mut u8, block_len: usize, by: u32, subject: u32,
         table: *const u8, table_len: usize, answers: *mut u8, answers_len: usize,
     ) -> u32;
+    fn seatreg_revoke_slip(
+        block: *mut u8, block_len: usize, by: u32, giver: u32, receiver: u32, table: *const u8, table_len: usize,
+        slip: *mut u8, slip_len: usize, answers: *mut u8, answers_len: usize,
+    ) -> u32;
+    fn seatreg_downgrade_slip(
+        block: *mut u8, block_len: usize, by: u32, giver: u32, receiver: u32, weight: u32,
+        table: *const u8, table_len: usize, slip: *mut u8, slip_len: usize, answers: *mut u8, answers_len: usize,
+    ) -> u32;
+    fn seatreg_take_back(
+        block: *mut u8, block_len: usize, by: u32, table: *const u8, table_len: usize,
+        slip: *const u8, slip_len: usize, answers: *mut u8, answers_len: usize,
+    ) -> u32;
     fn seatreg_order(
         block: *const u8, block_len: usize, receiver: u32, table: *const u8, table_len: usize,
         out: *mut u8, out_len: usize, answers: *mut u8, answers_len: usize,
@@ -69,8 +81,8 @@ extern "C" {
     ) -> u32;
 }
 
-/// An entry point: a call, lent a table's text or not, the setting of marks, the retirement, the order, a
-/// call on a register file, or the bringing over of an old block.
+/// An entry point: a call, lent a table's text or not, the setting of marks, the retirement, a cut that writes
+/// a slip, the taking back of one, the order, a call on a register file, or the bringing over of an old block.
 #[derive(Clone, Copy, PartialEq, Eq)]
 pub enum Entry {
     Without(Call),
@@ -78,6 +90,10 @@ pub enum Entry {
     /// Always lent a table's text, as a retirement is.
     SetMarks,
     Retire,
+    /// Lent a table's text, and the slip that it writes.
+    CutSlip(Call),
+    /// Lent a table's text, and the slip.
+    TakeBack,
     /// Lent a table's text, and a buffer that it writes into.
     Order,
     File(FileCall),
@@ -93,7 +109,7 @@ pub enum FileCall {
 }
 
 /// All of them, in the header's order.
-pub const ENTRIES: [Entry; 17] = [
+pub const ENTRIES: [Entry; 20] = [
     Entry::Without(Call::Open),
     Entry::Without(Call::Enrol),
     Entry::Without(Call::Grant),
@@ -107,6 +123,9 @@ pub const ENTRIES: [Entry; 17] = [
     Entry::WithTable(Call::Downgrade),
     Entry::SetMarks,
     Entry::Retire,
+    Entry::CutSlip(Call::Revoke),
+    Entry::CutSlip(Call::Downgrade),
+    Entry::TakeBack,
     Entry::Order,
     Entry::File(FileCall::Write),
     Entry::File(FileCall::Read),
@@ -159,6 +178,30 @@ pub fn entry_call_table(n: &Passed, block: &mut Lent, table: &mut Lent, answers:
             _ => unreachable!("the call takes no table"),
         }
     }
+}
+
+/// Makes a cut that writes a slip; answers the number returned.
+pub fn entry_cut_slip(n: &Passed, block: &mut Lent, table: &mut Lent, slip: &mut Lent, answers: &mut Lent) -> u32 {
+    let (b, b_len, a, a_len) = (block.pointer(), block.len(), answers.pointer(), answers.len());
+    let (t, t_len, s, s_len) = (table.pointer(), table.len(), slip.pointer(), slip.len());
+    // Each pointer is valid for its length, and the four buffers lie apart.
+    unsafe {
+        match n.call {
+            Call::Revoke => seatreg_revoke_slip(b, b_len, n.by, n.giver, n.receiver, t, t_len, s, s_len, a, a_len),
+            Call::Downgrade => {
+                seatreg_downgrade_slip(b, b_len, n.by, n.giver, n.receiver, n.weight, t, t_len, s, s_len, a, a_len)
+            }
+            _ => unreachable!("the call writes no slip"),
+        }
+    }
+}
+
+/// Takes a cut back; answers the number returned.
+pub fn entry_take_back(by: u32, block: &mut Lent, table: &mut Lent, slip: &mut Lent, answers: &mut Lent) -> u32 {
+    let (b, b_len, a, a_len) = (block.pointer(), block.len(), answers.pointer(), answers.len());
+    let (t, t_len) = (table.pointer(), table.len());
+    // Each pointer is valid for its length, and the four buffers lie apart.
+    unsafe { seatreg_take_back(b, b_len, by, t, t_len, slip.pointer(), slip.len(), a, a_len) }
 }
 
 /// Writes the order for a receiver; answers the number returned.

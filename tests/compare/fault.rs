@@ -27,11 +27,14 @@ pub struct Fault {
     pub when: fn(&Standing) -> bool,
     pub does: fn(&Standing) -> Left,
     /// What is made in place of the entry point that sets marks, of the one that retires, of every call with
-    /// numbers, or of an order, a write, a read or a bringing over, from what it is lent: the number that it
-    /// returns, and the buffers as it leaves them. An order is made for a receiver.
+    /// numbers, or of a cut with a slip, a taking back, an order, a write, a read or a bringing over, from what it
+    /// is lent: the number that it returns, and the buffers as it leaves them. A taking back is made by a caller,
+    /// an order for a receiver.
     pub set_marks: Option<Wrong>,
     pub retire: Option<Wrong>,
     pub every: Option<Wrong>,
+    pub cut_slip: Option<Wrong>,
+    pub take_back: Option<fn(&Contents, u32) -> (u32, Contents)>,
     pub order: Option<fn(&Contents, u32) -> (u32, Contents)>,
     pub write: Option<fn(&Contents) -> (u32, Contents)>,
     pub read: Option<fn(&Contents) -> (u32, Contents)>,
@@ -57,6 +60,8 @@ pub const NONE: Fault = Fault {
     set_marks: None,
     retire: None,
     every: None,
+    cut_slip: None,
+    take_back: None,
     order: None,
     write: None,
     read: None,
@@ -67,7 +72,7 @@ pub const NONE: Fault = Fault {
     parts: &[],
 };
 
-pub const FAULTS: [Fault; 22] = [
+pub const FAULTS: [Fault; 25] = [
     Fault {
         name: "giver and receiver exchanged",
         before: |n| Passed { giver: n.receiver, receiver: n.giver, ..*n },
@@ -129,7 +134,7 @@ pub const FAULTS: [Fault; 22] = [
         ..NONE
     },
     Fault {
-        name: "a byte written past the register file or the buffer",
+        name: "a byte written past the register file, the slip or the buffer",
         after: |_, lent| lent.file.break_guard(),
         parts: &[Part::Guards],
         ..NONE
@@ -152,6 +157,15 @@ pub const FAULTS: [Fault; 22] = [
     listed("the high byte of need lost in the list", |listed| each(listed, |d| d.need &= 0xFF)),
     listed("the high byte of bar lost in the list", |listed| each(listed, |d| d.bar &= 0xFF)),
     listed("an answer of -1 read as 255", |listed| listed.answers.iter_mut().for_each(|answer| *answer &= 0xFF)),
+    listed("giver and receiver exchanged in the cut on a slip", |listed| {
+        listed.cut.iter_mut().for_each(|cut| swap(&mut cut.giver, &mut cut.receiver));
+    }),
+    listed("the giver read as by in the cut on a slip", |listed| {
+        listed.cut.iter_mut().for_each(|cut| cut.by = cut.giver);
+    }),
+    listed("the cut on a slip read one byte further on", |listed| {
+        listed.cut.iter_mut().for_each(|cut| (cut.kind, cut.by) = (cut.by, cut.giver));
+    }),
 ];
 
 /// A fault of the readers alone.

@@ -8,6 +8,7 @@ use second::chain::{NONE, START};
 use second::host::ANSWERS_LEN;
 use second::refusal::ORDER_BUFFER;
 use second::regfile::LEAST_TEXT;
+use second::slip::{DOWNGRADE, REVOKE, SLIP_LEN};
 
 /// The refusals of each entry point in their order, then the constants.
 pub fn print() -> bool {
@@ -17,6 +18,7 @@ pub fn print() -> bool {
     println!("BLOCK_SIZE {BLOCK_LEN}");
     println!("ANSWERS_SIZE {ANSWERS_LEN}");
     println!("ORDER_SIZE {ORDER_BUFFER}");
+    println!("SLIP_SIZE {SLIP_LEN}");
     println!("OLD_BLOCK_SIZE {OLD_BLOCK_LEN}");
     println!("TEXT_SIZE {LEAST_TEXT}");
     println!("OWNER 0");
@@ -26,5 +28,7 @@ pub fn print() -> bool {
     println!("UNLIMITED {START}");
     println!("MOST_MARKS {}", u16::MAX);
     println!("NO_REACH ({NONE})");
+    println!("SLIP_REVOKE {REVOKE}");
+    println!("SLIP_DOWNGRADE {DOWNGRADE}");
     true
 }

@@ -1,9 +1,9 @@
 //! Random calls through the C entry points of libseatreg.a and through the
 //! second implementation, side by side. After every call the number returned,
 //! the answers, every byte of the block, of the table's text and of the register
-//! file or the buffer that is written to, and the bytes around each lent buffer are
-//! compared; after an accepted one also what the header's readers list; and what
-//! was written is read back.
+//! file, the slip, the old block or the buffer that is written to, and the bytes
+//! around each lent buffer are compared; after an accepted one also what the
+//! header's readers list; and what was written is read back.
 //!
 //! `compare SEED CASES` runs; where there are many cases, every refusal must be
 //! among what is returned. `compare self-test SEED CASES` runs once for each
@@ -17,6 +17,7 @@ mod draw;
 mod entry;
 mod fault;
 mod filetexts;
+mod handed;
 mod header;
 mod lent;
 mod marks;
@@ -30,8 +31,10 @@ mod report;
 mod retires;
 mod returned;
 mod settling;
+mod slips;
 mod standing;
 mod tables;
+mod taken;
 mod writes;
 
 use brings::BRINGS;
@@ -45,6 +48,7 @@ use reads::READS;
 use report::Report;
 use retires::RETIRES;
 use second::random::Random;
+use slips::{CUT_SLIPS, TAKE_BACKS};
 use std::process::ExitCode;
 use writes::WRITES;
 
@@ -83,7 +87,9 @@ fn finds_nothing(seed: u64, cases: u64) -> bool {
 /// Each fault is found, and only in the parts where it was put in.
 fn finds_faults(seed: u64, cases: u64) -> bool {
     let mut all_found = true;
-    let faults: [&[Fault]; 9] = [&FAULTS, &RAISES, &MARKS, &RETIRES, &NAMED, &ORDERS, &WRITES, &READS, &BRINGS];
+    let faults: [&[Fault]; 11] = [
+        &FAULTS, &RAISES, &MARKS, &RETIRES, &NAMED, &CUT_SLIPS, &TAKE_BACKS, &ORDERS, &WRITES, &READS, &BRINGS,
+    ];
     for fault in faults.concat() {
         let report = compare(seed, cases, &fault, false);
         let found = fault.is_found(&report);
@@ -106,6 +112,7 @@ fn compare(seed: u64, cases: u64, fault: &Fault, shows: bool) -> Report {
             let Some(drawn) = list.next(&mut random, &mut block) else { break };
             let case = lent.call(&mut random, drawn, &mut block, fault);
             report.add(list.kind, &case);
+            list.keep(&case);
         }
     }
     report

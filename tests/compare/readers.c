@@ -8,6 +8,8 @@ uint32_t read_delegations(const uint8_t *block) { return seatreg_delegations(blo
 const char *read_refusal_text(uint32_t refusal) { return seatreg_refusal_text(refusal); }
 int32_t read_answer(const uint8_t *answers, size_t i) { return seatreg_answer(answers, i); }
 
+struct seatreg_cut read_slip_cut(const uint8_t *slip) { return seatreg_slip_cut(slip); }
+
 struct seatreg_delegation read_delegation_at(const uint8_t *block, uint32_t i)
 {
     return seatreg_delegation_at(block, i);

@@ -6,10 +6,12 @@ use crate::entry::{Entry, FileCall, ENTRIES};
 use crate::returned::Back;
 use crate::standing::{Standing, NUMBERS};
 use crate::tables::{Text, TextKind, TEXT_KINDS};
+use crate::taken::Taken;
 use second::block::{word, BLOCK_LEN, DELEGATIONS_AT, MOST_DELEGATIONS, MOST_SUBJECTS, RECORDS_AT, RETIRED_AT};
 use second::host::ANSWERS_LEN;
 use second::refusal::{takes_table, tests, Call, NOT_WELL_FORMED, UNSUPPORTED, WRONG_LENGTH};
 use second::regfile::{READ_REFUSALS, WRITE_REFUSALS};
+use second::slip;
 use std::collections::BTreeMap;
 
 /// How many differences are printed.
@@ -21,7 +23,8 @@ pub enum Part {
     Number,
     Block,
     Answers,
-    /// The register file that was read, or every byte of the buffer that a write or an order is lent.
+    /// The register file that was read, the slip or the old block, or every byte of the buffer that a write or an
+    /// order is lent.
     File,
     Table,
     Guards,
@@ -59,6 +62,8 @@ impl Case {
             Asked::Call(n) if n.call == Call::Retire => Entry::Retire,
             Asked::Call(n) if self.text.kind == TextKind::Without => Entry::Without(n.call),
             Asked::Call(n) => Entry::WithTable(n.call),
+            Asked::CutSlip(n) => Entry::CutSlip(n.call),
+            Asked::TakeBack(_) => Entry::TakeBack,
             Asked::Order(_) => Entry::Order,
             Asked::File(call) => Entry::File(call),
             Asked::BringOver => Entry::BringOver,
@@ -68,7 +73,7 @@ impl Case {
     fn takes_table(&self) -> bool {
         match self.asked {
             Asked::Call(n) => takes_table(n.call),
-            Asked::Order(_) => true,
+            Asked::CutSlip(_) | Asked::TakeBack(_) | Asked::Order(_) => true,
             Asked::File(call) => call == FileCall::Read,
             Asked::BringOver => false,
         }
@@ -76,7 +81,7 @@ impl Case {
 
     /// The call whose numbers were accepted, if it is one that is followed by rounds.
     fn settled(&self) -> Option<Call> {
-        let Asked::Call(n) = self.asked else { return None };
+        let (Asked::Call(n) | Asked::CutSlip(n)) = self.asked else { return None };
         let settles = matches!(n.call, Call::Revoke | Call::Downgrade | Call::SetMarks | Call::Retire);
         (self.due == 0 && settles).then_some(n.call)
     }
@@ -95,6 +100,7 @@ pub struct Report {
     cuts: [Settled; 2],
     marks: [Settled; 2],
     retired: [Settled; 2],
+    taken: [Taken; 2],
     /// Old blocks brought over, and of these the full registers.
     brought: [u64; 2],
     standing: [StandingGrants; 2],
@@ -259,12 +265,12 @@ impl StandingGrants {
 }
 
 /// What has a count of 0.
-fn absent(counts: &[(u64, &str)]) -> Vec<String> {
+pub fn absent(counts: &[(u64, &str)]) -> Vec<String> {
     counts.iter().filter(|(count, _)| *count == 0).map(|(_, what)| what.to_string()).collect()
 }
 
-/// The tables by which grants for a standing pair, cuts, settings of marks, retirements, orders and register files
-/// are counted.
+/// The tables by which grants for a standing pair, cuts, settings of marks, retirements, slips, orders and register
+/// files are counted.
 const TABLES: [&str; 2] = ["our table", "others"];
 
 impl Report {
@@ -281,6 +287,7 @@ impl Report {
             cuts: [Settled::default(); 2],
             marks: [Settled::default(); 2],
             retired: [Settled::default(); 2],
+            taken: [Taken::default(); 2],
             brought: [0; 2],
             standing: [StandingGrants::default(); 2],
             orders: [Orders::default(); 2],
@@ -300,6 +307,7 @@ impl Report {
             *self.returned.entry((place, case.due)).or_insert(0) += 1;
         }
         let table = (case.text.kind == TextKind::Other) as usize;
+        self.taken[table].add(case);
         self.orders[table].add(case);
         self.files[table].add(case);
         match case.settled() {
@@ -329,7 +337,7 @@ impl Report {
         println!("case {}: {:?} differ: {:?}", self.cases, case.differs, case.asked);
         let Contents { block, file, answers, .. } = &case.left;
         println!("  block of {} bytes, answers of {}", block.len(), answers.len());
-        println!("  register file, old block or buffer of {} bytes", file.len());
+        println!("  register file, slip, old block or buffer of {} bytes", file.len());
         println!("  the table's text: {:?}", case.text.kind);
         println!("  the entry point returned {}, due {}", case.number, case.due);
     }
@@ -379,6 +387,9 @@ impl Report {
                 println!("        {rounds} had 3 rounds or more, {most} the most, {full} in a full register");
             }
         }
+        for (table, taken) in TABLES.iter().zip(self.taken) {
+            taken.print(table);
+        }
         for (table, orders) in TABLES.iter().zip(self.orders) {
             let Orders { full, all, with_receiver, without, unsorted } = orders;
             println!("orders under {table}: {with_receiver} with the receiver, {without} without it");
@@ -393,16 +404,18 @@ impl Report {
     }
 
     /// The numbers that a call can return and did not; of grants for a standing pair, settings of marks, retirements,
-    /// orders and register files also by table and register.
+    /// slips, orders and register files also by table and register.
     pub fn missing(&self) -> Vec<String> {
         let rare = [
             (self.brought[1], "a full register brought over"),
+            (self.taken[0].to_full + self.taken[1].to_full, "a cut taken back to a full register"),
             (self.orders[0].all + self.orders[1].all, "an order of 64 subjects"),
         ];
         let mut missing = self.not_returned();
         missing.extend(by_table(&self.standing, StandingGrants::missing));
         missing.extend(by_table(&self.marks, |settled| settled.missing("marks set")));
         missing.extend(by_table(&self.retired, |settled| settled.missing("a subject retired")));
+        missing.extend(by_table(&self.taken, Taken::missing));
         missing.extend(by_table(&self.orders, Orders::missing));
         missing.extend(by_table(&self.files, Files::missing));
         missing.extend(absent(&rare));
@@ -434,6 +447,8 @@ pub fn name(entry: Entry) -> String {
         Entry::WithTable(call) => format!("{call:?}").to_lowercase() + "_table",
         Entry::SetMarks => "set_marks".to_string(),
         Entry::Retire => "retire".to_string(),
+        Entry::CutSlip(call) => format!("{call:?}").to_lowercase() + "_slip",
+        Entry::TakeBack => "take_back".to_string(),
         Entry::Order => "order".to_string(),
         Entry::File(call) => format!("{call:?}").to_lowercase(),
         Entry::BringOver => "bring_over".to_string(),
@@ -445,8 +460,9 @@ pub fn refusals(entry: Entry) -> Vec<u32> {
     let (call, table) = match entry {
         Entry::File(FileCall::Write) => return WRITE_REFUSALS.to_vec(),
         Entry::File(FileCall::Read) => return READ_REFUSALS.to_vec(),
+        Entry::TakeBack => return slip::TESTS.iter().map(|(number, _)| *number).collect(),
         Entry::Without(call) => (call, false),
-        Entry::WithTable(call) => (call, true),
+        Entry::WithTable(call) | Entry::CutSlip(call) => (call, true),
         Entry::SetMarks => (Call::SetMarks, true),
         Entry::Retire => (Call::Retire, true),
         Entry::Order => (Call::Order, true),

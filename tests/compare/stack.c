@@ -26,11 +26,13 @@ static size_t table_len;
 static uint8_t out[SEATREG_ORDER_SIZE];
 static uint8_t text[SEATREG_TEXT_SIZE]; /* a register file */
 static size_t text_len;
+static uint8_t slip[SEATREG_SLIP_SIZE];
 static uint8_t old[SEATREG_OLD_BLOCK_SIZE]; /* a block as it was before there were retired subjects */
 #define BLOCK block, sizeof block
 #define NO_TEXT (const uint8_t *)"", 0
 #define TABLE (const uint8_t *)table, table_len
 #define OUT out, sizeof out
+#define SLIP slip, sizeof slip
 #define OLD old, sizeof old
 #define ANSWERS answers, sizeof answers
 
@@ -178,6 +180,35 @@ static void build_deep_through(void)
     grant_walk();
 }
 
+/* A register after a cut, and the slip of the cut. */
+static void build_full_revoked(void)
+{
+    build_full();
+    check(seatreg_revoke_slip(BLOCK, 0, 0, 1, NO_TEXT, SLIP, ANSWERS) == SEATREG_ACCEPTED, "revoke_slip", "refused");
+}
+
+static void build_deep_revoked(void)
+{
+    build_deep();
+    check(seatreg_revoke_slip(BLOCK, 0, 1, 12, NO_TEXT, SLIP, ANSWERS) == SEATREG_ACCEPTED, "revoke_slip", "refused");
+}
+
+static void build_deep_downgraded(void)
+{
+    uint32_t refusal;
+
+    build_deep();
+    refusal = seatreg_downgrade_slip(BLOCK, 0, 1, 12, 0, NO_TEXT, SLIP, ANSWERS);
+    check(refusal == SEATREG_ACCEPTED, "downgrade_slip", "refused");
+}
+
+/* The weight on the slip is another than that of the cut. */
+static void build_deep_other(void)
+{
+    build_deep_downgraded();
+    slip[SEATREG_BLOCK_SIZE + 4] = 1;
+}
+
 /* A register, and its file. */
 static void build_file(void (*build_register)(void))
 {
@@ -262,6 +293,20 @@ static void retire_last_table(void) { returned = seatreg_retire(BLOCK, 0, 63, TA
 static void retire_through(void) { returned = seatreg_retire(BLOCK, 0, THROUGH, NO_TEXT, ANSWERS); }
 static void retire_through_table(void) { returned = seatreg_retire(BLOCK, 0, THROUGH, TABLE, ANSWERS); }
 
+static void revoke_first_slip(void) { returned = seatreg_revoke_slip(BLOCK, 0, 0, 1, NO_TEXT, SLIP, ANSWERS); }
+static void revoke_deep_slip(void) { returned = seatreg_revoke_slip(BLOCK, 0, 1, 12, NO_TEXT, SLIP, ANSWERS); }
+static void revoke_first_slip_table(void) { returned = seatreg_revoke_slip(BLOCK, 0, 0, 1, TABLE, SLIP, ANSWERS); }
+static void revoke_deep_slip_table(void) { returned = seatreg_revoke_slip(BLOCK, 0, 1, 12, TABLE, SLIP, ANSWERS); }
+static void downgrade_first_slip(void) { returned = seatreg_downgrade_slip(BLOCK, 0, 0, 1, 0, NO_TEXT, SLIP, ANSWERS); }
+static void downgrade_deep_slip(void) { returned = seatreg_downgrade_slip(BLOCK, 0, 1, 12, 0, NO_TEXT, SLIP, ANSWERS); }
+static void downgrade_deep_slip_table(void)
+{
+    returned = seatreg_downgrade_slip(BLOCK, 0, 1, 12, 0, TABLE, SLIP, ANSWERS);
+}
+
+static void take_back(void) { returned = seatreg_take_back(BLOCK, 0, NO_TEXT, SLIP, ANSWERS); }
+static void take_back_table(void) { returned = seatreg_take_back(BLOCK, 0, TABLE, SLIP, ANSWERS); }
+
 static void order_last(void) { returned = seatreg_order(BLOCK, 63, NO_TEXT, OUT, ANSWERS); }
 static void order_last_table(void) { returned = seatreg_order(BLOCK, 63, TABLE, OUT, ANSWERS); }
 
@@ -311,6 +356,21 @@ static const struct row rows[] = {
     {"retire with a table", build_full, retire_last_table, 1, 0},
     {"  484 rounds", build_deep_through, retire_through_table, 484, 0},
     {"  refused with 7", build_full, retire_last_table, 0, SEATREG_MALFORMED},
+    {"revoke_slip, full register", build_full, revoke_first_slip, 1, 0},
+    {"  485 rounds", build_deep, revoke_deep_slip, 485, 0},
+    {"revoke_slip with a table", build_full, revoke_first_slip_table, 1, 0},
+    {"  485 rounds", build_deep, revoke_deep_slip_table, 485, 0},
+    {"  refused with 7", build_full, revoke_first_slip_table, 0, SEATREG_MALFORMED},
+    {"downgrade_slip, full register", build_full, downgrade_first_slip, 1, 0},
+    {"  485 rounds", build_deep, downgrade_deep_slip, 485, 0},
+    {"downgrade_slip with a table", build_deep, downgrade_deep_slip_table, 485, 0},
+    {"  refused with 7", build_deep, downgrade_deep_slip_table, 0, SEATREG_MALFORMED},
+    {"take_back, full register", build_full_revoked, take_back, 0, 0},
+    {"  a revocation of 485 rounds", build_deep_revoked, take_back, 0, 0},
+    {"  a downgrade of 485 rounds", build_deep_downgraded, take_back, 0, 0},
+    {"  refused with 20", build_deep_other, take_back, 0, SEATREG_OTHER_SLIP},
+    {"take_back with a table", build_deep_revoked, take_back_table, 0, 0},
+    {"  refused with 7", build_full_revoked, take_back_table, 0, SEATREG_MALFORMED},
     {"order, full register", build_full, order_last, 0, 0},
     {"order with a table", build_full, order_last_table, 0, 0},
     {"  refused with 7", build_full, order_last_table, 0, SEATREG_MALFORMED},

@@ -14,13 +14,13 @@ part="faults"
 
 # A copy of the sources, whose program runs one file of chain calls, one of
 # lists, one of calls that are lent tables, one of register files, one of orders,
-# one of calls that set marks and one of retirements.
+# one of calls that set marks, one of retirements and one of slips.
 copy() {
     local crate="$out/copy/crates/cases" from="$root/target/second/cases" file
     rm -rf "$out/copy" && mkdir -p "$crate/data" &&
         cp "$root/crates.txt" "$out/copy/" &&
         (cd "$root/crates" && cp -r --parents */src "$out/copy/crates/") || return 1
-    for file in chain-00.cases list-00.lists table-00.cases file-00.cases order-00.cases marks-00.cases retire-00.cases; do
+    for file in chain-00.cases list-00.lists table-00.cases file-00.cases order-00.cases marks-00.cases retire-00.cases slip-00.cases; do
         cp "$from/$file" "$crate/data/" &&
             echo "$file" >>"$crate/args" &&
             cat "$from/${file%.*}.expected" >>"$crate/stdout" || return 1
@@ -89,6 +89,9 @@ file_end='    let end = written.length;'
 order_end='    let end = ITEM_SIZE * written.subjects;'
 marks='    change::set_marks(block, subject as u8, marks as u16);'
 bit='    set_retired(b, subject);'
+five='    let cut = [number, by as u8, giver as u8, receiver as u8, weight as u8];'
+exchanged='    let cut = [number, by as u8, receiver as u8, giver as u8, weight as u8];'
+restored='    change::copy(&slip[..layout::BLOCK_SIZE], block);'
 sized='    if !is_sized(calls.len(), blocks.len(), refusals.len(), answers.len()) {'
 first='        if blocks.len() > 0 {
             blocks[0] = 0;
@@ -105,5 +108,7 @@ step "file spoils the byte after its part" found "$file_end" "$file_end"$'\n'"$a
 step "order spoils the byte after its part" found "$order_end" "$order_end"$'\n'"$after" '1 1 12:' '0 1 12:'
 step "the marks stay as they were" found "$marks" '' '1 1 3 2188:' '0 0 1 ='
 step "a retired subject's bit stays unset" found "$bit" '' '02........0302' '.........0302'
+step "giver and receiver are exchanged on a slip" found "$five" "$exchanged" '10301/=' '30101/='
+step "a cut taken back leaves the block" found "$restored" '' '2188:05.05.' '= ='
 step "a refused list spoils a byte" found "$sized" "$sized"$'\n'"$first" '=' '2188:'
 step "a list does not copy its blocks" found '    copy_slot(blocks, i);' '' '0 1 0 0 2188:' '8 0 0 0 '

@@ -213,10 +213,10 @@ fn may_use(register: &Register, receiver: u32) -> bool {
     receiver == 0 || register.delegations.iter().any(|d| d.receiver as u32 == receiver)
 }
 
-fn accepted(answers: [i32; 3]) -> Outcome {
+pub fn accepted(answers: [i32; 3]) -> Outcome {
     Outcome { refusal: 0, answers }
 }
 
-fn refused(refusal: u32) -> Outcome {
+pub fn refused(refusal: u32) -> Outcome {
     Outcome { refusal, answers: [0, 0, 0] }
 }

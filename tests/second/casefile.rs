@@ -55,14 +55,12 @@ impl Case {
 /// `LENGTH:BYTES`, a dot for a zero byte, trailing zero bytes left out.
 pub fn block_text(block: &[u8]) -> String {
     let kept = block.iter().rposition(|&byte| byte != 0).map_or(0, |last| last + 1);
-    let mut text = format!("{}:", block.len());
-    for &byte in &block[..kept] {
-        match byte {
-            0 => text.push('.'),
-            _ => text.push_str(&format!("{byte:02x}")),
-        }
-    }
-    text
+    format!("{}:{}", block.len(), bytes_text(&block[..kept]))
+}
+
+/// Two digits for a byte, a dot for a zero byte.
+pub fn bytes_text(bytes: &[u8]) -> String {
+    bytes.iter().map(|&byte| if byte == 0 { ".".to_string() } else { format!("{byte:02x}") }).collect()
 }
 
 /// The block that a text writes, or nothing if it writes none.
@@ -85,7 +83,8 @@ pub fn read_sized(text: &[u8], most: usize) -> Option<Vec<u8>> {
     Some(block)
 }
 
-fn read_bytes(text: &[u8]) -> Option<Vec<u8>> {
+/// The bytes of a text of that form.
+pub fn read_bytes(text: &[u8]) -> Option<Vec<u8>> {
     let mut bytes = Vec::new();
     let mut at = 0;
     while at < text.len() {

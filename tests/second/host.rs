@@ -5,6 +5,7 @@ use crate::call::{bring_over, order_table, run_table, Outcome, Written};
 use crate::engine::Engine;
 use crate::refusal::{Passed, WRONG_LENGTH};
 use crate::regfile;
+use crate::slip::{cut_slip, take_back_table};
 
 pub const ANSWERS_LEN: usize = 12;
 
@@ -62,6 +63,36 @@ pub fn host_bring_over(old: &[u8], block: &mut [u8], answers: &mut [u8]) -> u32 
         return WRONG_LENGTH;
     }
     told(bring_over(old, block), answers)
+}
+
+/// A revoke or a downgrade that writes its slip, lent a table's text.
+pub fn host_cut_slip(
+    engine: &Engine,
+    n: &Passed,
+    text: &[u8],
+    block: &mut [u8],
+    slip: &mut [u8],
+    answers: &mut [u8],
+) -> u32 {
+    if answers.len() != ANSWERS_LEN {
+        return WRONG_LENGTH;
+    }
+    told(cut_slip(engine, n, text, block, slip), answers)
+}
+
+/// Takes a cut back, lent a table's text; every answer is 0.
+pub fn host_take_back(
+    engine: &Engine,
+    block: &mut [u8],
+    by: u32,
+    text: &[u8],
+    slip: &[u8],
+    answers: &mut [u8],
+) -> u32 {
+    if answers.len() != ANSWERS_LEN {
+        return WRONG_LENGTH;
+    }
+    told(take_back_table(engine, block, by, text, slip), answers)
 }
 
 /// The number returned; the answers are written only when it is 0.

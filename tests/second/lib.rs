@@ -18,4 +18,6 @@ pub mod refusal;
 pub mod regfile;
 pub mod remainder;
 pub mod search;
+pub mod slip;
+pub mod slipcase;
 pub mod table;

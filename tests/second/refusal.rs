@@ -17,6 +17,8 @@ pub const BAD_TABLE: u32 = 17;
 pub const UNSUPPORTED: u32 = 18;
 /// A named subject is retired.
 pub const RETIRED: u32 = 19;
+/// A slip that takes no cut back.
+pub const OTHER_SLIP: u32 = 20;
 pub const LEAST_BUFFER: usize = 126;
 /// The buffer of an order has just so many bytes.
 pub const ORDER_BUFFER: usize = 128;

@@ -9,8 +9,8 @@ use native.Mathlib.Omega.{arith}
 use mir.Syntax.{w8}
 use mir.Val.{Fits}
 use lib.Dec.{T, ltb, ltb→lt, nltb→le}
-use lib.ListN.{length, getD, set, take, drop, replicate, length-append, length-take, length-drop, List·getD-append}
-use lib.Seq.{getD-drop, getD-append-add, set-at, append-snoc, drop-cons, drop-at, take-add, drop-drop, drop-append-add}
+use lib.ListN.{length, getD, set, take, drop, replicate, length-append, length-take, length-drop, List·getD-append, List·getD-eq-default}
+use lib.Seq.{getD-take, getD-drop, getD-append-add, set-at, append-snoc, drop-cons, drop-at, take-add, drop-drop, drop-append-add}
 use Rattle.rules.specs.List.{_∈_, tabulate, concatMap}
 use Rattle.rules.proofs.Lists.{T-left, T-right, T-both, either}
 use Rattle.block.specs.Bytes.{IsBytes, two, twoBytes, readAll, padded, allFrom}
@@ -37,6 +37,13 @@ fits-bytes s h i = omega (arith, h i)
 
 pub bytes-drop : (n : ℕ) (s : List ℕ) → IsBytes s → IsBytes (drop n s)
 bytes-drop n s h i = subst (λ (x : ℕ). x < 256) (sym (getD-drop n s i 0)) (h (n + i))
+
+pub bytes-take : (n : ℕ) (s : List ℕ) → IsBytes s → IsBytes (take n s)
+bytes-take n s h i = go (either (ltb i n))
+  where
+    go : T (ltb i n) ⊎ T (not (ltb i n)) → getD (take n s) i 0 < 256
+    go (inl l) = subst (λ (x : ℕ). x < 256) (sym (getD-take n s i 0 (ltb→lt i n l))) (h i)
+    go (inr l) = subst (λ (x : ℕ). x < 256) (sym (List·getD-eq-default (take n s) 0 (omega (arith, nltb→le i n l, length-take n s)))) (omega arith)
 
 pub bytes-append : (xs ys : List ℕ) → IsBytes xs → IsBytes ys → IsBytes (xs ++ ys)
 bytes-append xs ys h k i = go (either (ltb i (length xs)))

@@ -13,7 +13,6 @@ use Rattle.rules.specs.Trace.{traceFrom}
 use Rattle.block.specs.Block.{encode}
 use Rattle.steptable.specs.TableText.{ours}
 use Rattle.register.specs.CallOn.{Result, callOn}
-use Rattle.demands.specs.History.{bytesLeft}
 use Rattle.text.specs.Text.{line, AllAllowed}
 use Rattle.text.specs.Bytes.{bytesOf}
 use Rattle.callfile.specs.declared.Printed.{Printed}
@@ -78,7 +77,7 @@ abbrev pub answerLine : Result → List ℕ
 answerLine o = line (pos (o .refusal) ∷ o .first ∷ o .second ∷ o .third ∷ [])
 
 abbrev pub answerLines : List ℕ → List FileCall → List ℕ
-answerLines b cs = concatMap answerLine (traceFrom (callOn ours) bytesLeft b (map meant cs))
+answerLines b cs = concatMap answerLine (traceFrom (callOn ours) (λ r. r .bytes) b (map meant cs))
 
 -- ── the whole ──
 

@@ -32,7 +32,9 @@ fn no_block() -> Block {
 // A block, which `end` must follow; the text goes on after that.
 pub fn read_block(text: &[u8], from: usize, block: &mut [u8], size: usize, end: u8) -> Block {
     let given = read_given(text, from, block, size);
-    let step = reading::step_over(text, given.after, end);
+    let n = reading::within(given.size, block);
+    let after = read_changes(text, given.after, &mut block[..n]);
+    let step = reading::step_over(text, after, end);
     Block {
         size: given.size,
         after: step.after,
@@ -64,6 +66,49 @@ fn read_given(text: &[u8], from: usize, block: &mut [u8], size: usize) -> Block 
         after: read_bytes(text, number.after, &mut block[..n]),
         is_read: true,
     }
+}
+
+// Each +PLACE:BYTES puts bytes into the block from a place on; answers where the text goes on.
+fn read_changes(text: &[u8], from: usize, block: &mut [u8]) -> usize {
+    let mut at = from;
+    while at < text.len() {
+        let next = read_change(text, at, block);
+        if next <= at {
+            break;
+        }
+        at = next;
+    }
+    at
+}
+
+// One of them; no step where none stands there.
+fn read_change(text: &[u8], from: usize, block: &mut [u8]) -> usize {
+    let sign = reading::step_over(text, from, b'+');
+    if !sign.is_read {
+        return from;
+    }
+    let place = reading::read_number(text, sign.after, b':');
+    if !place.is_read {
+        return from;
+    }
+    put_given(text, place.after, block, place.value as usize)
+}
+
+// Puts the bytes that are given into the block from a place on, up to its end; answers where the text goes on.
+fn put_given(text: &[u8], from: usize, block: &mut [u8], place: usize) -> usize {
+    let n = block.len();
+    let mut at = from;
+    let mut i = place;
+    while i < n {
+        let byte = read_byte(text, at);
+        if byte.after <= at {
+            break;
+        }
+        put_byte(block, i, byte.value);
+        at = byte.after;
+        i += 1;
+    }
+    at
 }
 
 // Puts the bytes that are given into the part, and zero after them; answers where the text goes on.

@@ -4,6 +4,11 @@ use crate::blocks::MOST_FILE;
 use crate::reading;
 use libc::STDOUT_FILENO;
 
+// Where a slip has its cut and the block after it.
+const CUT_AT: usize = 2188;
+
+const AFTER_AT: usize = 2193;
+
 pub fn print(bytes: &[u8]) {
     io::write_all(STDOUT_FILENO, bytes);
 }
@@ -95,8 +100,21 @@ pub fn put_bytes(out: &mut [u8], from: usize, bytes: &[u8]) -> usize {
     at
 }
 
-// Prints `refusal first second third BLOCK`.
+// Prints the line `refusal first second third BLOCK`.
 pub fn print_outcome(
+    refusal: u32,
+    first: i32,
+    second: i32,
+    third: i32,
+    before: &[u8],
+    block: &[u8],
+) {
+    print_answer(refusal, first, second, third, before, block);
+    print(b"\n");
+}
+
+// Prints `refusal first second third BLOCK`, and no end of a line.
+pub fn print_answer(
     refusal: u32,
     first: i32,
     second: i32,
@@ -113,15 +131,40 @@ pub fn print_outcome(
     print_signed(third);
     print(b" ");
     print_left(before, block);
-    print(b"\n");
 }
 
 // The bytes that the call left, or `=` if none has changed; `before` may be longer by zeros.
 pub fn print_left(before: &[u8], block: &[u8]) {
-    let n = reading::within(block.len(), before);
-    if check::same(&before[..n], block) && used(before) <= block.len() {
+    if is_same(before, block) {
         print(b"=");
         return;
     }
     print_block(block);
+}
+
+// Whether the bytes are those of before, which may be longer by zeros.
+fn is_same(before: &[u8], bytes: &[u8]) -> bool {
+    let n = reading::within(bytes.len(), before);
+    check::same(&before[..n], bytes) && used(before) <= bytes.len()
+}
+
+// The slip that the call left: `=` if no byte of it has changed, else BEFORE/CUT/AFTER, the first `=` if it is the block before the
+// call, which may be longer by zeros, as the slip before may, and the last if it is the block after it.
+pub fn print_slip(slip_before: &[u8], slip: &[u8], before: &[u8], after: &[u8]) {
+    if is_same(slip_before, slip) {
+        print(b"=");
+        return;
+    }
+    let n = reading::within(AFTER_AT, slip);
+    print_front(&slip[..n], before);
+    print_left(after, &slip[n..]);
+}
+
+// BEFORE/CUT/ of a slip.
+fn print_front(front: &[u8], before: &[u8]) {
+    let n = reading::within(CUT_AT, front);
+    print_left(before, &front[..n]);
+    print(b"/");
+    print_block(&front[n..]);
+    print(b"/");
 }

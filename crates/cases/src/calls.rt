@@ -22,6 +22,13 @@ pub const WRITE: u32 = 8;
 
 pub const ORDER: u32 = 10;
 
+// The numbers of the calls that are lent a slip: the first two write it, the last reads it.
+const REVOKE_SLIP: u32 = 14;
+
+const DOWNGRADE_SLIP: u32 = 15;
+
+const TAKE_BACK: u32 = 16;
+
 // What stands for the refusal where there is no such call.
 const NO_CALL: u32 = 99;
 
@@ -74,6 +81,21 @@ fn make_other(c: Columns, old: &[u8], block: &mut [u8]) -> Answer {
         13 => register::bring_over(old, block),
         _ => no_answer(),
     }
+}
+
+pub fn has_slip(call: u32) -> bool {
+    call == REVOKE_SLIP || call == DOWNGRADE_SLIP || call == TAKE_BACK
+}
+
+// A call that is lent a slip.
+pub fn make_slip(c: Columns, slip: &mut [u8], table: &[u8], block: &mut [u8]) -> Answer {
+    if c.call == REVOKE_SLIP {
+        return slips::revoke_slip(block, c.by, c.giver, c.receiver, table, slip);
+    }
+    if c.call == DOWNGRADE_SLIP {
+        return slips::downgrade_slip(block, c.by, c.giver, c.receiver, c.weight, table, slip);
+    }
+    slips::take_back(block, c.by, table, slip)
 }
 
 fn grant(c: Columns, table: &[u8], block: &mut [u8]) -> Answer {

@@ -1,5 +1,5 @@
-// Runs the lines of a text, each on the block that it gives or that the line before left, and, where lines have a table's text or a
-// register's file, on the one that it gives or that the line before left.
+// Runs the lines of a text, each on the block that it gives or that the line before left, and, where lines have a table's text, a
+// register's file or a slip, on the one that it gives or that the line before left. A slip is in the place of a file.
 ghost use mathlib.Core.Path.{_≡_};
 ghost use lib.ListN.{length};
 ghost use Rattle.casefile.specs.Sizes.{mostBlock, mostFile};
@@ -30,8 +30,8 @@ fn nowhere() -> Place {
     }
 }
 
-// Runs every line, by the text's kind: `t`, `o` and `m` where lines have a table's text, `f` where they have a file and a table's text;
-// false where one cannot be read.
+// Runs every line, by the text's kind: `t`, `o` and `m` where lines have a table's text, `f` where they have a file and a table's text,
+// `s` where they have a slip and a table's text; false where one cannot be read.
 pub fn run_lines(
     text: &[u8],
     kind: u8,
@@ -64,7 +64,7 @@ fn run_line(
     table: &mut [u8],
     block: &mut [u8],
 ) -> Place {
-    let has_file = kind == b'f';
+    let has_file = kind == b'f' || kind == b's';
     let has_table = has_file || kind == b't' || kind == b'o' || kind == b'm';
     let columns = calls::read_columns(text, from.at, has_table);
     if !columns.is_read {
@@ -121,6 +121,10 @@ fn run_fronts(
         return run_fill(columns, file, file_size, &table[..m], &block[..n]);
     }
     let k = reading::within(file_size, file);
+    if calls::has_slip(columns.call) {
+        run_slip(columns, &mut file[..k], &table[..m], &mut block[..n]);
+        return file_size;
+    }
     run_call(columns, &file[..k], &table[..m], &mut block[..n]);
     file_size
 }
@@ -137,6 +141,24 @@ fn run_call(columns: Columns, file: &[u8], table: &[u8], block: &mut [u8]) {
         &before,
         block,
     );
+}
+
+// Makes a call that is lent a slip and prints what comes out, the slip too.
+fn run_slip(columns: Columns, slip: &mut [u8], table: &[u8], block: &mut [u8]) {
+    let before = kept(block);
+    let slip_before = kept_file(slip);
+    let answer = calls::make_slip(columns, slip, table, block);
+    out::print_answer(
+        answer.refusal,
+        answer.first,
+        answer.second,
+        answer.third,
+        &before,
+        block,
+    );
+    out::print(b" ");
+    out::print_slip(&slip_before, slip, &before, block);
+    out::print(b"\n");
 }
 
 // Writes the block's file, or an order, into a buffer of as many bytes as the weight says, and prints what comes out.

@@ -18,7 +18,7 @@ use Rattle.rules.specs.Cut.{named}
 use Rattle.rules.specs.WellFormed.{WellFormed}
 use Rattle.rules.specs.Call.{Call, retire, fresh}
 use Rattle.rules.specs.Refusal.{passed, held, refusalOf}
-use Rattle.rules.specs.CallStep.{cut, accepted, callStep}
+use Rattle.rules.specs.CallStep.{Outcome, cut, accepted, callStep}
 use Rattle.rules.specs.Trace.{Entry, allAsked, traceFrom, stateFrom, History}
 use Rattle.rules.specs.History.{leftBy, trace, registerAt}
 use Rattle.rules.specs.Examples.{Example, lastLeft, computed, said, leaving, leaving-idle, examples}
@@ -33,8 +33,9 @@ use Rattle.block.proofs.Wide.{length-wideBytes}
 use Rattle.block.proofs.Fitting.{recordsPart, retired-drop, formed-fits}
 use Rattle.block.proofs.Encode.{decode-encode}
 use Rattle.steptable.specs.declared.Given.{Given}
-use Rattle.register.specs.CallOn.{Result, callOn}
-use Rattle.demands.specs.History.{Asked, asks, askedOn, bytesLeft, traceOn, blockAt}
+use Rattle.register.specs.CallOn.{callOn}
+use Rattle.slips.specs.Slip.{Effect}
+use Rattle.demands.specs.History.{Asked, asks, plain, askedOn, bytesLeft, traceOn, blockAt}
 use Rattle.demands.specs.Examples.{lineOn, computedOn, bitsAfter, RetiredBytes}
 use Rattle.demands.proofs.History.{lent-ours}
 use Rattle.register.proofs.OnBytes.{onBytes, callOn-encode}
@@ -51,27 +52,30 @@ module _ {A B C : Type 0} (g : A → B) (f : B → C) where
   map-drop (suc n) [] = refl
   map-drop (suc n) (x ∷ xs) = map-drop n xs
 
--- a call that is lent no text
-pub asked-encode : (R : Register) → WellFormed R → (c : Call) → askedOn (encode R) (asks [] c) ≡ onBytes (callStep steps R c)
-asked-encode R f c = ap (λ (g : Given). callOn g (encode R) c) (lent-ours c) ∙ callOn-encode steps R f c
+-- a call that is lent no text, and no slip buffer
+abbrev made : Outcome → Effect
+made o = plain (onBytes o)
+
+pub asked-encode : (R : Register) → WellFormed R → (c : Call) → askedOn (encode R) (asks [] c) ≡ made (callStep steps R c)
+asked-encode R f c = ap plain (ap (λ (g : Given). callOn g (encode R) c) (lent-ours c) ∙ callOn-encode steps R f c)
 
 -- ── the trace on bytes is the trace on registers, written ──
-traceOnFrom-encode : (R : Register) → WellFormed R → (cs : List Call) → traceFrom askedOn bytesLeft (encode R) (map (asks []) cs) ≡ map onBytes (traceFrom (callStep steps) leftBy R cs)
+traceOnFrom-encode : (R : Register) → WellFormed R → (cs : List Call) → traceFrom askedOn bytesLeft (encode R) (map (asks []) cs) ≡ map made (traceFrom (callStep steps) leftBy R cs)
 traceOnFrom-encode R f [] = refl
 traceOnFrom-encode R f (c ∷ cs) =
-    ap (λ (r : Result). r ∷ traceFrom askedOn bytesLeft (r .bytes) (map (asks []) cs)) (asked-encode R f c)
-    ∙ ap (λ (rs : List Result). onBytes (callStep steps R c) ∷ rs) (traceOnFrom-encode (callStep steps R c .left) (callStep-formed steps R c f) cs)
+    ap (λ (e : Effect). e ∷ traceFrom askedOn bytesLeft (bytesLeft e) (map (asks []) cs)) (asked-encode R f c)
+    ∙ ap (λ (es : List Effect). made (callStep steps R c) ∷ es) (traceOnFrom-encode (callStep steps R c .left) (callStep-formed steps R c f) cs)
 
-traceOn-encode : (cs : List Call) → traceOn (map (asks []) cs) ≡ map onBytes (trace steps cs)
+traceOn-encode : (cs : List Call) → traceOn (map (asks []) cs) ≡ map made (trace steps cs)
 traceOn-encode cs = traceOnFrom-encode fresh fresh-formed cs
 
 last-block : (R : Register) → WellFormed R → (c : Call) (cs : List Call)
     → decode (stateFrom askedOn bytesLeft (encode R) (map (asks []) (c ∷ cs)) (suc (length (map (asks []) cs)))) .delegations ≡ lastLeft (traceFrom (callStep steps) leftBy R (c ∷ cs))
 last-block R f c [] =
-    ap (λ (r : Result). decode (r .bytes) .delegations) (asked-encode R f c)
+    ap (λ (e : Effect). decode (bytesLeft e) .delegations) (asked-encode R f c)
     ∙ ap (λ (S : Register). S .delegations) (decode-encode (callStep steps R c .left) (callStep-formed steps R c f))
 last-block R f c (d ∷ ds) =
-    ap (λ (r : Result). decode (stateFrom askedOn bytesLeft (r .bytes) (map (asks []) (d ∷ ds)) (suc (length (map (asks []) ds)))) .delegations) (asked-encode R f c)
+    ap (λ (e : Effect). decode (stateFrom askedOn bytesLeft (bytesLeft e) (map (asks []) (d ∷ ds)) (suc (length (map (asks []) ds)))) .delegations) (asked-encode R f c)
     ∙ last-block (callStep steps R c .left) (callStep-formed steps R c f) d ds
 
 -- the last block holds the delegations that the last call left
@@ -81,12 +85,12 @@ blockAt-last (c ∷ cs) = last-block fresh fresh-formed c cs
 
 -- ── the trace is the one that demand 3 cites ──
 
--- the result at place i is that of the call at place i on the block S i
-pub trace-blocks : (qs : List Asked) (i : ℕ) (r : Result) → At (traceOn qs) i r → (q : Asked) × At qs i q × (r ≡ askedOn (blockAt qs i) q)
-trace-blocks qs i r a = trace-at askedOn bytesLeft (encode fresh) qs i r a
+-- what stands at place i is what the call at place i on the block S i comes to
+pub trace-blocks : (qs : List Asked) (i : ℕ) (e : Effect) → At (traceOn qs) i e → (q : Asked) × At qs i q × (e ≡ askedOn (blockAt qs i) q)
+trace-blocks qs i e a = trace-at askedOn bytesLeft (encode fresh) qs i e a
 
 -- what the calls of a history returned and left is the trace of its calls
-pub history-trace : (es : List (Entry Asked Result)) → History askedOn bytesLeft (encode fresh) es → map (λ (e : Entry Asked Result). e .outcome) es ≡ traceOn (allAsked es)
+pub history-trace : (es : List (Entry Asked Effect)) → History askedOn bytesLeft (encode fresh) es → map (λ (e : Entry Asked Effect). e .outcome) es ≡ traceOn (allAsked es)
 history-trace es h = history-from askedOn bytesLeft (encode fresh) es h
 
 -- ── the examples ──
@@ -97,13 +101,13 @@ computed-on e = λ i. record { refusals = refusals i; printed = printed i; stand
   where
     refusals : computedOn e .refusals ≡ computed e .refusals
     refusals =
-        ap (λ (rs : List Result). map (λ (r : Result). r .refusal) (take (length (e .given)) rs)) (traceOn-encode (e .given ++ e .calls))
-        ∙ map-take onBytes (λ (r : Result). r .refusal) (length (e .given)) (trace steps (e .given ++ e .calls))
+        ap (λ (es : List Effect). map (λ (x : Effect). x .result .refusal) (take (length (e .given)) es)) (traceOn-encode (e .given ++ e .calls))
+        ∙ map-take made (λ (x : Effect). x .result .refusal) (length (e .given)) (trace steps (e .given ++ e .calls))
 
     printed : computedOn e .printed ≡ computed e .printed
     printed =
-        ap (λ (rs : List Result). map lineOn (drop (length (e .given)) rs)) (traceOn-encode (e .given ++ e .calls))
-        ∙ map-drop onBytes lineOn (length (e .given)) (trace steps (e .given ++ e .calls))
+        ap (λ (es : List Effect). map lineOn (drop (length (e .given)) es)) (traceOn-encode (e .given ++ e .calls))
+        ∙ map-drop made lineOn (length (e .given)) (trace steps (e .given ++ e .calls))
 
 computed-all : (es : List Example) → map computedOn es ≡ map computed es
 computed-all es = λ i. map (λ (e : Example). computed-on e i) es
@@ -117,7 +121,7 @@ blocks-written : (R : Register) → WellFormed R → (cs : List Call) (n : ℕ) 
 blocks-written R f cs zero = refl
 blocks-written R f [] (suc n) = refl
 blocks-written R f (c ∷ cs) (suc n) =
-    ap (λ (r : Result). stateFrom askedOn bytesLeft (r .bytes) (map (asks []) cs) n) (asked-encode R f c) ∙ blocks-written (callStep steps R c .left) (callStep-formed steps R c f) cs n
+    ap (λ (e : Effect). stateFrom askedOn bytesLeft (bytesLeft e) (map (asks []) cs) n) (asked-encode R f c) ∙ blocks-written (callStep steps R c .left) (callStep-formed steps R c f) cs n
 
 bits-after : (cs : List Call) (n : ℕ) → bitsAfter cs n ≡ wideBytes retiredSize (registerAt steps cs n .retired)
 bits-after cs n =

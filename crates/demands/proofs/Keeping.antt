@@ -3,16 +3,17 @@ use mathlib.Core.Path.{_≡_, refl, sym, ap, subst, _∙_}
 use mathlib.Core.Logic.{_≢_, _⊎_, inl, inr}
 use mathlib.Core.Bool.{Bool, true, false, cond, not}
 use mathlib.Core.List.{List, [], _∷_, _++_}
-use Prim.Native.Nat.{ℕ, _*_, _≤_, _<_}
+use Prim.Native.Nat.{ℕ, zero, suc, _*_, _≤_, _<_}
 use native.Mathlib.Omega.{arith}
 use borrow.Author.Tests.{eq-eqb, ne-eqb}
-use lib.Dec.{T, eqb, ltb, eqb→eq, ltb→lt, nltb→le, T-not}
-use lib.ListN.{length, getD, take, drop, replicate, length-append, length-take, length-drop, List·getD-eq-default}
-use lib.Seq.{getD-take, drop-at}
+use lib.Dec.{T, eqb, eqb→eq, T-not}
+use lib.ListN.{length, take, drop, replicate, length-append, length-drop}
+use lib.Seq.{drop-at}
 use lib.IntN.{pos}
 use Rattle.rules.specs.Table.{TableRule}
 use Rattle.rules.specs.WellFormed.{WellFormed}
-use Rattle.rules.specs.Call.{Call, fresh}
+use Rattle.rules.specs.Cut.{Cut, removal, lowering}
+use Rattle.rules.specs.Call.{Call, fresh, cutCall}
 use Rattle.rules.specs.Refusal.{firstOf}
 use Rattle.rules.specs.CallStep.{Outcome, callStep}
 use Rattle.rules.specs.Ranges.{Unused, InRange}
@@ -20,7 +21,7 @@ use Rattle.rules.specs.Order.{orderBytes}
 use Rattle.rules.proofs.Table.{steps-rule}
 use Rattle.rules.proofs.Calls.{fresh-formed, callStep-formed}
 use Rattle.rules.proofs.Ranges.{callStep-range}
-use Rattle.rules.proofs.Lists.{T-true, either, not-not, not-or-left, eqOr}
+use Rattle.rules.proofs.Lists.{T-true, not-not, not-or-left, eqOr}
 use Rattle.rules.proofs.Refusals.{passes-of}
 use Rattle.rules.proofs.Order.{order-some, order-few, order-length}
 use Rattle.block.specs.Layout.{blockSize, retiredAt, retiredSize}
@@ -29,10 +30,10 @@ use Rattle.block.specs.Block.{decode, encode}
 use Rattle.block.specs.WellFormed.{wellFormed}
 use Rattle.block.specs.Older.{oldSize, oldDecode, brought}
 use Rattle.block.proofs.Older.{brought-same}
-use Rattle.block.proofs.Bytes.{bytes-drop, bytes-append, bytes-zeros}
+use Rattle.block.proofs.Bytes.{bytes-take, bytes-drop, bytes-append, bytes-zeros}
 use Rattle.block.proofs.Encode.{bytes-encode}
 use Rattle.block.proofs.Form.{encode-formed}
-use Rattle.block.proofs.Held.{held-formed}
+use Rattle.block.proofs.Held.{size-held, held-formed}
 use Rattle.steptable.specs.TableText.{ours, given}
 use Rattle.steptable.specs.declared.Given.{Given}
 use Rattle.steptable.proofs.Right.{given-keeps}
@@ -41,6 +42,10 @@ use Rattle.regfile.proofs.Sizes.{file-some, file-short}
 use Rattle.refusals.specs.Early.{notWellFormed, early}
 use Rattle.register.specs.CallOn.{Result, turned, written, callOn, openOn}
 use Rattle.register.specs.Bring.{wrongSizes, bringRefusal, bringOn}
+use Rattle.refusals.specs.Checked.{InLimits}
+use Rattle.slips.specs.Slip.{cutBytes, slip, slipSize, Effect, slippedOn}
+use Rattle.slips.specs.TakeBack.{takeBackOn}
+use Rattle.slips.proofs.Parts.{slip-long}
 use Rattle.transfer.specs.FileOn.{WriteMade}
 use Rattle.transfer.specs.declared.Filled.{Filled}
 use Rattle.transfer.proofs.Writing.{write-through}
@@ -50,8 +55,9 @@ use Rattle.order.specs.Items.{itemSize, orderSize}
 use Rattle.order.specs.OrderOn.{OrderMade}
 use Rattle.order.specs.declared.Listed.{Listed}
 use Rattle.order.proofs.OrderWays.{order-through}
-use Rattle.demands.specs.Kept.{Kept, KeptOpen, KeptBring, KeptRead, KeptFilled, mostWritten, KeptWrite, KeptOrder}
+use Rattle.demands.specs.Kept.{Kept, KeptOpen, KeptBring, KeptSlip, KeptBack, KeptRead, KeptFilled, mostWritten, KeptWrite, KeptOrder}
 use Rattle.register.proofs.Through.{accepted-through, accepted-step, accepted-left}
+use Rattle.demands.proofs.TakingBack.{slipped-cases, slipped-so, taken, gives-back, restored-so, refused-so, restored-formed}
 
 module _ (g : Given) (b : List ℕ) (c : Call) where
   written-same : (o : Outcome) → o .refusal ≢ 0 → written b o .bytes ≡ b
@@ -140,14 +146,7 @@ module _ (old b : List ℕ) where
 
   brought-bytes : IsBytes old → IsBytes (brought old)
   unfolding brought
-  brought-bytes h = bytes-append (take retiredAt old) (replicate retiredSize 0 ++ drop retiredAt old) (front (λ i. h i)) (bytes-append (replicate retiredSize 0) (drop retiredAt old) (bytes-zeros retiredSize) (bytes-drop retiredAt old h))
-    where
-      front : IsBytes old → IsBytes (take retiredAt old)
-      front h i = go (either (ltb i retiredAt))
-        where
-          go : T (ltb i retiredAt) ⊎ T (not (ltb i retiredAt)) → getD (take retiredAt old) i 0 < 256
-          go (inl l) = subst (λ (n : ℕ). n < 256) (sym (getD-take retiredAt old i 0 (ltb→lt i retiredAt l))) (h i)
-          go (inr l) = subst (λ (n : ℕ). n < 256) (sym (List·getD-eq-default (take retiredAt old) 0 (omega (arith, nltb→le i retiredAt l, length-take retiredAt old)))) (omega arith)
+  brought-bytes h = bytes-append (take retiredAt old) (replicate retiredSize 0 ++ drop retiredAt old) (bytes-take retiredAt old h) (bytes-append (replicate retiredSize 0) (drop retiredAt old) (bytes-zeros retiredSize) (bytes-drop retiredAt old h))
 
   -- none of its tests applies
   bring-through : bringRefusal old b ≡ 0 → (length old ≡ oldSize) × (wellFormed (brought old) ≡ true)
@@ -163,6 +162,68 @@ module _ (old b : List ℕ) where
     bytes = λ x y. bring-cases (λ (r : Result). IsBytes (r .bytes)) (λ z. brought-bytes x) (λ z. y);
     same = bring-cases (λ (r : Result). r .refusal ≡ 0 → decode (r .bytes) ≡ oldDecode old) (λ z e. let (l, w) = bring-through z in brought-same old l w) (λ z e. absurd (z e));
   }
+
+-- ── a cut with a slip, and taking it back ──
+
+bytes-cons : (x : ℕ) (xs : List ℕ) → x < 256 → IsBytes xs → IsBytes (x ∷ xs)
+bytes-cons x xs l h zero = l
+bytes-cons x xs l h (suc i) = h i
+
+-- the five bytes of a cut whose numbers are within their ranges
+pub bytes-five : (y : ℕ) (k : Cut) → InLimits (cutCall y k) → IsBytes (cutBytes y k)
+bytes-five y k l = go k l
+  where
+    five : (n g r w : ℕ) → n < 256 → y ≤ 63 → g ≤ 63 → r ≤ 63 → w ≤ 255 → IsBytes (n ∷ y ∷ g ∷ r ∷ w ∷ [])
+    five n g r w p q t u v =
+        bytes-cons n (y ∷ g ∷ r ∷ w ∷ []) p
+        (bytes-cons y (g ∷ r ∷ w ∷ []) (omega (arith, q)) (bytes-cons g (r ∷ w ∷ []) (omega (arith, t)) (bytes-cons r (w ∷ []) (omega (arith, u)) (bytes-cons w [] (omega (arith, v)) (λ i. omega arith)))))
+
+    go : (k : Cut) → InLimits (cutCall y k) → IsBytes (cutBytes y k)
+    go (removal g r) h = five 2 g r 0 (omega arith) (h .0) (h .1 .0) (h .1 .1 .0) (omega arith)
+    go (lowering g r w) h = five 3 g r w (omega arith) (h .0 .0) (h .0 .1 .0) (h .0 .1 .1 .0) (h .1)
+
+pub kept-slip : (g : Given) → TableRule (g .steps) → (s : List ℕ) (y : ℕ) (b : List ℕ) (k : Cut) → IsBytes b → KeptSlip g s y b k
+kept-slip g rule s y b k bytes = record {
+  refused = cases (λ e. e .result .refusal ≢ 0 → (e .result .bytes ≡ b) × (e .slip ≡ s))
+      (λ l n. (m .refused n, ap (λ (x : Bool). cond x (slip b y k (r .bytes)) s) (ne-eqb (r .refusal) 0 n)))
+      (λ l n. (refl, refl));
+  formed = cases (λ e. e .result .refusal ≡ 0 → wellFormed (e .result .bytes) ≡ true) (λ l. m .formed) (λ l z. absurd (omega arith));
+  bytes = cases (λ e. IsBytes (e .result .bytes)) (λ l. m .bytes) (λ l. bytes);
+  range = cases (λ e. e .result .refusal ≡ 0 → InRange (cutCall y k) (e .result .first) (e .result .second) (e .result .third)) (λ l. m .range) (λ l z. absurd (omega arith));
+  size = cases (λ e. e .result .refusal ≡ 0 → length s ≡ slipSize) (λ l z. l) (λ l z. absurd (omega arith));
+  written = λ z. let (q, w) = slipped-so g s y b k z in let e = sym (ap (λ (x : Result). x .refusal) q) ∙ z in
+      (ap length w ∙ slip-long b y k (r .bytes) (found e) (left e), subst IsBytes (sym w) (bytes-append b (cutBytes y k ++ r .bytes) bytes (bytes-append (cutBytes y k) (r .bytes) (five e) (m .bytes))));
+}
+  where
+    r : Result
+    r = callOn g b (cutCall y k)
+
+    m : Kept g b (cutCall y k)
+    m = kept g b (cutCall y k) rule bytes
+
+    cases : (P : Effect → Type 0) → (length s ≡ slipSize → P record { result = r; slip = cond (eqb (r .refusal) 0) (slip b y k (r .bytes)) s }) → (length s ≢ slipSize → P record { result = turned 1 b; slip = s }) → P (slippedOn g s y b k)
+    cases = slipped-cases g s y b k
+
+    found : r .refusal ≡ 0 → length b ≡ blockSize
+    found e = accepted-through g b (cutCall y k) e .early .size
+
+    left : r .refusal ≡ 0 → length (r .bytes) ≡ blockSize
+    left e = size-held (r .bytes) (m .bytes) (m .formed e)
+
+    five : r .refusal ≡ 0 → IsBytes (cutBytes y k)
+    five e = bytes-five y k (accepted-through g b (cutCall y k) e .numbers)
+
+pub kept-back : (g : Given) → TableRule (g .steps) → (b : List ℕ) (y : ℕ) (s : List ℕ) → IsBytes s → KeptBack g b y s
+kept-back g rule b y s h = record {
+  refused = refused-so g b y s;
+  formed = λ e. ap wellFormed (restored-so g b y s e) ∙ restored-formed g rule b y s h e;
+  bytes = λ f t. go f t (eqOr (takeBackOn g b y s .refusal) 0);
+  range = λ e. let q = gives-back g b y s (taken g b y s e) in (ap (λ (r : Result). r .first) q, ap (λ (r : Result). r .second) q, ap (λ (r : Result). r .third) q);
+}
+  where
+    go : IsBytes b → IsBytes s → (takeBackOn g b y s .refusal ≡ 0) ⊎ (takeBackOn g b y s .refusal ≢ 0) → IsBytes (takeBackOn g b y s .bytes)
+    go f t (inl e) = subst IsBytes (sym (restored-so g b y s e)) (bytes-take blockSize s t)
+    go f t (inr n) = subst IsBytes (sym (refused-so g b y s n)) f
 
 -- ── read ──
 pub kept-read : (text table b : List ℕ) → KeptRead text table b

@@ -10,9 +10,11 @@ use lib.Dec.{T, T-not, not-T}
 use lib.IntN.{ℤ, pos, negsuc}
 use lib.ListN.{take, drop}
 use Rattle.rules.specs.List.{_∈_}
+use Rattle.rules.specs.Bits.{isSet}
+use Rattle.rules.specs.Table.{TableRule}
 use Rattle.rules.specs.Register.{Register, isRetired}
 use Rattle.rules.specs.WellFormed.{WellFormed}
-use Rattle.rules.specs.Call.{enrol, fresh}
+use Rattle.rules.specs.Call.{Call, enrol, fresh, cutCall}
 use Rattle.rules.specs.CallStep.{Outcome, accepted, callStep}
 use Rattle.rules.specs.Trace.{stateFrom}
 use Rattle.rules.proofs.Lists.{eqOr}
@@ -22,14 +24,17 @@ use Rattle.rules.proofs.Trace.{stays, stays-each}
 use Rattle.block.specs.Bytes.{IsBytes}
 use Rattle.block.specs.Block.{decode, encode}
 use Rattle.block.proofs.Held.{held-formed}
-use Rattle.steptable.specs.TableText.{ours}
+use Rattle.steptable.specs.TableText.{ours, given}
 use Rattle.steptable.specs.declared.Given.{Given}
+use Rattle.steptable.proofs.Right.{given-keeps}
 use Rattle.register.specs.CallOn.{callOn}
 use Rattle.register.proofs.CutWays.{register-left}
-use Rattle.demands.specs.History.{Asked, asks, reads, lentTo, askedOn, bytesLeft, blockAt}
+use Rattle.slips.specs.TakeBack.{takeBackOn}
+use Rattle.demands.specs.History.{Asked, asks, reads, slips, takesBack, lentTo, askedOn, bytesLeft, blockAt}
 use Rattle.demands.specs.Retired.{NotRead, Idle, RetiredRight}
 use Rattle.demands.proofs.Keeping.{kept}
-use Rattle.demands.proofs.History.{lent-keeps, bytes-left, Sound, sound, fresh-sound}
+use Rattle.demands.proofs.TakingBack.{refused-so, restores}
+use Rattle.demands.proofs.History.{lent-keeps, slip-keeps, bytes-left, Sound, sound, fresh-sound}
 
 -- the state after i and k more calls
 state-add : {S A O : Type 0} (step : S → A → O) (left : O → S) (s : S) (qs : List A) (i k : ℕ) → stateFrom step left s qs (i + k) ≡ stateFrom step left (stateFrom step left s qs i) (drop i qs) k
@@ -46,16 +51,23 @@ block-sound qs i = stays askedOn bytesLeft Sound sound (encode fresh) qs i fresh
 abbrev Gone : ℕ → List ℕ → Type 0
 Gone s b = IsBytes b × T (isRetired (decode b) s)
 
-call-stays : (s : ℕ) (b : List ℕ) (q : Asked) → NotRead q → Gone s b → Gone s (askedOn b q .bytes)
-call-stays s b (reads text table) n h = absurd n
-call-stays s b (asks text c) n h = (bytes-left b (asks text c) (h .0), go (eqOr (callOn g b c .refusal) 0))
+-- by any table that keeps the rule
+made-stays : (s : ℕ) (g : Given) → TableRule (g .steps) → (b : List ℕ) (c : Call) → Gone s b → Gone s (callOn g b c .bytes)
+made-stays s g rule b c h = (kept g b c rule (h .0) .bytes, go (eqOr (callOn g b c .refusal) 0))
   where
-    g : Given
-    g = lentTo c text
-
     go : (callOn g b c .refusal ≡ 0) ⊎ (callOn g b c .refusal ≢ 0) → T (isRetired (decode (callOn g b c .bytes)) s)
     go (inl e) = subst (λ (o : Outcome). T (isRetired (o .left) s)) (sym (register-left g b (h .0) c e)) (retired-stays (g .steps) (decode b) s (h .1) c)
-    go (inr z) = subst (λ (x : List ℕ). T (isRetired (decode x) s)) (sym (kept g b c (lent-keeps c text) (h .0) .refused z)) (h .1)
+    go (inr z) = subst (λ (x : List ℕ). T (isRetired (decode x) s)) (sym (kept g b c rule (h .0) .refused z)) (h .1)
+
+call-stays : (s : ℕ) (b : List ℕ) (q : Asked) → NotRead q → Gone s b → Gone s (bytesLeft (askedOn b q))
+call-stays s b (asks text c) n h = made-stays s (lentTo c text) (lent-keeps c text) b c h
+call-stays s b (reads text table) n h = absurd n
+call-stays s b (slips text y k t) n h = slip-keeps (Gone s) text y k t b h (made-stays s (given text) (given-keeps text) b (cutCall y k) h)
+call-stays s b (takesBack text y t bytes) n h = (bytes-left b (takesBack text y t bytes) (h .0), go (eqOr (takeBackOn (given text) b y t .refusal) 0))
+  where
+    go : (takeBackOn (given text) b y t .refusal ≡ 0) ⊎ (takeBackOn (given text) b y t .refusal ≢ 0) → T (isRetired (decode (takeBackOn (given text) b y t .bytes)) s)
+    go (inl e) = subst (λ (x : ℕ). T (isSet x s)) (restores (given text) (given-keeps text) b y t bytes .within e .retired) (h .1)
+    go (inr z) = subst (λ (x : List ℕ). T (isRetired (decode x) s)) (sym (refused-so (given text) b y t z)) (h .1)
 
 -- an enrolment answers how many were enrolled
 enrol-answer : (t : List ℤ) (R : Register) (m n : ℕ) → callStep t R (enrol m) .refusal ≡ 0 → callStep t R (enrol m) .first ≡ pos n → n ≡ R .subjects

@@ -7,12 +7,12 @@ use Rattle.rules.specs.Call.{Call, retire}
 use Rattle.rules.specs.Examples.{Line, line, Example, leaving, leaving-idle, Shown}
 use Rattle.block.specs.Layout.{retiredAt, retiredSize}
 use Rattle.block.specs.Block.{decode}
-use Rattle.register.specs.CallOn.{Result}
+use Rattle.slips.specs.Slip.{Effect}
 use Rattle.demands.specs.History.{asks, traceOn, blockAt}
 
--- a result as the program prints it: refusal and three answers
-abbrev pub lineOn : Result → Line
-lineOn r = line (r .refusal) (r .first) (r .second) (r .third)
+-- what a call came to as the program prints it: refusal and three answers
+abbrev pub lineOn : Effect → Line
+lineOn e = let r = e .result in line (r .refusal) (r .first) (r .second) (r .third)
 
 -- what the calls on bytes make of an example; the delegations that stand afterwards are read from the last block
 abbrev pub computedOn : Example → Shown
@@ -20,7 +20,7 @@ computedOn e =
     let qs = map (asks []) (e .given ++ e .calls) in
     let rs = traceOn qs in
     record {
-      refusals = map (λ r. r .refusal) (take (length (e .given)) rs);
+      refusals = map (λ r. r .result .refusal) (take (length (e .given)) rs);
       printed = map lineOn (drop (length (e .given)) rs);
       standing = decode (blockAt qs (length qs)) .delegations;
     }

@@ -1,4 +1,4 @@
--- Demand 1, as what holds of every call on every list of bytes (document 01, 'Turned back by what was passed'; document 02, C-11, C-13, C-14 and C-16): a refused call changes no byte, an accepted one leaves a
+-- Demand 1, as what holds of every call on every list of bytes (document 01, 'Turned back by what was passed'; document 02, C-11, C-13, C-14, C-16 and C-17): a refused call changes no byte, an accepted one leaves a
 -- well-formed block and answers in range. Assumes nothing.
 use mathlib.Core.Path.{_≡_}
 use mathlib.Core.Logic.{_≢_}
@@ -6,7 +6,8 @@ use mathlib.Core.Bool.{true}
 use mathlib.Core.List.{List}
 use Prim.Native.Nat.{ℕ, _*_, _≤_}
 use lib.ListN.{length, drop}
-use Rattle.rules.specs.Call.{Call}
+use Rattle.rules.specs.Cut.{Cut}
+use Rattle.rules.specs.Call.{Call, cutCall}
 use Rattle.rules.specs.Ranges.{Unused, InRange}
 use Rattle.block.specs.Bytes.{IsBytes}
 use Rattle.block.specs.Block.{decode}
@@ -15,6 +16,8 @@ use Rattle.block.specs.Older.{oldDecode}
 use Rattle.steptable.specs.declared.Given.{Given}
 use Rattle.register.specs.CallOn.{callOn, openOn}
 use Rattle.register.specs.Bring.{bringOn}
+use Rattle.slips.specs.Slip.{slipSize, slippedOn}
+use Rattle.slips.specs.TakeBack.{takeBackOn}
 use Rattle.transfer.specs.RoundTrip.{reading}
 use Rattle.transfer.specs.declared.Filled.{Filled}
 use Rattle.order.specs.Items.{itemSize, orderSize}
@@ -40,6 +43,23 @@ pub record KeptBring (old b : List ℕ) : Type 0 where
   pub bytes : IsBytes old → IsBytes b → IsBytes (bringOn old b .bytes)
   -- the register is the old block's, and nobody is retired
   pub same : bringOn old b .refusal ≡ 0 → decode (bringOn old b .bytes) ≡ oldDecode old
+
+-- a cut k by y on the block b with a slip buffer that held s
+pub record KeptSlip (g : Given) (s : List ℕ) (y : ℕ) (b : List ℕ) (k : Cut) : Type 0 where
+  pub refused : slippedOn g s y b k .result .refusal ≢ 0 → (slippedOn g s y b k .result .bytes ≡ b) × (slippedOn g s y b k .slip ≡ s)
+  pub formed : slippedOn g s y b k .result .refusal ≡ 0 → wellFormed (slippedOn g s y b k .result .bytes) ≡ true
+  pub bytes : IsBytes (slippedOn g s y b k .result .bytes)
+  pub range : slippedOn g s y b k .result .refusal ≡ 0 → InRange (cutCall y k) (slippedOn g s y b k .result .first) (slippedOn g s y b k .result .second) (slippedOn g s y b k .result .third)
+  -- the slip buffer has its length, and every byte of it is written
+  pub size : slippedOn g s y b k .result .refusal ≡ 0 → length s ≡ slipSize
+  pub written : slippedOn g s y b k .result .refusal ≡ 0 → (length (slippedOn g s y b k .slip) ≡ slipSize) × IsBytes (slippedOn g s y b k .slip)
+
+-- a slip s handed in by y on the block b
+pub record KeptBack (g : Given) (b : List ℕ) (y : ℕ) (s : List ℕ) : Type 0 where
+  pub refused : takeBackOn g b y s .refusal ≢ 0 → takeBackOn g b y s .bytes ≡ b
+  pub formed : takeBackOn g b y s .refusal ≡ 0 → wellFormed (takeBackOn g b y s .bytes) ≡ true
+  pub bytes : IsBytes b → IsBytes s → IsBytes (takeBackOn g b y s .bytes)
+  pub range : takeBackOn g b y s .refusal ≡ 0 → Unused (takeBackOn g b y s .first) × Unused (takeBackOn g b y s .second) × Unused (takeBackOn g b y s .third)
 
 -- a read of a register's text with a step table's, over any bytes
 pub record KeptRead (text table b : List ℕ) : Type 0 where

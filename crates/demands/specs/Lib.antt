@@ -3,3 +3,5 @@ pub mod Exactly
 pub mod Examples
 pub mod Kept
 pub mod Retired
+pub mod TakeBack
+pub mod SlipExample

@@ -1,4 +1,4 @@
--- Retired subjects along every list of calls (document 02, C-16). Assumes nothing.
+-- Retired subjects along every list of calls (document 02, C-16 and C-17). Assumes nothing.
 use mathlib.Core.Path.{_≡_}
 use mathlib.Core.Logic.{_≢_}
 use mathlib.Core.Bool.{not}
@@ -13,12 +13,14 @@ use Rattle.rules.specs.Call.{enrol}
 use Rattle.block.specs.Block.{decode}
 use Rattle.steptable.specs.TableText.{ours}
 use Rattle.register.specs.CallOn.{callOn}
-use Rattle.demands.specs.History.{Asked, asks, reads, blockAt}
+use Rattle.demands.specs.History.{Asked, asks, reads, slips, takesBack, blockAt}
 
 -- a call, and no read, which puts another register in place
 abbrev pub NotRead : Asked → Type 0
 NotRead (asks text c) = Unit {0}
 NotRead (reads text table) = ⊥
+NotRead (slips text y k s) = Unit {0}
+NotRead (takesBack text y s h) = Unit {0}
 
 -- no delegation is to or from s, and s has no marks
 pub record Idle (R : Register) (s : ℕ) : Type 0 where

@@ -10,7 +10,7 @@ use lib.Dec.{T, leb, eqb, eqb→eq, nleb→lt}
 use lib.ListN.{length}
 use lib.IntN.{ℤ}
 use Rattle.rules.specs.Call.{Call, enrol, grant, revoke, downgrade, askReach, askUse, setMarks, retire}
-use Rattle.rules.specs.Refusal.{firstOf, passed, held, orderPassed, orderHeld}
+use Rattle.rules.specs.Refusal.{firstOf, passed, held, orderPassed, orderHeld, backPassed, backHeld}
 use Rattle.rules.proofs.Refusals.{numbered, passed-numbered, passes-of, firstOf-append, firstOf-none, firstOf-some, firstOf-left}
 use Rattle.rules.proofs.Lists.{not-or-left, eqOr}
 use Rattle.block.specs.Layout.{blockSize}
@@ -18,7 +18,7 @@ use Rattle.block.specs.Block.{decode}
 use Rattle.block.specs.WellFormed.{wellFormed}
 use Rattle.steptable.specs.TableText.{lent}
 use Rattle.steptable.specs.declared.Given.{Given}
-use Rattle.refusals.specs.Early.{wrongLength, textRefused, notWellFormed, earlyBy, early, refusalOn, orderRefusal}
+use Rattle.refusals.specs.Early.{wrongLength, textRefused, notWellFormed, earlyBy, early, refusalOn, orderRefusal, backRefusal}
 use Rattle.refusals.specs.Checked.{InLimits, Checked, Receives}
 use Rattle.refusals.proofs.InLimits.{in-limits}
 
@@ -144,26 +144,67 @@ early-found {x} {b} {c} {p} {n} e q = record {
     first : firstOf (early x b c) ≡ n
     first = by-found x b (passed c) (passed-numbered c) e q
 
+-- ── a call that is in no list: ps are its tests by what was passed, hs those by what the register holds ──
+module _ (n : ℕ) (b : List ℕ) (ps hs : List (ℕ × Bool)) (all : T (numbered ps)) (every : T (numbered (earlyBy n b ps))) where
+  -- m is what the code finds first, from p, the refusal by what was passed
+  pub first-refused : {p m : ℕ} → p ≡ firstOf ps → m ≡ firstOf (earlyOf n b p) → m ≢ 0 → m ≡ firstOf (earlyBy n b ps ++ hs)
+  first-refused {m = m} e q k = sym (firstOf-some (earlyBy n b ps) hs m every (by-found n b ps all e q) k)
+
+  module _ {p m : ℕ} (e : p ≡ firstOf ps) (q : m ≡ firstOf (earlyOf n b p)) (z : m ≡ 0) where
+    pub first-formed : wellFormed b ≡ true
+    first-formed = by-none n b ps all (by-found n b ps all e q ∙ z) .formed
+
+    pub then-held : {h : ℕ} → h ≡ firstOf hs → h ≡ firstOf (earlyBy n b ps ++ hs)
+    then-held r = r ∙ sym (firstOf-none (earlyBy n b ps) hs every (by-found n b ps all e q ∙ z))
+
+  -- none applies
+  pub both-none : firstOf (earlyBy n b ps ++ hs) ≡ 0 → EarlyBy n b ps × (firstOf hs ≡ 0)
+  both-none z =
+      let e = firstOf-left (earlyBy n b ps) hs every z in
+      (by-none n b ps all e, sym (firstOf-none (earlyBy n b ps) hs every e) ∙ z)
+
+  pub none-both : EarlyBy n b ps → firstOf (earlyBy n b ps ++ hs) ≡ firstOf hs
+  none-both h = firstOf-none (earlyBy n b ps) hs every (none-by n b ps all h)
+
 -- ── the order call ──
 module _ (n : ℕ) (b : List ℕ) (v : ℕ) where
-  abbrev tests : List (ℕ × Bool)
-  tests = earlyBy n b (orderPassed v)
-
   pub order-early : {p m : ℕ} → p ≡ firstOf (orderPassed v) → m ≡ firstOf (earlyOf n b p) → m ≢ 0 → m ≡ orderRefusal n b v
   unfolding orderRefusal
-  order-early {m = m} e q k = sym (firstOf-some tests (orderHeld (decode b) v) m tt (by-found n b (orderPassed v) tt e q) k)
+  order-early = first-refused n b (orderPassed v) (orderHeld (decode b) v) tt tt
 
   module _ {p m : ℕ} (e : p ≡ firstOf (orderPassed v)) (q : m ≡ firstOf (earlyOf n b p)) (z : m ≡ 0) where
     pub order-formed : wellFormed b ≡ true
-    order-formed = by-none n b (orderPassed v) tt (by-found n b (orderPassed v) tt e q ∙ z) .formed
+    order-formed = first-formed n b (orderPassed v) (orderHeld (decode b) v) tt tt e q z
 
-    pub order-held : (h : ℕ) → h ≡ firstOf (orderHeld (decode b) v) → h ≡ orderRefusal n b v
+    pub order-held : {h : ℕ} → h ≡ firstOf (orderHeld (decode b) v) → h ≡ orderRefusal n b v
     unfolding orderRefusal
-    order-held h r = r ∙ sym (firstOf-none tests (orderHeld (decode b) v) tt (by-found n b (orderPassed v) tt e q ∙ z))
+    order-held = then-held n b (orderPassed v) (orderHeld (decode b) v) tt tt e q z
 
   pub receives : orderRefusal n b v ≡ 0 → Receives b v
   unfolding orderRefusal decode
   receives z =
-      let e = firstOf-left tests (orderHeld (decode b) v) tt z in
-      let p = passes-of (orderHeld (decode b) v) tt (sym (firstOf-none tests (orderHeld (decode b) v) tt e) ∙ z) in
-      record { formed = by-none n b (orderPassed v) tt e .formed; receiver = nleb→lt (decode b .subjects) v (not-or-left (leb (decode b .subjects) v) false (p 9)) }
+      let (h, e) = both-none n b (orderPassed v) (orderHeld (decode b) v) tt tt z in
+      record { formed = h .formed; receiver = nleb→lt (decode b .subjects) v (not-or-left (leb (decode b .subjects) v) false (passes-of (orderHeld (decode b) v) tt e 9)) }
+
+-- ── taking a cut back by y, where g is the giver on the slip ──
+module _ (n : ℕ) (b : List ℕ) (y g : ℕ) where
+  pub back-early : {p m : ℕ} → p ≡ firstOf (backPassed y) → m ≡ firstOf (earlyOf n b p) → m ≢ 0 → m ≡ backRefusal n b y g
+  unfolding backRefusal
+  back-early = first-refused n b (backPassed y) (backHeld (decode b) y g) tt tt
+
+  module _ {p m : ℕ} (e : p ≡ firstOf (backPassed y)) (q : m ≡ firstOf (earlyOf n b p)) (z : m ≡ 0) where
+    pub back-formed : wellFormed b ≡ true
+    back-formed = first-formed n b (backPassed y) (backHeld (decode b) y g) tt tt e q z
+
+    pub back-held : {h : ℕ} → h ≡ firstOf (backHeld (decode b) y g) → h ≡ backRefusal n b y g
+    unfolding backRefusal
+    back-held = then-held n b (backPassed y) (backHeld (decode b) y g) tt tt e q z
+
+  -- none of these tests applies
+  pub back-none : backRefusal n b y g ≡ 0 → EarlyBy n b (backPassed y) × (firstOf (backHeld (decode b) y g) ≡ 0)
+  unfolding backRefusal
+  back-none = both-none n b (backPassed y) (backHeld (decode b) y g) tt tt
+
+  pub none-back : EarlyBy n b (backPassed y) → backRefusal n b y g ≡ firstOf (backHeld (decode b) y g)
+  unfolding backRefusal
+  none-back = none-both n b (backPassed y) (backHeld (decode b) y g) tt tt

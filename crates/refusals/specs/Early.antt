@@ -1,11 +1,11 @@
--- The refusals of a call on any list of bytes (document 01, 'Turned back by what was passed' and 'by what the register holds'; document 02, C-11, C-13 and C-14). Assumes nothing.
+-- The refusals of a call on any list of bytes (document 01, 'Turned back by what was passed' and 'by what the register holds'; document 02, C-11, C-13, C-14 and C-17). Assumes nothing.
 use mathlib.Core.Bool.{Bool, not, _||_}
 use mathlib.Core.List.{List, [], _∷_, _++_}
 use Prim.Native.Nat.{ℕ}
 use lib.Dec.{eqb, ltb}
 use lib.ListN.{length}
 use Rattle.rules.specs.Call.{Call}
-use Rattle.rules.specs.Refusal.{firstOf, passed, held, orderPassed, orderHeld}
+use Rattle.rules.specs.Refusal.{firstOf, passed, held, orderPassed, orderHeld, backPassed, backHeld}
 use Rattle.block.specs.Layout.{blockSize}
 use Rattle.block.specs.Block.{decode}
 use Rattle.block.specs.WellFormed.{wellFormed}
@@ -41,3 +41,7 @@ refusalOn g b c = firstOf (early (g .refusal) b c ++ held (g .steps) (decode b) 
 -- the refusal of the order call for the receiver v on a block, where the table's text is refused with n
 unfoldable pub orderRefusal : ℕ → List ℕ → ℕ → ℕ
 orderRefusal n b v = firstOf (earlyBy n b (orderPassed v) ++ orderHeld (decode b) v)
+
+-- of taking a cut back by y, where g is the giver on the slip: but for 1 by the slip's length and for 20
+unfoldable pub backRefusal : ℕ → List ℕ → (by giver : ℕ) → ℕ
+backRefusal n b y g = firstOf (earlyBy n b (backPassed y) ++ backHeld (decode b) y g)

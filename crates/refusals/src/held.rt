@@ -9,7 +9,7 @@ ghost use Rattle.rules.specs.Table.{TableRule};
 ghost use Rattle.rules.specs.Pair.{stands, isRaise};
 ghost use Rattle.rules.specs.Register.{granted};
 ghost use Rattle.rules.specs.Call.{grant, revoke, downgrade};
-ghost use Rattle.rules.specs.Refusal.{firstOf, notEnrolled, subjectsHeld, allEnrolled, pairStands, allStand, mayNot, ownerOnly, notBelow, overweight, held};
+ghost use Rattle.rules.specs.Refusal.{firstOf, notEnrolled, subjectsHeld, allEnrolled, pairStands, allStand, mayNot, ownerOnly, notBelow, overweight, held, backHeld};
 ghost use Rattle.block.specs.Block.{decode};
 ghost use Rattle.block.specs.Records.{HasRecord, delegationAt};
 ghost use Rattle.block.specs.WellFormed.{wellFormed};
@@ -226,4 +226,13 @@ pub fn owner_held(block: &[u8], by: u32, subject: u32) -> u32
 {
     let n = pair_held(block, by, subject);
     may_not(n, by, OWNER)
+}
+
+// Of taking a cut back, where `named` is the giver on the slip.
+pub fn back_held(block: &[u8], by: u32, named: u32) -> u32
+    requires { ⌜ wellFormed (now block) ≡ true ⌝ }
+    ensures { λ r. ⌜ r ≡ firstOf (backHeld (decode (now (block .entry))) by named) ⌝ }
+{
+    let n = subject_held(block, by);
+    may_not(n, by, named)
 }

@@ -15,7 +15,7 @@ ghost use Rattle.rules.specs.Register.{granted};
 ghost use Rattle.rules.specs.Call.{enrol, grant, revoke, downgrade, askReach, askUse, setMarks, retire};
 ghost use Rattle.rules.specs.Refusal.{firstOf};
 ghost use Rattle.steptable.specs.TableText.{lent, ours};
-ghost use Rattle.refusals.specs.Early.{wrongLength, textRefused, notWellFormed, refusalOn, orderRefusal};
+ghost use Rattle.refusals.specs.Early.{wrongLength, textRefused, notWellFormed, refusalOn, orderRefusal, backRefusal};
 ghost use Rattle.refusals.specs.Joined.{orElse};
 use block::layout;
 pub use held::pair_held;
@@ -179,6 +179,17 @@ pub fn order_refusal(block: &[u8], fault: u32, receiver: u32) -> u32
         return n;
     }
     held::subject_held(block, receiver)
+}
+
+// Of taking a cut back, where `giver` is the one on the slip: the slip's length and 20 aside.
+pub fn back_refusal(block: &[u8], fault: u32, by: u32, giver: u32) -> u32
+    ensures { λ r. ⌜ r ≡ backRefusal fault (now (block .entry)) by giver ⌝ }
+{
+    let n = early(block, passed::use_passed(by), fault);
+    if n != 0 {
+        return n;
+    }
+    held::back_held(block, by, giver)
 }
 
 // What a call that fills a lent buffer tells and hands back: its refusal, 0 when accepted, and the filled front of the buffer.

@@ -1,4 +1,4 @@
-// The calls that rounds follow, by a lent step table, whose text is refused with `fault` or passes where that is 0.
+// The calls that rounds follow, by a lent step table that keeps the rule, whose text is refused with `fault` or passes where that is 0.
 ghost use mathlib.Core.Path.{_≡_};
 ghost use mathlib.Core.Bool.{true};
 ghost use Rattle.rules.specs.Table.{TableRule};

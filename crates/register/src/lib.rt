@@ -10,6 +10,8 @@ ghost use Rattle.register.specs.Made.{refusedBy, answeredBy, Made, MadeO
 ghost use Rattle.register.specs.Cuts.{CutMade};
 ghost use Rattle.register.specs.Bring.{BringMade};
 use block::layout;
+pub use cutting::downgrade_by;
+pub use cutting::revoke_by;
 use rules::refusal;
 
 // The refusal number, 0 when accepted, and the three answers, 0 where unused.

@@ -14,7 +14,7 @@ use Rattle.steptable.specs.declared.Given.{Given}
 use Rattle.register.specs.CallOn.{callOn}
 use Rattle.register.specs.Made.{result, Made}
 use Rattle.register.specs.declared.Answer.{Answer}
-use Rattle.demands.specs.History.{reckons, lentTo, askedOn}
+use Rattle.demands.specs.History.{reckons, lentTo, plain, askedOn}
 use Rattle.replay.specs.Replay.{callOf, callIn, askIn}
 use Rattle.replay.specs.Turn.{Reckoning, TextPlaced}
 use Rattle.replay.specs.declared.Place.{Place}
@@ -69,8 +69,9 @@ module _ (calls : List ℕ) (at : ℕ) (r : Bool) (known : Reckoning (getD calls
 
 -- a call that is lent what lies there is made with its text
 pub made-lent : (s texts : List ℕ) (p : Place) → TextPlaced s p → (d : Call) → callIn s ≡ d → (before : List ℕ) (o : Answer) (after : List ℕ)
-    → Made (lentTo d (take (p .end - p .begin) (drop (p .begin) texts))) d before o after → result o after ≡ askedOn before (askIn texts s)
+    → Made (lentTo d (take (p .end - p .begin) (drop (p .begin) texts))) d before o after → plain (result o after) ≡ askedOn before (askIn texts s)
 made-lent s texts p placed d e before o after m =
-    m
+    ap plain
+    (m
     ∙ ap (λ (c : Call). callOn (lentTo c (take (p .end - p .begin) (drop (p .begin) texts))) before c) (sym e)
-    ∙ ap (λ (g : Given). callOn g before (callIn s)) (placed .same texts)
+    ∙ ap (λ (g : Given). callOn g before (callIn s)) (placed .same texts))

@@ -19,7 +19,8 @@ use Rattle.block.specs.Block.{encode}
 use Rattle.block.proofs.Bytes.{length-tabulate}
 use Rattle.register.specs.CallOn.{Result, openOn}
 use Rattle.register.specs.Made.{result, MadeOpen}
-use Rattle.demands.specs.History.{Asked, askedOn, LeavesRight, bytesLeft, blockAt}
+use Rattle.slips.specs.Slip.{Effect}
+use Rattle.demands.specs.History.{Asked, plain, askedOn, LeavesRight, bytesLeft, blockAt}
 use Rattle.register.specs.declared.Answer.{Answer}
 use Rattle.demands.proofs.History.{demand3}
 use Rattle.replay.specs.Replay.{answersPerCall, callCount, askedIn, askedAt, slot, returnedAt, entryIn, entriesIn, isSized, allTexts, allCalls, replayRefusal, Replayed, ReplayMade}
@@ -63,7 +64,7 @@ module _ (refusals : List ℕ) (answers : List ℤ) (i : ℕ) (o : Answer) (room
 module _ (calls texts blocks refusals : List ℕ) (answers : List ℤ) (i : ℕ) where
   -- b is the list of blocks after the copy; ys is what the call left in its slot, which begins at m
   pub turned : (b : List ℕ) → SlotCopied blocks i b → (m k : ℕ) → m ≡ blockSize * suc i → k ≡ blockSize → m + blockSize ≤ length b → (o : Answer) (ys R : List ℕ) → length ys ≡ length (take k (drop m b))
-      → result o ys ≡ askedOn (take k (drop m b)) (askedAt calls texts i) → (refusals' : List ℕ) (answers' : List ℤ) → Stored refusals answers i o refusals' answers'
+      → plain (result o ys) ≡ askedOn (take k (drop m b)) (askedAt calls texts i) → (refusals' : List ℕ) (answers' : List ℤ) → Stored refusals answers i o refusals' answers'
       → TurnMade calls texts blocks refusals answers i (take m b ++ (ys ++ R)) refusals' answers'
   turned b copied m k e f space o ys R w made refusals' answers' stored =
       let room : m ≤ length b = omega arith in
@@ -73,7 +74,7 @@ module _ (calls texts blocks refusals : List ℕ) (answers : List ℤ) (i : ℕ)
       let before : take k (drop m b) ≡ slot (take m b ++ (ys ++ R)) i = slot-part b (suc i) m k e f ∙ copied .copy ∙ sym (kept i (omega arith)) in
       let here = stored .here in
       record {
-        made = (λ p. result (here p) (new p)) ∙ made ∙ ap (λ (z : List ℕ). askedOn z (askedAt calls texts i)) before;
+        made = (λ p. plain (result (here p) (new p))) ∙ made ∙ ap (λ (z : List ℕ). askedOn z (askedAt calls texts i)) before;
         slots = kept;
         kept = stored .kept;
       }
@@ -107,7 +108,7 @@ through-on calls texts blocks refusals answers k h blocks' refusals' answers' t 
         let a = t .kept j n in
         let b = t .slots j (omega arith) in
         let d = t .slots (suc j) n in
-        (λ p. result (a p) (d p)) ∙ h .made j n ∙ ap (λ (z : List ℕ). askedOn z (askedAt calls texts j)) (sym b)
+        (λ p. plain (result (a p) (d p))) ∙ h .made j n ∙ ap (λ (z : List ℕ). askedOn z (askedAt calls texts j)) (sym b)
 
 map-tabulate : {A B : Type 0} (g : A → B) (f : ℕ → A) (i n : ℕ) → map g (tabulate f i n) ≡ tabulate (λ k. g (f k)) i n
 map-tabulate g f i zero = refl
@@ -121,7 +122,7 @@ module _ (calls texts blocks refusals : List ℕ) (answers : List ℤ) where
   history-from : (i n : ℕ) (b : List ℕ) → slot blocks i ≡ b → MadeFrom i n → History askedOn bytesLeft b (tabulate (entryIn calls texts blocks refusals answers) i n)
   history-from i zero b e h = tt
   history-from i (suc n) b e h = (
-    subst (λ (z : List ℕ). result (returnedAt refusals answers i) (slot blocks (suc i)) ≡ askedOn z (askedAt calls texts i)) e (h i (omega arith) (omega arith)),
+    subst (λ (z : List ℕ). plain (result (returnedAt refusals answers i) (slot blocks (suc i))) ≡ askedOn z (askedAt calls texts i)) e (h i (omega arith) (omega arith)),
     history-from (suc i) n (slot blocks (suc i)) refl (λ j l m. h j (omega arith) (omega arith)),
   )
 
@@ -130,9 +131,9 @@ module _ (calls texts blocks refusals : List ℕ) (answers : List ℤ) where
   slots-from i zero (suc k) b e h l = absurd (not-suc-le-zero l)
   slots-from i (suc n) (suc k) b e h l =
       let q : Asked = askedAt calls texts i in
-      let after : slot blocks (suc i) ≡ askedOn b q .bytes = ap (λ (r : Result). r .bytes) (h i (omega arith) (omega arith)) ∙ ap (λ (z : List ℕ). askedOn z q .bytes) e in
+      let after : slot blocks (suc i) ≡ bytesLeft (askedOn b q) = ap bytesLeft (h i (omega arith) (omega arith)) ∙ ap (λ (z : List ℕ). bytesLeft (askedOn z q)) e in
       let z : i + suc k ≡ suc i + k = omega arith in
-      ap (slot blocks) z ∙ slots-from (suc i) n k (askedOn b q .bytes) after (λ j x y. h j (omega arith) (omega arith)) (le-of-suc-le-suc l)
+      ap (slot blocks) z ∙ slots-from (suc i) n k (bytesLeft (askedOn b q)) after (λ j x y. h j (omega arith) (omega arith)) (le-of-suc-le-suc l)
 
   pub replayed : (n : ℕ) → n ≡ callCount calls → Through calls texts blocks refusals answers n → Replayed calls texts blocks refusals answers
   replayed n e h = record { first = h .first; slots = λ i l. slots i l; places = λ i x a. places i x a }
@@ -148,9 +149,9 @@ module _ (calls texts blocks refusals : List ℕ) (answers : List ℤ) where
           let q : i ≡ 0 + i = omega arith in
           ap (slot blocks) q ∙ slots-from 0 (callCount calls) i (encode fresh) (h .first) made (subst (λ (k : ℕ). i ≤ k) size l)
 
-      places : (i : ℕ) (x : Entry Asked Result) → At (entriesIn calls texts blocks refusals answers) i x → PlaceRight askedOn LeavesRight (blockAt (askedIn calls texts) i) (x .asked) (x .outcome)
+      places : (i : ℕ) (x : Entry Asked Effect) → At (entriesIn calls texts blocks refusals answers) i x → PlaceRight askedOn LeavesRight (blockAt (askedIn calls texts) i) (x .asked) (x .outcome)
       places i x a =
-          subst (λ (qs : List Asked). PlaceRight askedOn LeavesRight (blockAt qs i) (x .asked) (x .outcome)) (map-tabulate (λ (y : Entry Asked Result). y .asked) (entryIn calls texts blocks refusals answers) 0 (callCount calls))
+          subst (λ (qs : List Asked). PlaceRight askedOn LeavesRight (blockAt qs i) (x .asked) (x .outcome)) (map-tabulate (λ (y : Entry Asked Effect). y .asked) (entryIn calls texts blocks refusals answers) 0 (callCount calls))
           (demand3 .places (entriesIn calls texts blocks refusals answers) (history-from 0 (callCount calls) (encode fresh) (h .first) made) i x a)
 
 -- ── what is returned ──

@@ -15,9 +15,9 @@ use Rattle.rules.specs.Trace.{Entry, PlaceRight}
 use Rattle.block.specs.Layout.{blockSize}
 use Rattle.block.specs.Bytes.{readAll, allFrom}
 use Rattle.block.specs.Block.{encode}
-use Rattle.register.specs.CallOn.{Result}
 use Rattle.register.specs.Made.{refusedBy, result, Made}
-use Rattle.demands.specs.History.{Asked, asks, reckons, lentTo, askedOn, LeavesRight, blockAt}
+use Rattle.slips.specs.Slip.{Effect}
+use Rattle.demands.specs.History.{Asked, asks, reckons, lentTo, plain, askedOn, LeavesRight, blockAt}
 use Rattle.register.specs.declared.Answer.{Answer}
 
 -- ── one call ──
@@ -86,10 +86,10 @@ returnedAt refusals answers i =
     record { refusal = getD refusals i 0; first = getD answers (answersPerCall * i) (pos 0); second = getD answers (answersPerCall * i + 1) (pos 0); third = getD answers (answersPerCall * i + 2) (pos 0) }
 
 -- every call with what it returned and the block that it left
-abbrev pub entryIn : List ℕ → List ℕ → List ℕ → List ℕ → List ℤ → ℕ → Entry Asked Result
-entryIn calls texts blocks refusals answers i = record { asked = askedAt calls texts i; outcome = result (returnedAt refusals answers i) (slot blocks (suc i)) }
+abbrev pub entryIn : List ℕ → List ℕ → List ℕ → List ℕ → List ℤ → ℕ → Entry Asked Effect
+entryIn calls texts blocks refusals answers i = record { asked = askedAt calls texts i; outcome = plain (result (returnedAt refusals answers i) (slot blocks (suc i))) }
 
-abbrev pub entriesIn : List ℕ → List ℕ → List ℕ → List ℕ → List ℤ → List (Entry Asked Result)
+abbrev pub entriesIn : List ℕ → List ℕ → List ℕ → List ℕ → List ℤ → List (Entry Asked Effect)
 entriesIn calls texts blocks refusals answers = tabulate (entryIn calls texts blocks refusals answers) 0 (callCount calls)
 
 -- ── refusals ──
@@ -126,7 +126,7 @@ replayRefusal calls texts blocks refusals answers =
 pub record Replayed (calls texts blocks refusals : List ℕ) (answers : List ℤ) : Type 0 where
   pub first : slot blocks 0 ≡ encode fresh
   pub slots : (i : ℕ) → i ≤ length (askedIn calls texts) → slot blocks i ≡ blockAt (askedIn calls texts) i
-  pub places : (i : ℕ) (e : Entry Asked Result) → At (entriesIn calls texts blocks refusals answers) i e → PlaceRight askedOn LeavesRight (blockAt (askedIn calls texts) i) (e .asked) (e .outcome)
+  pub places : (i : ℕ) (e : Entry Asked Effect) → At (entriesIn calls texts blocks refusals answers) i e → PlaceRight askedOn LeavesRight (blockAt (askedIn calls texts) i) (e .asked) (e .outcome)
 
 -- r is returned; the buffers held blocks, refusals, answers and hold blocks', refusals', answers'
 pub record ReplayMade (calls texts blocks refusals : List ℕ) (answers : List ℤ) (r : ℕ) (blocks' refusals' : List ℕ) (answers' : List ℤ) : Type 0 where

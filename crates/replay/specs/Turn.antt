@@ -9,7 +9,7 @@ use lib.IntN.{ℤ}
 use Rattle.block.specs.Layout.{blockSize}
 use Rattle.register.specs.Made.{result}
 use Rattle.register.specs.declared.Answer.{Answer}
-use Rattle.demands.specs.History.{reckons, lentTo, askedOn}
+use Rattle.demands.specs.History.{reckons, lentTo, plain, askedOn}
 use Rattle.replay.specs.Replay.{isCall, callOf, answersPerCall, callIn, textIn, callCount, askedAt, numberAt, slot, returnedAt, textFits, textFitsAt}
 use Rattle.replay.specs.declared.Place.{Place}
 
@@ -48,7 +48,7 @@ pub record Ready (calls texts : List ℕ) (i : ℕ) (b r : List ℕ) (a : List �
 
 -- call i, made on slot i, returned what is stored for it and left the slot after it
 abbrev pub MadeAt : List ℕ → List ℕ → List ℕ → List ℕ → List ℤ → ℕ → Type 0
-MadeAt calls texts blocks refusals answers i = result (returnedAt refusals answers i) (slot blocks (suc i)) ≡ askedOn (slot blocks i) (askedAt calls texts i)
+MadeAt calls texts blocks refusals answers i = plain (result (returnedAt refusals answers i) (slot blocks (suc i))) ≡ askedOn (slot blocks i) (askedAt calls texts i)
 
 -- call i was made; the slots and answers before it were kept
 pub record TurnMade (calls texts blocks refusals : List ℕ) (answers : List ℤ) (i : ℕ) (blocks' refusals' : List ℕ) (answers' : List ℤ) : Type 0 where

@@ -5,7 +5,7 @@ ghost use lib.Dec.{T};
 ghost use lib.ListN.{length, getD, drop};
 ghost use Rattle.block.specs.Layout.{blockSize};
 ghost use Rattle.register.specs.Made.{result};
-ghost use Rattle.demands.specs.History.{askedOn};
+ghost use Rattle.demands.specs.History.{plain, askedOn};
 ghost use Rattle.replay.specs.Replay.{isCall, callOf, CallMade, numbersPerCall, answersPerCall, askIn, isSized, textFits, allTexts, allCalls, ReplayMade};
 ghost use Rattle.replay.specs.Turn.{Reckoning, TextPlaced, SlotCopied, Stored, Ready, TurnMade};
 use block::layout;
@@ -192,7 +192,7 @@ fn store(refusals: &mut [u32], answers: &mut [i32], i: usize, o: Answer)
 // The call whose numbers begin at `at`, with its text.
 fn call_at(calls: &[u32], at: usize, texts: &[u8], block: &mut [u8]) -> Answer
     requires { ⌜ (at + numbersPerCall ≤ length (now calls)) × T (isCall (getD (now calls) at 0)) × T (textFits (drop at (now calls)) (length (now texts))) ⌝ }
-    ensures { λ r. ⌜ result r (now (block .exit)) ≡ askedOn (now (block .entry)) (askIn (now (texts .entry)) (drop at (now (calls .entry)))) ⌝ }
+    ensures { λ r. ⌜ plain (result r (now (block .exit))) ≡ askedOn (now (block .entry)) (askIn (now (texts .entry)) (drop at (now (calls .entry)))) ⌝ }
 {
     let place = text_place(calls, at);
     let begin = place.begin;

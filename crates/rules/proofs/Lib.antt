@@ -17,6 +17,7 @@ pub mod OwnPair
 pub mod Granting
 pub mod Calls
 pub mod Lifting
+pub mod Cutting
 pub mod Retiring
 pub mod Still
 pub mod Firm

@@ -1,10 +1,15 @@
 -- The one induction down a list of calls: at every place of every history the outcome is that of the definitions. Assumes nothing.
 use mathlib.Core.Path.{_≡_, refl, sym, ap, subst, _∙_}
+use mathlib.Core.Logic.{_⊎_, inl, inr}
+use mathlib.Core.Bool.{not}
 use mathlib.Core.List.{List, [], _∷_, map, List·Memᴰ·head, List·Memᴰ·tail}
-use Prim.Native.Nat.{ℕ, zero, suc}
+use Prim.Native.Nat.{ℕ, zero, suc, _≤_, _<_}
+use native.Mathlib.Omega.{arith}
+use lib.Dec.{T, leb, leb→le, nleb→lt}
 use lib.ListN.{take}
 use Rattle.rules.specs.List.{_∈_, At}
 use Rattle.rules.specs.Trace.{Entry, allAsked, traceFrom, stateFrom, History, AtEveryPlace, PlaceRight}
+use Rattle.rules.proofs.Lists.{either}
 
 module _ {S A O : Type 0} (step : S → A → O) (left : O → S) where
   -- what each of the first i calls keeps holds of the state that they lead to
@@ -16,6 +21,28 @@ module _ {S A O : Type 0} (step : S → A → O) (left : O → S) where
   -- what every call keeps holds of every state that the definitions lead to
   pub stays : (P : S → Type 0) → ((s : S) (c : A) → P s → P (left (step s c))) → (s : S) (cs : List A) (i : ℕ) → P s → P (stateFrom step left s cs i)
   stays P k s cs i p = stays-each P (λ c. Unit {0}) (λ s c q p. k s c p) s cs i (λ c m. tt) p
+
+  -- one call more, or none is left
+  next-state : (s : S) (cs : List A) (i : ℕ) → ((c : A) × At cs i c × (stateFrom step left s cs (suc i) ≡ left (step (stateFrom step left s cs i) c))) ⊎ (stateFrom step left s cs (suc i) ≡ stateFrom step left s cs i)
+  next-state s [] zero = inr refl
+  next-state s [] (suc i) = inr refl
+  next-state s (c ∷ cs) zero = inl (c, refl, refl)
+  next-state s (c ∷ cs) (suc i) = next-state (left (step s c)) cs i
+
+  -- what each call keeps holds of every state, also where what is asked of a call follows from what holds of the states up to it
+  pub stays-from : (P : S → Type 0) (Q : A → Type 0) → ((s : S) (c : A) → Q c → P s → P (left (step s c))) → (s : S) (cs : List A) (n : ℕ)
+      → ((j : ℕ) (c : A) → j < n → At cs j c → ((i : ℕ) → i ≤ j → P (stateFrom step left s cs i)) → Q c) → P s → (i : ℕ) → i ≤ n → P (stateFrom step left s cs i)
+  stays-from P Q k s cs zero q p i l = let e : 0 ≡ i = omega (arith, l) in subst (λ (m : ℕ). P (stateFrom step left s cs m)) e p
+  stays-from P Q k s cs (suc n) q p i l = go (stays-from P Q k s cs n (λ j c b. q j c (omega (arith, b))) p) (either (leb i n))
+    where
+      last : ((i : ℕ) → i ≤ n → P (stateFrom step left s cs i))
+          → ((c : A) × At cs n c × (stateFrom step left s cs (suc n) ≡ left (step (stateFrom step left s cs n) c))) ⊎ (stateFrom step left s cs (suc n) ≡ stateFrom step left s cs n) → P (stateFrom step left s cs (suc n))
+      last upto (inl (c, a, e)) = subst P (sym e) (k (stateFrom step left s cs n) c (q n c (omega arith) a upto) (upto n (omega arith)))
+      last upto (inr e) = subst P (sym e) (upto n (omega arith))
+
+      go : ((i : ℕ) → i ≤ n → P (stateFrom step left s cs i)) → T (leb i n) ⊎ T (not (leb i n)) → P (stateFrom step left s cs i)
+      go upto (inl b) = upto i (leb→le i n b)
+      go upto (inr b) = let e : suc n ≡ i = omega (arith, nleb→lt i n b, l) in subst (λ (m : ℕ). P (stateFrom step left s cs m)) e (last upto (next-state s cs n))
 
   followed : (s : S) → AtEveryPlace step left s (λ (r : S) (c : A) (o : O). o ≡ step r c)
   followed s [] h i e m = absurd m

@@ -1,9 +1,9 @@
--- The calls of a list (document 01, 'Calls'; document 02, C-15 and C-16). Every number is what the caller passed, whatever it is. Assumes nothing.
+-- The calls of a list (document 01, 'Calls'; document 02, C-15 to C-17). Every number is what the caller passed, whatever it is. Assumes nothing.
 use mathlib.Core.Path.{_≡_}
 use mathlib.Core.List.{[], _∷_, _++_}
 use Prim.Native.Nat.{ℕ, suc}
 use Rattle.rules.specs.Register.{Delegation, Register}
-use Rattle.rules.specs.Cut.{Change, cutting, marking, retirement, removal, lowering}
+use Rattle.rules.specs.Cut.{Cut, Change, cutting, marking, retirement, removal, lowering}
 
 pub data Call : Type 0 where
   enrol : (marks : ℕ) → Call
@@ -33,3 +33,8 @@ Makes (askReach g r) k = ⊥
 Makes (askUse r) k = ⊥
 Makes (setMarks y s m) k = k ≡ marking s m
 Makes (retire y s) k = k ≡ retirement s
+
+-- the call by y that makes a cut
+abbrev pub cutCall : ℕ → Cut → Call
+cutCall y (removal g r) = revoke y g r
+cutCall y (lowering g r w) = downgrade y g r w

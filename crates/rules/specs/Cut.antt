@@ -14,6 +14,11 @@ pub data Cut : Type 0 where
   removal : (giver receiver : ℕ) → Cut
   lowering : (giver receiver weight : ℕ) → Cut
 
+-- the giver of that pair
+abbrev pub giverOf : Cut → ℕ
+giverOf (removal g r) = g
+giverOf (lowering g r w) = g
+
 -- the named change (document 01's term)
 unfoldable pub named : Register → Cut → Register
 named R (removal g r) = withDelegations R (filter (λ d. not (isPair g r d)) (R .delegations))

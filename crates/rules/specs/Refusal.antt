@@ -1,4 +1,4 @@
--- Refusals (document 01, 'Turned back by what was passed' and 'Turned back by what the register holds'; document 02, C-12 to C-16): each number with the test under which it applies, and for each call
+-- Refusals (document 01, 'Turned back by what was passed' and 'Turned back by what the register holds'; document 02, C-12 to C-17): each number with the test under which it applies, and for each call
 -- two ordered lists of them. The refusal is the first that applies of 1, `passed`, 8 and `held`; 1 and 8 speak of bytes and have no place in a register. Assumes nothing.
 use mathlib.Core.Bool.{Bool, cond, not, _&&_, _||_}
 use mathlib.Core.List.{List, [], _∷_, _++_}
@@ -138,3 +138,10 @@ orderPassed v = noSubject (v ∷ []) ∷ toOwner v ∷ []
 
 abbrev pub orderHeld : Register → ℕ → List (ℕ × Bool)
 orderHeld R v = subjectsHeld R (v ∷ [])
+
+-- ── taking a cut back (document 02, C-17) by y, g being the giver on the slip: only y is named. 1 of the slip, and 20, which follows these, speak of bytes and have no place in a register ──
+abbrev pub backPassed : ℕ → List (ℕ × Bool)
+backPassed y = noSubject (y ∷ []) ∷ []
+
+abbrev pub backHeld : Register → (by giver : ℕ) → List (ℕ × Bool)
+backHeld R y g = subjectsHeld R (y ∷ []) ++ (mayNot y g ∷ [])

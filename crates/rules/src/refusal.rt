@@ -31,6 +31,8 @@ pub const NO_PAIR: u32 = 13;
 
 pub const MAY_NOT: u32 = 14;
 
+pub const OTHER_SLIP: u32 = 20;
+
 pub const NOT_BELOW: u32 = 15;
 
 pub const OVERWEIGHT: u32 = 16;

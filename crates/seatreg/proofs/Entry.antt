@@ -1,17 +1,18 @@
 -- The ways of an entry point: an answers buffer of another length, a call accepted, a call refused. Assumes nothing.
 use mathlib.Core.Path.{_≡_, refl, sym, ap, subst, _∙_}
 use mathlib.Core.Logic.{_≢_}
-use mathlib.Core.Bool.{Bool, cond}
+use mathlib.Core.Bool.{Bool, true, false, cond}
 use mathlib.Core.List.{List, _++_}
 use Prim.Native.Nat.{ℕ, _*_}
 use native.Mathlib.Omega.{arith}
 use borrow.Author.Tests.{eq-eqb, ne-eqb}
+use lib.Dec.{eqb}
 use lib.ListN.{length, drop}
 use lib.IntN.{ℤ, pos}
 use Rattle.rules.specs.Register.{Register}
 use Rattle.rules.specs.Order.{orderBytes}
 use Rattle.rules.proofs.Order.{order-length}
-use Rattle.rules.specs.Cut.{changed}
+use Rattle.rules.specs.Cut.{Cut, changed}
 use Rattle.rules.specs.Call.{Call}
 use Rattle.rules.specs.History.{CutRight}
 use Rattle.block.specs.Block.{decode}
@@ -22,14 +23,16 @@ use Rattle.register.specs.Made.{result, Made, MadeOpen}
 use Rattle.register.specs.Bring.{bringOn, BringMade}
 use Rattle.register.specs.Cuts.{onRegister, CutMade}
 use Rattle.register.specs.declared.Answer.{Answer}
+use Rattle.slips.specs.Slip.{Effect, SlipMade}
+use Rattle.slips.specs.TakeBack.{takeBackOn, TakeBackMade}
 use Rattle.transfer.specs.FileOn.{writeRefusal, WriteMade, ReadMade}
 use Rattle.transfer.specs.RoundTrip.{reading}
 use Rattle.transfer.specs.declared.Filled.{Filled}
 use Rattle.order.specs.Items.{itemSize}
 use Rattle.order.specs.OrderOn.{orderRefusalOn, IsOrderBytes, OrderMade}
 use Rattle.order.specs.declared.Listed.{Listed}
-use Rattle.seatreg.specs.Answers.{answerBytes}
-use Rattle.seatreg.specs.Entry.{handedOut, wrongAnswers, entryOf, entryOn, entryOpen, EntryMade, EntryOpened, EntryBroughtOver, EntryReadMade, EntryFilled, EntryWriteMade, EntryOrderMade, EntryCutRight, EntryCutMade, toldBy, AnswersPut}
+use Rattle.seatreg.specs.Answers.{answersSize, answerBytes}
+use Rattle.seatreg.specs.Entry.{EntryEffect, handedOut, wrongAnswers, entryOf, entryOn, entryOpen, EntryMade, EntryOpened, EntryBroughtOver, EntryReadMade, EntryFilled, EntryWriteMade, EntryOrderMade, EntryCutRight, EntryCutMade, effectOf, EntrySlipMade, EntryTakeBackMade, toldBy, AnswersPut}
 
 -- ── what is handed out ──
 module _ (o : Answer) (a : List ℕ) where
@@ -103,6 +106,43 @@ module _ (old b a : List ℕ) where
 
   pub bring-made : length a ≡ 12 → (o : Answer) (b' : List ℕ) → BringMade old b o b' → (n : ℕ) (a' : List ℕ) → AnswersPut o a n a' → EntryBroughtOver old b a n b' a'
   bring-made l o b' e n a' h = made-of (bringOn old b) b a l o b' e n a' h
+
+-- ── of a cut with a slip, and of taking it back ──
+-- with a slip buffer or without
+pub returned-of : (e : Effect) (b a s : List ℕ) → effectOf e b a s .returned ≡ entryOf (e .result) b a
+returned-of e b a s = go (eqb (length a) answersSize)
+  where
+    go : (x : Bool) → let o : EntryEffect = cond x record { returned = handedOut (e .result) a; slip = e .slip } record { returned = wrongAnswers b a; slip = s } in o .returned ≡ cond x (handedOut (e .result) a) (wrongAnswers b a)
+    go true = refl
+    go false = refl
+
+-- an accepted entry point: the call was accepted, and the block and the slip buffer are the call's
+pub entry-accepted : (o : Effect) (b a s : List ℕ) → effectOf o b a s .returned .refusal ≡ 0 → (o .result .refusal ≡ 0) × (effectOf o b a s .returned .block ≡ o .result .bytes) × (effectOf o b a s .slip ≡ o .slip)
+entry-accepted o b a s = go (eqb (length a) answersSize)
+  where
+    go : (x : Bool) → let e : EntryEffect = cond x record { returned = handedOut (o .result) a; slip = o .slip } record { returned = wrongAnswers b a; slip = s } in e .returned .refusal ≡ 0 → (o .result .refusal ≡ 0) × (e .returned .block ≡ o .result .bytes) × (e .slip ≡ o .slip)
+    go true = λ z. (z, refl, refl)
+    go false = λ z. absurd (omega arith)
+
+module _ (g : Given) (y : ℕ) (k : Cut) (b s a : List ℕ) where
+  pub slip-short : length a ≢ 12 → EntrySlipMade g y k b s a 1 b s a
+  slip-short n = record { outcome = rw (ne-eqb (length a) 12 n); leaves = λ c i z. absurd (omega arith) }
+
+  pub slip-made : length a ≡ 12 → (o : Answer) (b' s' : List ℕ) → SlipMade g y k b s o b' s' → (n : ℕ) (a' : List ℕ) → AnswersPut o a n a' → EntrySlipMade g y k b s a n b' s' a'
+  slip-made l o b' s' m n a' h = record {
+    outcome =
+        (λ i. record { returned = record { refusal = h .0 i; block = b'; answers = h .1 i }; slip = s' })
+        ∙ ap (λ (e : Effect). record { returned = handedOut (e .result) a; slip = e .slip }) (m .outcome)
+        ∙ rw (eq-eqb (length a) 12 l);
+    leaves = λ c i z. let q = sym (h .0) ∙ z in let (right, lifts) = m .leaves c i q in (cut-left (g .steps) (changed (decode b) c) o n b' a' q right (accepted-bytes o a n a' h z), lifts);
+  }
+
+module _ (g : Given) (y : ℕ) (s b a : List ℕ) where
+  pub back-short : length a ≢ 12 → EntryTakeBackMade g y s b a 1 b a
+  back-short n = short-of (takeBackOn g b y s) b a n
+
+  pub back-made : length a ≡ 12 → (o : Answer) (b' : List ℕ) → TakeBackMade g y s b o b' → (n : ℕ) (a' : List ℕ) → AnswersPut o a n a' → EntryTakeBackMade g y s b a n b' a'
+  back-made l o b' e n a' h = made-of (takeBackOn g b y s) b a l o b' e n a' h
 
 -- ── of a read ──
 module _ (text table b a : List ℕ) where

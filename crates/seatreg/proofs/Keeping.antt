@@ -12,7 +12,8 @@ use lib.Seq.{drop-at}
 use lib.IntN.{ℤ, pos, negsuc}
 use Rattle.rules.specs.Limit.{code, _≼_, fromNone}
 use Rattle.rules.specs.Table.{TableRule}
-use Rattle.rules.specs.Call.{Call, enrol, grant, revoke, downgrade, askReach, askUse, setMarks, retire, fresh}
+use Rattle.rules.specs.Cut.{Cut}
+use Rattle.rules.specs.Call.{Call, enrol, grant, revoke, downgrade, askReach, askUse, setMarks, retire, fresh, cutCall}
 use Rattle.rules.specs.Ranges.{FromTo, Unused, CutInRange, InRange}
 use Rattle.rules.proofs.Table.{steps-rule}
 use Rattle.rules.proofs.Calls.{fresh-formed}
@@ -31,6 +32,8 @@ use Rattle.regfile.specs.FileText.{fileText}
 use Rattle.regfile.proofs.Sizes.{file-some, file-short}
 use Rattle.register.specs.CallOn.{Result, turned, callOn, openOn}
 use Rattle.register.specs.Bring.{bringOn}
+use Rattle.slips.specs.Slip.{Effect, slippedOn}
+use Rattle.slips.specs.TakeBack.{takeBackOn}
 use Rattle.transfer.specs.FileOn.{writeRefusal}
 use Rattle.transfer.specs.RoundTrip.{reading}
 use Rattle.transfer.proofs.Writing.{write-through}
@@ -38,12 +41,13 @@ use Rattle.order.specs.Items.{orderSize}
 use Rattle.order.specs.OrderOn.{orderRefusalOn, IsOrderBytes}
 use Rattle.order.proofs.OrderWays.{order-through}
 use Rattle.demands.specs.History.{reads}
-use Rattle.demands.specs.Kept.{mostWritten}
-use Rattle.demands.proofs.Keeping.{kept, kept-open, kept-bring, kept-read}
+use Rattle.demands.specs.Kept.{KeptSlip, mostWritten}
+use Rattle.demands.proofs.Keeping.{kept, kept-open, kept-bring, kept-slip, kept-back, kept-read}
 use Rattle.demands.proofs.History.{bytes-left}
 use Rattle.seatreg.specs.Answers.{answersSize, answerBytes, answerIn}
-use Rattle.seatreg.specs.Entry.{wrongAnswers, entryOf, entryOn, entryOpen, EntryFilled, EntryWriteMade, EntryOrderMade}
-use Rattle.seatreg.specs.Kept.{BuffersKept, AllUnused, EntryKept, EntryKeptOpen, EntryKeptBring, EntryKeptRead, EntryKeptFilled, EntryKeptWrite, EntryKeptOrder}
+use Rattle.seatreg.specs.Entry.{EntryEffect, handedOut, wrongAnswers, entryOf, entryOn, entryOpen, EntryFilled, EntryWriteMade, EntryOrderMade}
+use Rattle.seatreg.specs.Kept.{BuffersKept, AllUnused, EntryKept, EntryKeptOpen, EntryKeptBring, EntryKeptBack, EntryKeptSlip, EntryKeptRead, EntryKeptFilled, EntryKeptWrite, EntryKeptOrder}
+use Rattle.seatreg.proofs.Entry.{returned-of, entry-accepted}
 use Rattle.seatreg.proofs.AnswerBytes.{Fits32, length-answers, bytes-answers, first-back, second-back, third-back}
 
 -- ── answers in range have 32 bits ──
@@ -203,6 +207,45 @@ entry-kept-read text table b a found lent =
       fits = λ e. unused-fit (r .first) (r .second) (r .third) (k .range e);
       bytes = bytes-left b (reads text table) found;
     }
+
+-- ── a cut with a slip, and taking it back ──
+pub entry-kept-back : (text : List ℕ) (y : ℕ) (s b a : List ℕ) → IsBytes s → IsBytes b → IsBytes a → EntryKeptBack (given text) y s b a
+entry-kept-back text y s b a handed found lent =
+    let k = kept-back (given text) (given-keeps text) b y s handed in
+    let r = takeBackOn (given text) b y s in
+    kept-of AllUnused b a found lent r record {
+      refused = k .refused;
+      formed = k .formed;
+      range = k .range;
+      fits = λ e. unused-fit (r .first) (r .second) (r .third) (k .range e);
+      bytes = k .bytes found handed;
+    }
+
+pub entry-kept-slip : (text : List ℕ) (y : ℕ) (k : Cut) (b s a : List ℕ) → IsBytes b → IsBytes a → EntryKeptSlip (given text) y k b s a
+entry-kept-slip text y k b s a found lent = record {
+  buffers = subst (BuffersKept (InRange (cutCall y k)) b a) (sym (returned-of e b a s)) (kept-of (InRange (cutCall y k)) b a found lent r record {
+    refused = λ n. m .refused n .0;
+    formed = m .formed;
+    range = m .range;
+    fits = λ z. all-fit (cutCall y k) (r .first) (r .second) (r .third) (m .range z);
+    bytes = m .bytes;
+  });
+  refused = go (eqb (length a) answersSize);
+  written = λ z. let (q, _, w) = entry-accepted e b a s z in let (u, v) = m .written q in (m .size q, ap length w ∙ u, subst IsBytes (sym w) v);
+}
+  where
+    e : Effect
+    e = slippedOn (given text) s y b k
+
+    r : Result
+    r = e .result
+
+    m : KeptSlip (given text) s y b k
+    m = kept-slip (given text) (given-keeps text) s y b k found
+
+    go : (x : Bool) → let o : EntryEffect = cond x record { returned = handedOut r a; slip = e .slip } record { returned = wrongAnswers b a; slip = s } in o .returned .refusal ≢ 0 → o .slip ≡ s
+    go true n = m .refused n .1
+    go false n = refl
 
 -- ── write and order ──
 

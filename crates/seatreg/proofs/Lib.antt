@@ -3,3 +3,4 @@ pub mod AnswerBytes
 pub mod Entry
 pub mod Keeping
 pub mod History
+pub mod TakingBack

@@ -1,5 +1,5 @@
 -- What every C entry point promises: one relation of what is given with the step table's text, the call, both buffers before, the number returned and both buffers after (document 01, 'Calls'; document 02,
--- C-11 and C-13 to C-16). Assumes nothing.
+-- C-11 and C-13 to C-17). Assumes nothing.
 use mathlib.Core.Path.{_≡_}
 use mathlib.Core.Logic.{_≢_}
 use mathlib.Core.Bool.{cond}
@@ -9,8 +9,8 @@ use lib.Dec.{eqb}
 use lib.ListN.{length, drop}
 use lib.IntN.{ℤ, pos}
 use Rattle.rules.specs.Register.{Register}
-use Rattle.rules.specs.Cut.{Change, changed}
-use Rattle.rules.specs.Call.{Call, Makes}
+use Rattle.rules.specs.Cut.{Cut, Change, changed}
+use Rattle.rules.specs.Call.{Call, Makes, cutCall}
 use Rattle.rules.specs.Remainder.{LiftsNothing}
 use Rattle.rules.specs.CallStep.{answered}
 use Rattle.rules.specs.Trace.{PlaceRight}
@@ -21,6 +21,8 @@ use Rattle.regfile.specs.FileText.{fileText}
 use Rattle.register.specs.CallOn.{Result, callOn, openOn}
 use Rattle.register.specs.Bring.{bringOn}
 use Rattle.register.specs.declared.Answer.{Answer}
+use Rattle.slips.specs.Slip.{Effect, slippedOn}
+use Rattle.slips.specs.TakeBack.{takeBackOn}
 use Rattle.transfer.specs.FileOn.{writeRefusal}
 use Rattle.transfer.specs.RoundTrip.{reading}
 use Rattle.order.specs.OrderOn.{orderRefusalOn, IsOrderBytes}
@@ -47,6 +49,15 @@ wrongAnswers b a = record { refusal = 1; block = b; answers = a }
 -- the entry point of a library call that results in r: the length of the answers buffer comes before anything else
 abbrev pub entryOf : Result → List ℕ → List ℕ → Returned
 entryOf r b a = cond (eqb (length a) answersSize) (handedOut r a) (wrongAnswers b a)
+
+-- what was returned, and the slip buffer afterwards, empty where none was lent
+pub record EntryEffect : Type 0 where
+  pub returned : Returned
+  pub slip : List ℕ
+
+-- the entry point of a library call that comes to e, lent the slip buffer s
+abbrev pub effectOf : Effect → (block answers slip : List ℕ) → EntryEffect
+effectOf e b a s = cond (eqb (length a) answersSize) record { returned = handedOut (e .result) a; slip = e .slip } record { returned = wrongAnswers b a; slip = s }
 
 -- the calls of a list on any block and any answers buffer, and open
 unfoldable pub entryOn : Given → (answers block : List ℕ) → Call → Returned
@@ -102,6 +113,15 @@ EntryCutsRight t b c r = (k : Change) → Makes c k → r .refusal ≡ 0 → Ent
 -- `EntryMade`, and that: what demand 3 claims of a place, at the block that the call was handed
 abbrev pub EntryCutMade : Given → Call → List ℕ → List ℕ → ℕ → List ℕ → List ℕ → Type 0
 EntryCutMade g c b a n b' a' = PlaceRight (entryOn g a) (EntryCutsRight (g .steps)) b c record { refusal = n; block = b'; answers = a' }
+
+-- so of a cut k by y that is lent a slip buffer: the buffers held b, s and a, and hold b', s' and a'
+abbrev pub EntrySlipMade : Given → (by : ℕ) → Cut → (b s a : List ℕ) → ℕ → (b' s' a' : List ℕ) → Type 0
+EntrySlipMade g y k b s a n b' s' a' = PlaceRight (λ c d. effectOf (slippedOn g s y c d) c a s) (λ c d e. EntryCutsRight (g .steps) c (cutCall y d) (e .returned)) b k
+    record { returned = record { refusal = n; block = b'; answers = a' }; slip = s' }
+
+-- of a slip s handed in by y
+abbrev pub EntryTakeBackMade : Given → (by : ℕ) → (s b a : List ℕ) → ℕ → (b' a' : List ℕ) → Type 0
+EntryTakeBackMade g y s b a n b' a' = record { refusal = n; block = b'; answers = a' } ≡ entryOf (takeBackOn g b y s) b a
 
 -- a number and one answer
 abbrev pub toldBy : ℕ → ℤ → Answer

@@ -1,10 +1,11 @@
-// The C entry points of the register: the calls on plain numbers, a lent block and twelve lent bytes for the answers, both of any length and content; those that reckon reach also with the text of a step table; the order for a receiver; the register as a file, out and in; a block of the layout before, brought over.
+// The C entry points of the register: the calls on plain numbers, a lent block and twelve lent bytes for the answers, both of any length and content; those that reckon reach also with the text of a step table; the order for a receiver; the register as a file, out and in; a block of the layout before, brought over; cuts that write a slip, and a slip handed in.
 mod answers;
 
 ghost use Rattle.rules.specs.Register.{granted};
+ghost use Rattle.rules.specs.Cut.{removal, lowering};
 ghost use Rattle.rules.specs.Call.{enrol, grant, revoke, downgrade, askReach, askUse, setMarks, retire};
 ghost use Rattle.steptable.specs.TableText.{ours, given};
-ghost use Rattle.seatreg.specs.Entry.{EntryMade, EntryOpened, EntryCutMade, EntryBroughtOver, EntryReadMade, EntryWriteMade, EntryOrderMade};
+ghost use Rattle.seatreg.specs.Entry.{EntryMade, EntryOpened, EntryCutMade, EntryBroughtOver, EntryReadMade, EntryWriteMade, EntryOrderMade, EntrySlipMade, EntryTakeBackMade};
 use rules::refusal;
 
 // Writes a fresh register: one subject, no delegation.
@@ -283,5 +284,64 @@ pub extern "C" fn seatreg_read(
         return refusal::WRONG_LENGTH;
     }
     let o = transfer::read_file(block, text, table);
+    answers::hand_out(o, answers)
+}
+
+// Revokes by the step table of a text; where accepted, writes the slip by which the cut can be taken back.
+#[no_mangle]
+pub extern "C" fn seatreg_revoke_slip(
+    block: &mut [u8],
+    by: u32,
+    giver: u32,
+    receiver: u32,
+    table: &[u8],
+    slip: &mut [u8],
+    answers: &mut [u8],
+) -> u32
+    ensures { λ r. ⌜ EntrySlipMade (given (now (table .entry))) by (removal giver receiver) (now (block .entry)) (now (slip .entry)) (now (answers .entry)) r (now (block .exit)) (now (slip .exit)) (now (answers .exit)) ⌝ }
+{
+    if answers.len() != answers::ANSWERS_SIZE {
+        return refusal::WRONG_LENGTH;
+    }
+    let o = slips::revoke_slip(block, by, giver, receiver, table, slip);
+    answers::hand_out(o, answers)
+}
+
+// Downgrades so.
+#[no_mangle]
+pub extern "C" fn seatreg_downgrade_slip(
+    block: &mut [u8],
+    by: u32,
+    giver: u32,
+    receiver: u32,
+    weight: u32,
+    table: &[u8],
+    slip: &mut [u8],
+    answers: &mut [u8],
+) -> u32
+    ensures { λ r. ⌜ EntrySlipMade (given (now (table .entry))) by (lowering giver receiver weight) (now (block .entry)) (now (slip .entry)) (now (answers .entry)) r (now (block .exit)) (now (slip .exit)) (now (answers .exit)) ⌝ }
+{
+    if answers.len() != answers::ANSWERS_SIZE {
+        return refusal::WRONG_LENGTH;
+    }
+    let o = slips::downgrade_slip(block, by, giver, receiver, weight, table, slip);
+    answers::hand_out(o, answers)
+}
+
+// Takes the cut of a slip back: puts the block before it in place, byte for byte.
+#[no_mangle]
+pub extern "C" fn seatreg_take_back(
+    block: &mut [u8],
+    by: u32,
+    table: &[u8],
+    slip: &[u8],
+    answers: &mut [u8],
+) -> u32
+    ensures { λ r. ⌜ EntryTakeBackMade (given (now (table .entry))) by (now (slip .entry)) (now (block .entry)) (now (answers .entry)) r (now (block .exit)) (now (answers .exit)) ⌝ }
+{
+    if answers.len() != answers::ANSWERS_SIZE {
+        return refusal::WRONG_LENGTH;
+    }
+    let o = slips::take_back(block, by, table, slip);
     answers::hand_out(o, answers)
 }

@@ -30,6 +30,9 @@ mod retirefaults;
 mod retirerefusals;
 mod retires;
 mod searches;
+mod slipcases;
+mod slipfaults;
+mod slips;
 mod tables;
 
 use second::random::Random;

@@ -7,10 +7,10 @@ use second::engine::FAST;
 use second::refusal::{applying, tests, Call, ALL_CALLS};
 use std::collections::{BTreeMap, BTreeSet};
 
-type Pair = (u32, u32);
+pub type Pair = (u32, u32);
 
 /// The refusals that can apply to a call, in order.
-fn refusals(call: Call) -> &'static [u32] {
+pub fn refusals(call: Call) -> &'static [u32] {
     match call {
         Call::Open => &[1],
         Call::Enrol => &[1, 4, 8, 10],

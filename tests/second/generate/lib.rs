@@ -1,6 +1,6 @@
 //! The cases that every implementation is compared on: block-level ones in
-//! five kinds, those of register files, orders, marks, retirements, lists of calls, and
-//! call files.
+//! five kinds, those of register files, orders, marks, retirements, slips, lists of calls,
+//! and call files.
 
 pub mod bits;
 pub mod broken;
@@ -9,6 +9,7 @@ pub mod callfiles;
 pub mod deep;
 pub mod drawnmarks;
 pub mod drawnretires;
+pub mod drawnslips;
 pub mod examples;
 pub mod filetexts;
 pub mod full;
@@ -29,6 +30,9 @@ pub mod retirelists;
 pub mod retireregisters;
 pub mod retires;
 pub mod rounds;
+pub mod slipregisters;
+pub mod sliprefusals;
+pub mod slips;
 pub mod slow;
 pub mod tables;
 pub mod textlists;
@@ -36,7 +40,7 @@ pub mod texts;
 pub mod unsupported;
 mod write;
 
-pub use write::{file_files, files, list_files, write_all};
+pub use write::{file_files, files, list_files, slip_files, write_all};
 
 use second::block::{Delegation, Register};
 use second::call::blank;

@@ -1,11 +1,12 @@
 //! Writes the cases: files of at most 65,536 bytes, an index and the counts.
 
-use super::{callfiles, cases, listfiles, marks, orders, registerfiles, retires, Call, Kind, KINDS};
+use super::{callfiles, cases, listfiles, marks, orders, registerfiles, retires, slips, Call, Kind, KINDS};
 use second::callfile::{print, MOST_INPUT};
 use second::casefile::{case_line, expected_line, Case};
 use second::engine::FAST;
 use second::filecase::{self, FileCase};
 use second::listfile::{expected_lines, list_line, List};
+use second::slipcase::{self, SlipCase};
 use std::fs;
 use std::io;
 use std::path::Path;
@@ -49,6 +50,23 @@ pub fn file_files(cases: &[FileCase]) -> Vec<File> {
         match files.last_mut() {
             Some(file) if file.holds(&line, &expected) => file.add(&line, &expected),
             _ => files.push(File { cases: filecase::case_line(case, None), expected }),
+        }
+        left = Some(after);
+    }
+    files
+}
+
+/// Distributes cases of the kind `slip` over files. Bytes that are already there are
+/// written `=`.
+pub fn slip_files(cases: &[SlipCase]) -> Vec<File> {
+    let mut files: Vec<File> = Vec::new();
+    let mut left = None;
+    for case in cases {
+        let line = slipcase::case_line(case, left.as_ref());
+        let (expected, after) = slipcase::expected_line(&FAST, case);
+        match files.last_mut() {
+            Some(file) if file.holds(&line, &expected) => file.add(&line, &expected),
+            _ => files.push(File { cases: slipcase::case_line(case, None), expected }),
         }
         left = Some(after);
     }
@@ -121,6 +139,9 @@ pub fn write_all(folder: &Path) -> io::Result<()> {
         counts.push_str(&format!("{name} {}\n", cases.len()));
         write_files(folder, name, "cases", &files(&cases))?;
     }
+    let of_slips = slips::cases();
+    counts.push_str(&format!("slip {}\n", of_slips.len()));
+    write_files(folder, "slip", "cases", &slip_files(&of_slips))?;
     let lists = listfiles::all();
     counts.push_str(&format!("list {}\n", lists.len()));
     write_files(folder, "list", "lists", &list_files(&lists))?;

@@ -26,7 +26,7 @@ returns-2 : tie.Need-returns-2
 returns-2 c =
     let f = c .before .before in
     let a = f .before .before .before .args in
-    order-held (a .fault) (a .block .now) (a .receiver) (f .before .order-passed .ensures) (f .early .ensures) (c .before .if1 .left) _ (c .subject-held .ensures)
+    order-held (a .fault) (a .block .now) (a .receiver) (f .before .order-passed .ensures) (f .early .ensures) (c .before .if1 .left) (c .subject-held .ensures)
 
 pub order-refusal-spec : {M : Type 1} → statement M
 order-refusal-spec = tie.close (tie.spec order-passed-requires early-requires returns subject-held-requires returns-2)
