@@ -3,7 +3,8 @@
 //! is also measured beside the same call without it; an order beside the second
 //! implementation's by a search; a read of a register file, which judges support
 //! as a round does, beside a cut of one round; a cut with a slip and the taking back,
-//! which makes the cut again, beside the cut without one.
+//! which makes the cut again, beside the cut without one; a pass-only grant and a use
+//! behind pass-only delegations beside ordinary ones.
 
 #[path = "../tests/compare/contents.rs"]
 mod contents;
@@ -19,7 +20,9 @@ use entry::{
 };
 use generate::{examples, register, retires, rounds, slow, Grant};
 use lent::Lent;
-use second::block::{encode, Delegation, Register, BLOCK_LEN, MOST_DELEGATIONS, RECORDS_AT, RETIRED_AT};
+use second::block::{
+    encode, Delegation, Register, BLOCK_LEN, MOST_DELEGATIONS, ORDINARY, PASS_ONLY, RECORDS_AT, RETIRED_AT,
+};
 use second::call::blank;
 use second::engine::FAST;
 use second::host::{
@@ -70,14 +73,20 @@ fn rows() -> Vec<Row> {
     let last = before_last.delegations.pop().expect("256 delegations");
     let mut lighter = full.clone();
     lighter.delegations[MOST_DELEGATIONS - 1].weight = 254;
+    let mut lighter_pass_only = lighter.clone();
+    lighter_pass_only.delegations[MOST_DELEGATIONS - 1].kind = PASS_ONLY;
+    let pass_only = encode(&pass_only_but_last(full.clone()));
     let deep = deep_block();
     let small = encode(&eight());
     vec![
         row("open", &block, passed(Call::Open, 0, 0, 0, 0), 0),
         row("use, full register", &block, passed(Call::Use, 0, 0, 63, 0), 0),
+        row("  all pass-only but the last delegation", &pass_only, passed(Call::Use, 0, 0, last.receiver as u32, 0), 0),
         row("reach, full register", &block, passed(Call::Reach, 0, 63, 62, 0), 0),
         row("grant of the 256th delegation", &encode(&before_last), grant_of(&last), 0),
+        row("  pass-only", &encode(&before_last), pass_only_grant_of(&last), 0),
         row("raise in a full register", &encode(&lighter), grant_of(&last), 0),
+        row("  pass-only", &encode(&lighter_pass_only), pass_only_grant_of(&last), 0),
         row("revoke, full register, one round", &block, revoke_of(&last), 1),
         row("  the same, all marks equal", &encode(&equal_marks(full)), revoke_of(&last), 1),
         row("  all limits distinct, one round", &encode(&descending()), passed(Call::Revoke, 0, 0, 5, 0), 1),
@@ -92,6 +101,7 @@ fn rows() -> Vec<Row> {
         row("the slowest cut recorded", &slow::SLOW[0].block(), slow::SLOW[0].cut(), slow::SLOW[0].rounds),
         with_text(row("reach, full register, our text", &block, passed(Call::Reach, 0, 63, 62, 0), 0)),
         with_text(row("reach, 8 subjects, our text", &small, passed(Call::Reach, 0, 7, 6, 0), 0)),
+        with_text(row("grant of a pass-only delegation, our text", &encode(&before_last), pass_only_grant_of(&last), 0)),
         with_text(row("revoke, full register, our text", &block, revoke_of(&last), 1)),
         with_text(row("revoke, 8 subjects, our text", &small, passed(Call::Revoke, 0, 0, 7, 0), 2)),
         Row {
@@ -164,7 +174,7 @@ fn with_text(row: Row) -> Row {
 }
 
 fn passed(call: Call, by: u32, giver: u32, receiver: u32, weight: u32) -> Passed {
-    Passed { call, by, giver, receiver, weight, need: 0, bar: 0 }
+    Passed { by, giver, receiver, weight, ..blank(call) }
 }
 
 fn retire(subject: u32) -> Passed {
@@ -173,6 +183,10 @@ fn retire(subject: u32) -> Passed {
 
 fn grant_of(d: &Delegation) -> Passed {
     Passed { need: d.need as u32, bar: d.bar as u32, ..passed(Call::Grant, 0, d.giver as u32, d.receiver as u32, d.weight as u32) }
+}
+
+fn pass_only_grant_of(d: &Delegation) -> Passed {
+    Passed { call: Call::GrantKind, kind: PASS_ONLY as u32, ..grant_of(d) }
 }
 
 fn revoke_of(d: &Delegation) -> Passed {
@@ -188,7 +202,7 @@ fn full_register() -> Register {
         for giver in 1..64u8 {
             let (giver, receiver) = if ahead == 0 { (0, giver) } else { (giver, (giver - 1 + ahead) % 63 + 1) };
             if register.delegations.len() < MOST_DELEGATIONS {
-                register.delegations.push(Delegation { giver, receiver, weight: 255, need: 0, bar: 0 });
+                register.delegations.push(Delegation { giver, receiver, weight: 255, kind: ORDINARY, need: 0, bar: 0 });
             }
         }
     }
@@ -201,6 +215,11 @@ fn longest() -> Register {
     let mut register = full_register();
     register.marks[1..].fill(0xAAAA);
     register.delegations.iter_mut().for_each(|d| (d.need, d.bar) = (0xAAAA, 0x5555));
+    register
+}
+
+fn pass_only_but_last(mut register: Register) -> Register {
+    register.delegations.iter_mut().rev().skip(1).for_each(|d| d.kind = PASS_ONLY);
     register
 }
 
@@ -217,7 +236,7 @@ fn descending() -> Register {
     for giver in 0..64u8 {
         let past = if giver < 10 { giver + 6 } else { giver + 5 };
         for receiver in giver + 1..past.min(64) {
-            register.delegations.push(Delegation { giver, receiver, weight: 255 - receiver, need: 0, bar: 0 });
+            register.delegations.push(Delegation { giver, receiver, weight: 255 - receiver, kind: ORDINARY, need: 0, bar: 0 });
         }
     }
     assert_eq!(register.delegations.len(), MOST_DELEGATIONS);

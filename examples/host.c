@@ -1,8 +1,8 @@
-/* A host of the seat register: a maker passes a right to two distributors, both pass it to a dealer,
- * the dealer to a firm. Then the wrong distributor is cut off, which is taken back, and then the right one,
- * and the dealer keeps what the other gives. After each cut the host says which delegations fell or were
- * lowered. Then the dealer is raised, his certificate lapses and is renewed, the other distributor leaves, and
- * at last the register goes to another machine, as text. */
+/* A host of the seat register: a maker passes a right to two distributors, one of whom never uses it, both
+ * pass it to a dealer, the dealer to a firm. Then the wrong distributor is cut off, which is taken back, and
+ * then the right one, and the dealer keeps what the other gives. After each cut the host says which delegations
+ * fell or were lowered. Then the dealer is raised, his certificate lapses and is renewed, the other distributor
+ * leaves, the first one comes back, and at last the register goes to another machine, as text. */
 #include <inttypes.h>
 #include <stdio.h>
 #include <stdlib.h>
@@ -47,12 +47,41 @@ static void enrol(uint32_t marks)
     printf("enrol with marks %" PRIu32 ": subject %" PRId32 "\n", marks, seatreg_answer(answers, 0));
 }
 
+/* Prints what a grant returned. */
+static void print_grant(const char *kind, uint32_t giver, uint32_t receiver, uint32_t weight, uint32_t returned)
+{
+    printf("grant%s %" PRIu32 "-%" PRIu32 " weight %" PRIu32, kind, giver, receiver, weight);
+    if (returned == SEATREG_ACCEPTED)
+        printf(": delegations standing %" PRId32 "\n", seatreg_answer(answers, 0));
+    else
+        printf(": refused with %" PRIu32 "\n", returned);
+}
+
 static void grant(uint32_t giver, uint32_t receiver, uint32_t weight, uint32_t need)
 {
     uint32_t r = seatreg_grant(block, sizeof block, giver, receiver, weight, need, 0, answers, sizeof answers);
+
     check("grant", r, SEATREG_ACCEPTED);
-    printf("grant %" PRIu32 "-%" PRIu32 " weight %" PRIu32 ": delegations standing %" PRId32 "\n",
-           giver, receiver, weight, seatreg_answer(answers, 0));
+    print_grant("", giver, receiver, weight, r);
+}
+
+/* A grant without a condition that must be refused. */
+static void no_grant(uint32_t giver, uint32_t receiver, uint32_t weight, uint32_t expected)
+{
+    uint32_t r = seatreg_grant(block, sizeof block, giver, receiver, weight, 0, 0, answers, sizeof answers);
+
+    check("grant", r, expected);
+    print_grant("", giver, receiver, weight, r);
+}
+
+/* For a receiver who hands the right on and never uses it. */
+static void grant_pass_only(uint32_t giver, uint32_t receiver, uint32_t weight, uint32_t expected)
+{
+    uint32_t r = seatreg_grant_kind(block, sizeof block, giver, receiver, weight, 0, 0, SEATREG_PASS_ONLY, OUR_TABLE,
+                                    answers, sizeof answers);
+
+    check("grant", r, expected);
+    print_grant(" pass-only", giver, receiver, weight, r);
 }
 
 static void reach(uint32_t giver, uint32_t receiver)
@@ -123,6 +152,18 @@ static void wrong_line(void)
     take_back(MAKER, SEATREG_OTHER_SLIP);
 }
 
+/* The giver lowers what it gave. */
+static void downgrade(uint32_t giver, uint32_t receiver, uint32_t weight)
+{
+    uint32_t r;
+
+    memcpy(before, block, sizeof block);
+    r = seatreg_downgrade(block, sizeof block, giver, giver, receiver, weight, answers, sizeof answers);
+    check("downgrade", r, SEATREG_ACCEPTED);
+    printf("downgrade %" PRIu32 "-%" PRIu32 " to %" PRIu32 "\n", giver, receiver, weight);
+    print_fallen();
+}
+
 /* What the maker gave NORTH is revoked; then what SOUTH gave the dealer is lowered to use alone. */
 static void cut(void)
 {
@@ -133,16 +174,11 @@ static void cut(void)
     check("revoke", r, SEATREG_ACCEPTED);
     printf("revoke %d-%d\n", MAKER, NORTH);
     print_fallen();
-    may_use(NORTH);
     may_use(FIRM);
     reach(DEALER, FIRM);
     reach(DEALER, VISITOR); /* only SOUTH's chain is left, and the visitor isn't trained */
 
-    memcpy(before, block, sizeof block);
-    r = seatreg_downgrade(block, sizeof block, SOUTH, SOUTH, DEALER, SEATREG_USE_ONLY, answers, sizeof answers);
-    check("downgrade", r, SEATREG_ACCEPTED);
-    printf("downgrade %d-%d to %d\n", SOUTH, DEALER, SEATREG_USE_ONLY);
-    print_fallen();
+    downgrade(SOUTH, DEALER, SEATREG_USE_ONLY);
     may_use(DEALER);
     may_use(FIRM);
 }
@@ -206,10 +242,23 @@ static void leave(void)
     r = seatreg_use(block, sizeof block, SOUTH, answers, sizeof answers);
     check("use", r, SEATREG_RETIRED);
     printf("may %d use the right: refused with %" PRIu32 "\n", SOUTH, r);
-    r = seatreg_grant(block, sizeof block, MAKER, SOUTH, 1, 0, 0, answers, sizeof answers);
-    check("grant", r, SEATREG_RETIRED);
-    printf("grant %d-%d: refused with %" PRIu32 "\n", MAKER, SOUTH, r);
+    no_grant(MAKER, SOUTH, 1, SEATREG_RETIRED);
     enrol(0);
+}
+
+/* NORTH comes back, pass-only as before, and is put to rest: at weight 0 its delegation gives nothing, and stays.
+ * It doesn't become ordinary, whatever the weight, but it can be raised. No grant makes one at weight 0. */
+static void come_back(void)
+{
+    grant_pass_only(MAKER, NORTH, 0, SEATREG_NO_KIND);
+    grant_pass_only(MAKER, NORTH, 4, SEATREG_ACCEPTED);
+    downgrade(MAKER, NORTH, 0);
+    may_use(NORTH);
+    reach(NORTH, FIRM);
+    no_grant(MAKER, NORTH, 9, SEATREG_PAIR_STANDS);
+    grant_pass_only(MAKER, NORTH, 2, SEATREG_ACCEPTED);
+    may_use(NORTH);
+    reach(NORTH, FIRM);
 }
 
 /* Writes the register as text; answers the file's length. It is no string of C: no 0 byte ends it. */
@@ -241,7 +290,7 @@ static void move(void)
     printf("read: %s\n", memcmp(other, block, sizeof block) == 0 ? "the same register" : "another register");
     check("read", read_file(sizeof text), SEATREG_MALFORMED);
     printf("read of the whole buffer: refused with %d\n", SEATREG_MALFORMED);
-    text[length - 6] = '9'; /* the weight on the last line, "3 4 0 0 0" */
+    text[length - 8] = '9'; /* the weight on the last line, "3 4 0 0 0 0" */
     check("read", read_file(length), SEATREG_UNSUPPORTED);
     printf("read with 9 as the last weight: refused with %d\n", SEATREG_UNSUPPORTED);
     check("memcmp", memcmp(other, block, sizeof block) != 0, 0);
@@ -249,8 +298,6 @@ static void move(void)
 
 int main(void)
 {
-    uint32_t r;
-
     open_register();
     enrol(TRAINED); /* NORTH */
     enrol(0);       /* SOUTH */
@@ -258,18 +305,18 @@ int main(void)
     enrol(TRAINED); /* FIRM */
     enrol(0);       /* VISITOR */
 
-    grant(MAKER, NORTH, 5, 0);
-    grant(MAKER, SOUTH, 3, TRAINED); /* SOUTH may pass it on to the trained only */
+    grant_pass_only(MAKER, NORTH, 5, SEATREG_ACCEPTED); /* NORTH never uses the right */
+    grant(MAKER, SOUTH, 3, TRAINED);                    /* SOUTH may pass it on to the trained only */
     grant(NORTH, DEALER, 4, 0);
     grant(SOUTH, DEALER, 2, 0);
     grant(DEALER, FIRM, 3, 0);
     reach(DEALER, FIRM);
     reach(DEALER, VISITOR);
+    may_use(NORTH);
+    may_use(DEALER);
 
     /* A refused call changes nothing: here the weight is more than the dealer has to give. */
-    r = seatreg_grant(block, sizeof block, DEALER, VISITOR, SEATREG_UNLIMITED, 0, 0, answers, sizeof answers);
-    check("grant", r, SEATREG_OVERWEIGHT);
-    printf("grant %d-%d weight %d: refused with %" PRIu32 "\n", DEALER, VISITOR, SEATREG_UNLIMITED, r);
+    no_grant(DEALER, VISITOR, SEATREG_UNLIMITED, SEATREG_OVERWEIGHT);
     wrong_line();
     cut();
 
@@ -281,6 +328,7 @@ int main(void)
 
     lapse();
     leave();
+    come_back();
     move();
     return EXIT_SUCCESS;
 }

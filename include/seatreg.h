@@ -2,22 +2,42 @@
  *
  * A register keeps who passed one right to whom. Subject 0 is the owner of the right; others are
  * enrolled and numbered from 1. A delegation has a giver, a receiver and a weight: how many further
- * steps the right may travel from the receiver. It may have a condition on marks. When a delegation
- * is cut, a subject's marks are changed or a subject is retired, all that can still stand on a chain from
- * the owner stays, as heavy as it can. What every call does is defined in docs/01-scope.md and
- * docs/02-change-requests.md; here is what a host needs.
+ * steps the right may travel from the receiver. It may have a condition on marks, and it may be pass-only:
+ * then it lets the receiver pass the right on and not use it. When a delegation is cut, a subject's marks are
+ * changed or a subject is retired, all that can still stand on a chain from the owner stays, as heavy as it
+ * can. What every call does is defined in docs/01-scope.md and docs/02-change-requests.md; here is what a host
+ * needs.
  *
  * THE BLOCK. A register is 2,188 bytes that the host owns. There is nothing else: no state between
  * calls, no allocation, no file opened, no clock. The bytes mean the same on every machine, so a block may
  * be copied, saved and loaded as it is. Change it by calls only. The readers at the end list what
  * it holds, seatreg_order says from whom the right can come to a receiver, and seatreg_write writes it
  * as text. A block that was stored before version 2.0.0 is shorter, and every call but one refuses it with
- * 1: seatreg_bring_over makes the block of today of it.
+ * 1: seatreg_bring_over makes the block of today of it. Blocks and slips of 2.0.0 and later are taken as they
+ * are: byte 3 of a record, 0 until 3.0.0, is the delegation's kind, so all of theirs are ordinary.
  *
  * RETIRED SUBJECTS. A subject whom the owner has retired stays enrolled, with its number, but has no
  * marks and no delegation, and every call that names it is refused with 19. Nothing takes this back: no
  * call clears a retirement, and the number is never given to another subject. Only open, read and
  * bring_over, which put another register into the block, leave those retired whom that register has.
+ *
+ * PASS-ONLY DELEGATIONS are for distributors, who hand the right on and never use it. Every delegation is
+ * ordinary or pass-only: this is its kind. seatreg_grant_kind grants either; seatreg_grant and
+ * seatreg_grant_table grant ordinary ones.
+ *   - Chains take no notice of the kind: reach, orders and support are the same for both, and so is what a
+ *     cut, set_marks or retire drops and lowers. Every delegation that stays keeps its kind.
+ *   - Who may use the right: the owner, and every subject to which some ordinary delegation stands, of any
+ *     weight, whatever else stands. So a subject to which delegations stand need not be one that may use the
+ *     right: don't count them, ask seatreg_use, or look at the kind of each.
+ *   - Weight 0 is use alone for an ordinary delegation. A pass-only one at weight 0 gives nothing, neither use
+ *     nor passing on. No grant makes one: 21. A downgrade to 0 leaves one, and so may the rounds of a cut, of
+ *     set_marks or of retire; a register file may have one. It stays until it is revoked or falls, is one of the
+ *     256, and may be raised again. So don't read weight 0 as leave to use the right.
+ *   - A standing delegation doesn't change its kind. A grant for its pair with the other kind gets 11, whatever
+ *     its weight and condition, and a raise passes the kind that stands. To change it, revoke it and grant anew;
+ *     the revocation lowers or drops what stood on it, as every one does.
+ *   - Pass-only forbids nothing. A subject that has a pass-only delegation may use the right as soon as somebody
+ *     else grants it an ordinary one, also somebody to whom it passed the right on itself.
  *
  * SLIPS take a cut back. seatreg_revoke_slip and seatreg_downgrade_slip do what the cuts without a slip do,
  * and write a slip; seatreg_take_back is handed it and puts the block back as it was before the cut, byte for
@@ -39,8 +59,8 @@
  *     itself as the giver of a delegation that never stood and that the slip revokes, hands it in, and the
  *     delegation stands. Such a slip can add delegations and make standing ones heavier, supported or not: for
  *     instance any that the rounds of its cut would drop again. It can do nothing else: subjects, marks and who
- *     is retired stay, and every delegation that stands stays, at least as heavy. So a slip is worth as much as
- *     the block.
+ *     is retired stay, and every delegation that stands stays, of its kind and at least as heavy. So a slip is
+ *     worth as much as the block.
  *   - What is restored can be unsupported: after a slip that a cut wrote, where it was so before the cut. The
  *     next cut, set_marks or retire settles it. Until then every slip gets 20 under that table: what a cut
  *     leaves is supported.
@@ -56,8 +76,8 @@
  *
  * THE STEP TABLE has a next for each weight: what a limit falls to at one step, -1 where nothing may
  * follow. In ours 0 gives -1, each other weight one less, and 255 keeps 255. The calls whose names end
- * in _table or _slip, set_marks, retire, take_back, order and read are lent one as text; all others that need
- * a table use ours.
+ * in _table or _slip, grant_kind, set_marks, retire, take_back, order and read are lent one as text; all others
+ * that need a table use ours.
  *   - Its form: the line "weight next", then a line of a weight and its next for each of the weights 0
  *     to 255, in order. Numbers are decimal and at most 4,294,967,295, one space between, no leading
  *     zero, no sign but that of -1, which only a next may be. Every line ends with byte 10, the last
@@ -73,26 +93,27 @@
  *
  * THE REGISTER FILE is a register as text, to be read by people and moved between machines:
  * seatreg_write writes it and seatreg_read reads it. With three subjects beside the owner, the last of
- * them retired, it may be
+ * them retired, and the first delegation pass-only, it may be
  *     subject marks retired
  *     0 0 0
  *     1 4 0
  *     2 4 0
  *     3 0 1
  *
- *     giver receiver weight need bar
- *     0 1 9 4 0
- *     1 2 8 0 0
+ *     giver receiver weight need bar pass
+ *     0 1 9 4 0 1
+ *     1 2 8 0 0 0
  *   - Its form: the line "subject marks retired"; a line for each enrolled subject, from 0 on, its last
  *     number 1 for a retired one and 0 for another; an empty line; the line "giver receiver weight need
- *     bar"; a line for each delegation, rising by giver and, for one giver, by receiver. Numbers and lines
- *     are as in a step table's text, and none has a sign. Nothing follows the last line's byte 10. A text
- *     of another form is refused with 7, an empty one too; so is one whose line ends a program has
- *     changed, and one of before 2.0.0, which lacks the column retired (README.md, 'The block's life', has
- *     a command that adds it).
+ *     bar pass"; a line for each delegation, rising by giver and, for one giver, by receiver, its last number
+ *     the kind, 1 for a pass-only one and 0 for an ordinary one. Numbers and lines are as in a step table's
+ *     text, and none has a sign. Nothing follows the last line's byte 10. A text of another form is refused
+ *     with 7, an empty one too; so is one whose line ends a program has changed, one of before 3.0.0, which
+ *     lacks the column pass, and one of before 2.0.0, which lacks the column retired too (README.md, 'The
+ *     block's life', has commands that add them).
  *   - A text of this form that is no well-formed register's file is refused with 8: a subject left
- *     out, a weight above 255, two delegations exchanged; a 2 in the column retired, or a 1 for the
- *     owner, for a subject with marks or for one that a delegation names.
+ *     out, a weight above 255, two delegations exchanged; a 2 in the column pass; a 2 in the column retired,
+ *     or a 1 for the owner, for a subject with marks or for one that a delegation names.
  *   - A register has one file and a file one register: what seatreg_read accepts is byte for byte what
  *     seatreg_write writes of the block that it left.
  *   - A file doesn't name its table. Read it under the table that is lent with every other call on the
@@ -140,8 +161,8 @@
 /* The version of this header and of the archive that comes with it, as text and as a number: 10,000
  * times the first part, plus 100 times the second, plus the third. README.md, 'Versions', says which
  * changes raise which part. */
-#define SEATREG_VERSION "2.1.0"
-#define SEATREG_VERSION_NUMBER 20100
+#define SEATREG_VERSION "3.0.0"
+#define SEATREG_VERSION_NUMBER 30000
 
 /* Where the compiler has such attributes, it warns of a host that doesn't look at what a call
  * returns, and of a pointer that it can see to be null. */
@@ -172,9 +193,15 @@ extern "C" {
 #define SEATREG_MOST_SUBJECTS 64
 #define SEATREG_MOST_DELEGATIONS 256
 
-/* Weights: 0 gives use of the right and no passing on; 1 to 254 are steps; 255 is unlimited. */
+/* Weights: 0 gives no passing on; 1 to 254 are steps; 255 is unlimited. An ordinary delegation of weight 0
+ * gives use of the right alone. A pass-only one of weight 0 gives nothing: no grant makes it, a cut, a change of
+ * marks or a retirement may leave it. */
 #define SEATREG_USE_ONLY 0
 #define SEATREG_UNLIMITED 255
+
+/* The kind of a delegation: an ordinary one gives use of the right, a pass-only one doesn't. */
+#define SEATREG_ORDINARY 0
+#define SEATREG_PASS_ONLY 1
 
 /* Marks are 16 bits: 0 to 65,535. So are the masks need and bar of a condition. */
 #define SEATREG_MOST_MARKS 65535
@@ -197,6 +224,7 @@ enum seatreg_refusal {
     SEATREG_NO_MARKS = 4,
     SEATREG_EQUAL_PAIR = 5,
     SEATREG_TO_OWNER = 6,
+    SEATREG_NO_KIND = 21,
     SEATREG_MALFORMED = 7,
     SEATREG_BAD_TABLE = 17,
     /* by what the register holds */
@@ -215,7 +243,7 @@ enum seatreg_refusal {
     SEATREG_UNSUPPORTED = 18
 };
 
-/* A short text for what a call returned, never null; for a number above 20, "no such refusal". */
+/* A short text for what a call returned, never null; for a number above 21, "no such refusal". */
 static inline const char *seatreg_refusal_text(uint32_t refusal)
 {
     static const char *const texts[] = {
@@ -230,7 +258,7 @@ static inline const char *seatreg_refusal_text(uint32_t refusal)
         "the block, or an old one, is not well formed, or a register file's lines make no well-formed block",
         "a named subject, by included, isn't enrolled",
         "64 subjects are enrolled",
-        "a delegation for this pair stands, and this is no raise",
+        "a delegation for this pair stands, and this is no raise: a larger weight with the same need, bar and kind",
         "256 delegations stand and the pair is not among them",
         "no delegation for this pair stands",
         "by is neither the giver, of a slip the giver on it, nor the owner, or, where only the owner may, by is not the owner",
@@ -239,7 +267,8 @@ static inline const char *seatreg_refusal_text(uint32_t refusal)
         "an entry of the step table breaks a rule",
         "a delegation of a register file is unsupported",
         "a named subject, by included, is retired",
-        "the slip is not that of a cut which leaves this register under this table"
+        "the slip is not that of a cut which leaves this register under this table",
+        "the kind is above 1, or a pass-only grant has weight 0"
     };
     return refusal < sizeof texts / sizeof texts[0] ? texts[refusal] : "no such refusal";
 }
@@ -261,10 +290,11 @@ SEATREG_CALL uint32_t seatreg_enrol(uint8_t *block, size_t block_len,
                                     uint32_t marks,
                                     uint8_t *answers, size_t answers_len);
 
-/* Grants: adds a delegation; raises the weight where the pair stands with the same need and bar and
- * the weight is larger; the count stays. Accepted only where some chain of delegations from the owner
- * to the giver carries the weight, all of whose conditions the receiver meets.
- *   giver, receiver: the pair; at most one delegation stands for it.
+/* Grants: adds an ordinary delegation; raises the weight where an ordinary one stands for the pair with the
+ * same need and bar and the weight is larger; the count stays. Accepted only where some chain of delegations
+ * from the owner to the giver carries the weight, all of whose conditions the receiver meets.
+ *   giver, receiver: the pair; at most one delegation stands for it, and where it is pass-only the grant gets
+ *     11.
  *   weight: 0 to 255. A grant never lowers: for a pair that stands, an equal or smaller one gets 11.
  *   need, bar: the condition on receivers further on. The marks must have all of need and none of
  *     bar; 0 and 0 is met by all. It doesn't bind this receiver itself. A grant for a pair that stands
@@ -288,8 +318,8 @@ SEATREG_CALL uint32_t seatreg_reach(const uint8_t *block, size_t block_len,
 
 /* Use: whether a subject may use the right. The owner may.
  *   Refusals in order: 1, 2, 8, 9, 19.
- *   Answers: 1 if receiver is the owner or some delegation to it stands, else 0; 0, 0. A retired subject
- *     gets 19, never 0.
+ *   Answers: 1 if receiver is the owner or some ordinary delegation to it stands, else 0; 0, 0. Where all that
+ *     it was given is pass-only, it is 0. A retired subject gets 19, never 0.
  *   Block: only read. */
 SEATREG_CALL uint32_t seatreg_use(const uint8_t *block, size_t block_len,
                                   uint32_t receiver,
@@ -306,7 +336,8 @@ SEATREG_CALL uint32_t seatreg_revoke(uint8_t *block, size_t block_len,
                                      uint8_t *answers, size_t answers_len);
 
 /* Downgrade, a cut: gives the delegation of a pair a smaller weight, then as revoke.
- *   by: as for revoke. weight: below the present one.
+ *   by: as for revoke. weight: below the present one; 0 for a pass-only one too, which then gives nothing and
+ *     stays.
  *   Refusals in order: 1, 2, 3, 5, 6, 8, 9, 19, 13, 14, 15.
  *   Answers: dropped, lowered, rounds, as for revoke; the pair's own delegation is compared with the
  *     new weight.
@@ -319,8 +350,7 @@ SEATREG_CALL uint32_t seatreg_downgrade(uint8_t *block, size_t block_len,
  *   table: its text, as THE STEP TABLE says; only read. With table_len 0 it is ours, and the call does
  *     what the one without a table does. */
 
-/* Grants under a table: adds a delegation; raises the weight where the pair stands with the same need
- * and bar and the weight is larger; the count stays.
+/* Grants under a table: adds an ordinary delegation, or raises the weight of one that stands.
  *   giver, receiver, weight, need, bar: as for seatreg_grant.
  *   Refusals in order: 1, 2, 3, 4, 5, 6, 7, 17, 8, 9, 19, 11, 12, 16.
  *   Answers: how many delegations stand now, 0, 0.
@@ -329,6 +359,22 @@ SEATREG_CALL uint32_t seatreg_grant_table(uint8_t *block, size_t block_len,
                                           uint32_t giver, uint32_t receiver, uint32_t weight, uint32_t need, uint32_t bar,
                                           const uint8_t *table, size_t table_len,
                                           uint8_t *answers, size_t answers_len);
+
+/* Grants a delegation of a kind: what seatreg_grant_table does, and with SEATREG_PASS_ONLY the same for a
+ * delegation that gives no use of the right, as PASS-ONLY DELEGATIONS says.
+ *   giver, receiver, need, bar: as for seatreg_grant.
+ *   weight: as for seatreg_grant, but for a pass-only delegation 1 to 255: 0 gets 21.
+ *   kind: SEATREG_ORDINARY or SEATREG_PASS_ONLY; a number above 1 gets 21. For a pair that stands it is that
+ *     which stands: another gets 11, whatever the weight and the condition.
+ *   Refusals in order: 1, 2, 3, 4, 5, 6, 21, 7, 17, 8, 9, 19, 11, 12, 16.
+ *     No other call returns 21.
+ *   Answers: how many delegations stand now, 0, 0.
+ *   Block: as for seatreg_grant; a delegation that is added has this kind. */
+SEATREG_CALL uint32_t seatreg_grant_kind(uint8_t *block, size_t block_len,
+                                         uint32_t giver, uint32_t receiver, uint32_t weight, uint32_t need, uint32_t bar,
+                                         uint32_t kind,
+                                         const uint8_t *table, size_t table_len,
+                                         uint8_t *answers, size_t answers_len);
 
 /* Reach under a table.
  *   giver, receiver: as for seatreg_reach.
@@ -483,7 +529,7 @@ SEATREG_CALL uint32_t seatreg_order(const uint8_t *block, size_t block_len,
  * is written, supported or not; there is no table.
  *   text: the buffer, 8,192 bytes (SEATREG_TEXT_SIZE) or more; a shorter one gets 1.
  *   Refusals in order: 1, 8.
- *   Answers: how many bytes were written, 0, 0. This is the length of the file, 60 at least.
+ *   Answers: how many bytes were written, 0, 0. This is the length of the file, 65 at least.
  *   Text: the file is the front of the buffer. The bytes after it stay as they were: no 0 byte is put
  *     there, so the file is no string of C.
  *   Block: only read. */
@@ -507,10 +553,12 @@ SEATREG_CALL uint32_t seatreg_read(uint8_t *block, size_t block_len,
                                    uint8_t *answers, size_t answers_len);
 
 /* Brings over: makes the block of a register that was stored before version 2.0.0, when a block had 2,180
- * bytes and nobody could be retired. The register is the same, with nobody retired.
+ * bytes, nobody could be retired and every delegation was ordinary. The register is the same, with nobody
+ * retired.
  *   old: the stored bytes, only read; old_len is SEATREG_OLD_BLOCK_SIZE.
  *   Refusals in order: 1, 8.
- *     8 is for an old block that was not well formed by the rules of its own time. Whether a table
+ *     8 is for an old block that is not well formed with the eight bytes put in. Byte 3 of a record, 0 in every
+ *     block that a call left then, is taken as the kind, so 1 there comes over as pass-only. Whether a table
  *     supports the register is not asked.
  *   Answers: 0, 0, 0.
  *   Block: 2,188 bytes of any content. What they held is not looked at, is overwritten where the call
@@ -533,13 +581,15 @@ SEATREG_CALL static inline int32_t seatreg_answer(const uint8_t *answers, size_t
  * block. After a block was loaded from somewhere, seatreg_use with SEATREG_OWNER tells: it returns 0
  * just where the block is well formed. As during a call, no other thread writes the block meanwhile. */
 
-/* A delegation: receivers further on must have the marks of need and none of bar. */
+/* A delegation: receivers further on must have the marks of need and none of bar. Only an ordinary one gives its
+ * receiver use of the right. */
 struct seatreg_delegation {
     uint32_t giver;    /* 0 to 63, not retired */
     uint32_t receiver; /* 1 to 63, not retired */
     uint32_t weight;   /* 0 to 255 */
     uint32_t need;     /* 0 to 65,535 */
     uint32_t bar;      /* 0 to 65,535 */
+    uint32_t kind;     /* SEATREG_ORDINARY or SEATREG_PASS_ONLY */
 };
 
 /* How many subjects are enrolled, 1 to 64, the retired ones too: they are 0, the owner, to one less than
@@ -580,6 +630,7 @@ SEATREG_CALL static inline struct seatreg_delegation seatreg_delegation_at(const
     d.weight = record[2];
     d.need = (uint32_t)record[4] | (uint32_t)record[5] << 8;
     d.bar = (uint32_t)record[6] | (uint32_t)record[7] << 8;
+    d.kind = record[3];
     return d;
 }
 

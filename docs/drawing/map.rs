@@ -4,8 +4,8 @@ use crate::file::Loaded;
 use crate::layout::Point;
 use crate::places::{places, HALF};
 use crate::routes::{routes, Route, Wish};
-use crate::svg::{Anchor, Letters, Pen, Svg, FAINT, GONE, INK, OUTLINE, SMALL, TITLE, WHITE};
-use second::block::{Delegation, Register};
+use crate::svg::{Anchor, Head, Letters, Pen, Svg, FAINT, GONE, INK, OUTLINE, SMALL, TITLE, WHITE};
+use second::block::{Delegation, Register, ORDINARY};
 
 const LABEL: Letters = Letters { size: 140, colour: INK, bold: true };
 const MARKS: Letters = Letters { size: 110, colour: FAINT, bold: false };
@@ -15,13 +15,14 @@ const LEAST_WIDTH: i64 = 8400;
 const MARGIN: i64 = 250;
 const HEADING: i64 = 900;
 /// Below the picture: the notes.
-const BELOW: i64 = 1250;
+const BELOW: i64 = 1470;
 
-const NOTES: [&str; 4] = [
+const NOTES: [&str; 5] = [
     "Each outline is a subject with its marks, dashed where it may not use the right. Arrows are delegations with",
-    "their weight: how many further steps the right may travel; 255 is unlimited. A chain through a delegation",
-    "with need or bar counts only for receivers that have every mark of need and none of bar: 5 stands for the",
-    "marks of value 1 and 4. A red dashed arrow is unsupported: no chain from the owner carries its weight.",
+    "their weight: how many further steps the right may travel; 255 is unlimited. An open arrowhead is pass-only:",
+    "the receiver may not use the right by it. A chain through a delegation with need or bar counts only for",
+    "receivers that have every mark of need and none of bar: 5 stands for the marks of value 1 and 4. A red dashed",
+    "arrow is unsupported: no chain from the owner carries its weight.",
 ];
 
 pub fn draw(loaded: &Loaded) -> String {
@@ -95,8 +96,9 @@ fn pen(supported: bool) -> Pen {
 }
 
 fn arrows(svg: &mut Svg, loaded: &Loaded, routes: &[Route]) {
-    for (route, &supported) in routes.iter().zip(&loaded.supported) {
-        svg.curved_arrow(route, pen(supported));
+    for (at, d) in loaded.register.delegations.iter().enumerate() {
+        let head = if d.kind == ORDINARY { Head::Filled } else { Head::Open };
+        svg.curved_arrow(&routes[at], head, pen(loaded.supported[at]));
     }
 }
 
@@ -118,7 +120,8 @@ fn subjects(svg: &mut Svg, register: &Register, places: &[Point], shift: Point) 
 /// The outline with the number and the marks; who may not use the right is dashed.
 fn subject(svg: &mut Svg, register: &Register, number: usize, place: Point) {
     let owner = number == 0;
-    let uses = owner || register.delegations.iter().any(|d| d.receiver as usize == number);
+    let gives_use = |d: &Delegation| d.receiver as usize == number && d.kind == ORDINARY;
+    let uses = owner || register.delegations.iter().any(gives_use);
     let pen = if uses { OUTLINE } else { GONE };
     svg.outline(place, HALF, if owner { INK } else { WHITE }, pen);
     let (colour, faint) = if owner { (WHITE, WHITE) } else { (pen.colour, FAINT) };

@@ -11,6 +11,13 @@ pub struct Pen {
     pub dashed: bool,
 }
 
+/// How an arrowhead is filled.
+#[derive(Clone, Copy)]
+pub enum Head {
+    Filled,
+    Open,
+}
+
 /// How a text looks.
 #[derive(Clone, Copy)]
 pub struct Letters {
@@ -76,24 +83,28 @@ impl Svg {
     pub fn arrow(&mut self, from: Point, to: Point, pen: Pen) {
         let back = towards(to, from, HEAD_LENGTH);
         self.line(from, back, pen);
-        self.head(back, to, pen);
+        self.head(back, to, Head::Filled, pen);
     }
 
-    pub fn curved_arrow(&mut self, route: &Route, pen: Pen) {
+    pub fn curved_arrow(&mut self, route: &Route, head: Head, pen: Pen) {
         let Route { start, control, back, .. } = route;
         let path = format!("M{},{} Q{},{} {},{}", start.x, start.y, control.x, control.y, back.x, back.y);
         self.lines.push(format!(r#"<path d="{path}" fill="none"{}/>"#, stroke(pen)));
-        self.head(route.back, route.tip, pen);
+        self.head(route.back, route.tip, head, pen);
     }
 
     /// The arrowhead, whose two corners at the back are a quarter turn from its direction.
-    fn head(&mut self, back: Point, to: Point, pen: Pen) {
+    fn head(&mut self, back: Point, to: Point, head: Head, pen: Pen) {
         let (dx, dy) = (to.x - back.x, to.y - back.y);
         let side = |half: i64| Point { x: back.x - dy * half / HEAD_LENGTH, y: back.y + dx * half / HEAD_LENGTH };
         let (left, right) = (side(HEAD_HALF), side(-HEAD_HALF));
+        let paint = match head {
+            Head::Filled => format!(r#" fill="{}""#, pen.colour),
+            Head::Open => format!(r#" fill="{WHITE}"{}"#, stroke(Pen { dashed: false, ..pen })),
+        };
         self.lines.push(format!(
-            r#"<polygon points="{},{} {},{} {},{}" fill="{}"/>"#,
-            to.x, to.y, left.x, left.y, right.x, right.y, pen.colour
+            r#"<polygon points="{},{} {},{} {},{}"{paint}/>"#,
+            to.x, to.y, left.x, left.y, right.x, right.y
         ));
     }
 

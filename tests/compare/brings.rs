@@ -3,13 +3,14 @@
 use crate::contents::{Asked, Contents};
 use crate::draw::List;
 use crate::fault::{Fault, NONE};
-use crate::olds::old_layout;
+use crate::kinds::make_ordinary;
+use crate::olds::{new_layout, old_layout};
 use crate::report::Part;
 use crate::returned::is_supported;
 use crate::settling::{Left, ACCEPTED, ANSWERS, BLOCK, NUMBER, UNFORMED};
 use second::block::{
     brought, decode, word, BLOCK_LEN, DELEGATIONS_AT, MARKS_AT, OLD_BLOCK_LEN,
-    RECORDS_AT, RECORD_LEN, RETIRED_AT, ZERO_AT,
+    PASS_ONLY, RECORDS_AT, RECORD_LEN, RETIRED_AT, ZERO_AT,
 };
 use second::refusal::{NOT_WELL_FORMED, UNSUPPORTED, WRONG_LENGTH};
 use second::table::OURS;
@@ -17,7 +18,7 @@ use second::table::OURS;
 /// Where the old records begin.
 const OLD_RECORDS_AT: usize = RETIRED_AT;
 
-pub const BRINGS: [Fault; 19] = [
+pub const BRINGS: [Fault; 22] = [
     wrong("a spoiled old block brought over", ACCEPTED, |lent| formed(lent, |_| true)),
     wrong("an old block's unused records not looked at", ACCEPTED, |lent| formed(lent, |old| {
         let used = OLD_RECORDS_AT + RECORD_LEN * word(old, DELEGATIONS_AT).min(256) as usize;
@@ -32,6 +33,18 @@ pub const BRINGS: [Fault; 19] = [
             old[MARKS_AT..MARKS_AT + 2].fill(0);
         })
     })),
+    wrong("an old block's kinds not looked at", ACCEPTED, |lent| formed(lent, |old| {
+        let mut block = new_layout(old);
+        make_ordinary(&mut block);
+        decode(&block).is_some()
+    })),
+    wrong("all made ordinary in the new block", BLOCK, |lent| accepted(lent, |left| make_ordinary(&mut left.block))),
+    wrong("8 for a pass-only delegation of an old block", ACCEPTED, |lent| match right(lent) {
+        (0, left) if decode(&left.block).is_some_and(|r| r.delegations.iter().any(|d| d.kind == PASS_ONLY)) => {
+            (NOT_WELL_FORMED, lent.clone())
+        }
+        right => right,
+    }),
     wrong("the bits left as they were in the new block", UNFORMED, |lent| accepted(lent, |left| {
         left.block[RETIRED_AT..RECORDS_AT].copy_from_slice(&lent.block[RETIRED_AT..RECORDS_AT]);
     })),
@@ -113,7 +126,7 @@ fn put(lent: &Contents, block: Vec<u8>) -> Left {
 /// Accepts an old block that is refused with 8 where this is so of it.
 fn formed(lent: &Contents, is: fn(&[u8]) -> bool) -> Left {
     match right(lent) {
-        (NOT_WELL_FORMED, _) if is(&lent.file) => put(lent, with_bits(&lent.file)),
+        (NOT_WELL_FORMED, _) if is(&lent.file) => put(lent, new_layout(&lent.file)),
         right => right,
     }
 }
@@ -127,11 +140,6 @@ fn sized(lent: &Contents, length: usize) -> Left {
     file.resize(OLD_BLOCK_LEN, 0);
     let (number, left) = right(&Contents { file, ..lent.clone() });
     (number, Contents { file: lent.file.clone(), ..left })
-}
-
-/// The old bytes in the new layout, well formed or not.
-fn with_bits(old: &[u8]) -> Vec<u8> {
-    [&old[..RETIRED_AT], &[0; RECORDS_AT - RETIRED_AT], &old[RETIRED_AT..]].concat()
 }
 
 /// Whether an old block is well formed with a change made to it.

@@ -15,7 +15,7 @@ use crate::report::{Case, Part, PARTS};
 use crate::returned::{come_back, Back};
 use crate::standing::{Left, Standing};
 use crate::tables::Text;
-use second::block::{encode, word, BLOCK_LEN, DELEGATIONS_AT, OLD_BLOCK_LEN};
+use second::block::{encode, BLOCK_LEN, OLD_BLOCK_LEN};
 use second::random::Random;
 
 /// The buffers lent to the entry points; a buffer that an entry point doesn't take is empty and not lent.
@@ -49,7 +49,7 @@ impl Buffers {
         let mut left = Contents { table: text.bytes.clone().unwrap_or_default(), ..lent.clone() };
         let due = left.call(&asked);
         let standing = Standing::of(&asked, &text.table, block, due);
-        let before = word(block, DELEGATIONS_AT) as usize;
+        let before = block.clone();
         let number = match self.wrong(&asked, &lent, standing.as_ref(), fault) {
             Some(number) => number,
             None => self.enter(&asked, table.is_some(), fault),

@@ -23,7 +23,7 @@ alone() {
     nm "$archive" >"$out/symbols" &&
         sed -nE 's/^SEATREG_CALL uint32_t (seatreg_[a-z_]+)\(.*/\1/p' include/seatreg.h | sort >"$out/functions" &&
         sed -nE 's/.* T (seatreg_.*)/\1/p' "$out/symbols" | sort | diff "$out/functions" - &&
-        test "$(wc -l <"$out/functions")" -eq 20 &&
+        test "$(wc -l <"$out/functions")" -eq 21 &&
         ! grep -E ' [bBdDsSgGcC] ' "$out/symbols" &&
         ! grep ' U ' "$out/symbols" | grep -vwE 'memcpy|memset'
 }
@@ -71,9 +71,9 @@ texts() {
 #include "seatreg.h"
 int main(void)
 {
-    for (uint32_t n = 0; n <= SEATREG_OTHER_SLIP; n++)
+    for (uint32_t n = 0; n <= SEATREG_NO_KIND; n++)
         printf("%u %s\n", (unsigned)n, seatreg_refusal_text(n));
-    return strcmp(seatreg_refusal_text(SEATREG_OTHER_SLIP + 1), "no such refusal") != 0 ||
+    return strcmp(seatreg_refusal_text(SEATREG_NO_KIND + 1), "no such refusal") != 0 ||
            strcmp(seatreg_refusal_text(UINT32_MAX), "no such refusal") != 0;
 }
 END
@@ -104,8 +104,15 @@ uint32_t USER(uint8_t *block, uint8_t *answers)
     struct seatreg_delegation d = seatreg_delegation_at(block, 0);
     if (seatreg_subjects(block) != 2 || seatreg_delegations(block) != 1 || seatreg_marks(block, 1) != 1)
         return 1;
-    if (d.giver != 0 || d.receiver != 1 || d.weight != 8 || d.need != 1 || d.bar != 2)
+    if (d.giver != 0 || d.receiver != 1 || d.weight != 8 || d.need != 1 || d.bar != 2 || d.kind != SEATREG_ORDINARY)
         return 2;
+    if (seatreg_grant_kind(block, SEATREG_BLOCK_SIZE, SEATREG_OWNER, 1, 9, 1, 2, SEATREG_PASS_ONLY, NO_TEXT, answers, SEATREG_ANSWERS_SIZE) != SEATREG_PAIR_STANDS)
+        return 11;
+    sum += seatreg_revoke(block, SEATREG_BLOCK_SIZE, SEATREG_OWNER, SEATREG_OWNER, 1, answers, SEATREG_ANSWERS_SIZE);
+    sum += seatreg_grant_kind(block, SEATREG_BLOCK_SIZE, SEATREG_OWNER, 1, 9, 1, 2, SEATREG_PASS_ONLY, NO_TEXT, answers, SEATREG_ANSWERS_SIZE);
+    sum += seatreg_use(block, SEATREG_BLOCK_SIZE, 1, answers, SEATREG_ANSWERS_SIZE);
+    if (seatreg_answer(answers, 0) != 0 || seatreg_delegation_at(block, 0).kind != SEATREG_PASS_ONLY)
+        return 12;
     sum += seatreg_revoke(block, SEATREG_BLOCK_SIZE, SEATREG_OWNER, SEATREG_OWNER, 1, answers, SEATREG_ANSWERS_SIZE);
     sum += seatreg_grant_table(block, SEATREG_BLOCK_SIZE, SEATREG_OWNER, 1, 9, 1, 2, NO_TEXT, answers, SEATREG_ANSWERS_SIZE);
     sum += seatreg_reach_table(block, SEATREG_BLOCK_SIZE, SEATREG_OWNER, 1, NO_TEXT, answers, SEATREG_ANSWERS_SIZE);
@@ -192,6 +199,7 @@ uint32_t null(uint8_t *block, uint8_t *answers)
 {
     return seatreg_open(block, SEATREG_BLOCK_SIZE, 0, 0) +
            seatreg_reach_table(block, SEATREG_BLOCK_SIZE, 0, 1, 0, 0, answers, SEATREG_ANSWERS_SIZE) +
+           seatreg_grant_kind(block, SEATREG_BLOCK_SIZE, 0, 1, 1, 0, 0, 1, 0, 0, answers, SEATREG_ANSWERS_SIZE) +
            seatreg_set_marks(block, SEATREG_BLOCK_SIZE, 0, 1, 0, 0, 0, answers, SEATREG_ANSWERS_SIZE) +
            seatreg_retire(block, SEATREG_BLOCK_SIZE, 0, 1, 0, 0, answers, SEATREG_ANSWERS_SIZE) +
            seatreg_revoke_slip(block, SEATREG_BLOCK_SIZE, 0, 0, 1, 0, 0, 0, 0, answers, SEATREG_ANSWERS_SIZE) +
@@ -206,7 +214,7 @@ END
         ! gcc -std=c99 "${strict[@]}" -Iinclude -c "$out/ignored.c" -o "$out/ignored.o" 2>"$out/ignored" &&
         grep -q 'unused-result' "$out/ignored" &&
         ! gcc -std=c99 "${strict[@]}" -Iinclude -c "$out/null.c" -o "$out/null.o" 2>"$out/null" &&
-        test "$(grep -c 'Werror=nonnull' "$out/null")" -eq 16 &&
+        test "$(grep -c 'Werror=nonnull' "$out/null")" -eq 17 &&
         gcc -std=c99 -U__GNUC__ -Iinclude -E "$out/ignored.c" >"$out/plain" &&
         ! grep -E '__attribute__|SEATREG_CALL' "$out/plain" &&
         gcc -std=c99 -U__GNUC__ "${strict[@]}" -Iinclude -c "$out/ignored.c" -o "$out/ignored.o"
@@ -241,14 +249,28 @@ readme() {
         "$out/readme" | diff "$out/readme.expected" -
 }
 
-# The command in README.md that gives a register file of before 2.0.0 its column
-# `retired` makes the example of what the example was without that column.
-old_file() {
+# commanded OLD NEW: what README.md's command for these two files makes of the one.
+commanded() {
     local command
-    command="$(sed -nE 's/^ *(sed .*) old\.register > new\.register$/\1/p' README.md)" && test -n "$command" &&
-        sed '1s/ retired$//; 2,/^$/s/ 0$//' examples/dealers.register >"$out/old.register" &&
-        ! cmp -s "$out/old.register" examples/dealers.register &&
-        eval "$command" '"$out/old.register"' | cmp - examples/dealers.register
+    command="$(sed -nE "s/^ *(sed .*) $1\\.register > $2\\.register$/\\1/p" README.md)" && test -n "$command" &&
+        eval "$command" '"$out/$1.register"' >"$out/made"
+}
+
+# The commands in README.md that give a register file of before 3.0.0 its column
+# `pass`, and one of before 2.0.0 its column `retired`, make a file of what it was
+# without these columns: the example, its delegations all ordinary, and the file of
+# a fresh register.
+old_files() {
+    local file
+    sed '/^giver/,$s/ 1$/ 0/' examples/dealers.register >"$out/dealers.register" &&
+        printf '%s\n' 'subject marks retired' '0 0 0' '' 'giver receiver weight need bar pass' >"$out/fresh.register" || return 1
+    for file in "$out/dealers.register" "$out/fresh.register"; do
+        sed '/^giver/,$s/ [a-z0-9]*$//' "$file" >"$out/old.register" && ! cmp -s "$out/old.register" "$file" &&
+            sed '1,/^$/s/ [a-z0-9]*$//' "$out/old.register" >"$out/oldest.register" &&
+            ! cmp -s "$out/oldest.register" "$out/old.register" &&
+            commanded old new && cmp "$out/made" "$file" &&
+            commanded oldest old && cmp "$out/made" "$out/old.register" || return 1
+    done
 }
 
 hosts=(host list table order over)
@@ -318,7 +340,7 @@ step "self test" make -s self-test SEED=1
 step "hosts" make -s host
 step "hosts in 64 KiB of stack" small_stack
 step "host of README.md" readme
-step "old register file by the command of README.md" old_file
+step "old register files by the commands of README.md" old_files
 step "stack of every call" stack
 step "build of the measurement" make -s target/bench/bench
 step "hosts with what is installed" installed

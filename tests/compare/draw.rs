@@ -1,7 +1,7 @@
 //! Random lists of calls, most of them plausible, on blocks of several kinds.
 
 use crate::contents::Asked;
-use crate::entry::FileCall;
+use crate::entry::{is_always_lent, FileCall};
 use crate::filetexts::{buffer, Files};
 use crate::handed::{slip_buffer, Handed, Slips};
 use crate::olds::Olds;
@@ -73,6 +73,8 @@ enum Mostly {
     Cuts,
     /// Grants for a standing pair.
     Raises,
+    /// Grants of a kind, uses and cuts.
+    Kinds,
     Marks,
     /// Retirements, and calls that name a retired subject.
     Retires,
@@ -105,10 +107,11 @@ impl List {
     pub fn draw(random: &mut Random) -> List {
         let conditions = random.pick(&[0, 20, 50, 80]);
         match random.below(100) {
-            0..=7 => List::fresh(random, conditions, (2, 8), (20, 90)),
-            8 | 9 => List::fresh(random, conditions, (9, 30), (80, 250)),
-            10 => List { mostly: Mostly::Fills, ..List::fresh(random, conditions, (40, 66), (380, 480)) },
-            11..=18 => List { left: random.range(2, 10), ..List::on_register(random, conditions, Kind::Formed) },
+            0..=6 => List::fresh(random, conditions, (2, 8), (20, 90)),
+            7 => List::fresh(random, conditions, (9, 30), (80, 250)),
+            8..=12 => List::on_kinds(random),
+            13 => List { mostly: Mostly::Fills, ..List::fresh(random, conditions, (40, 66), (380, 480)) },
+            14..=18 => List { left: random.range(2, 10), ..List::on_register(random, conditions, Kind::Formed) },
             19..=29 => List::on_marks(random),
             30..=40 => List::on_retirements(random),
             41..=48 => List::on_slips(random),
@@ -130,6 +133,19 @@ impl List {
             _ => List::on_full(random, conditions),
         };
         List { left, mostly: Mostly::Raises, ..list }
+    }
+
+    /// Many calls are grants of a kind, uses and cuts, on blocks of any content, in many of which all is supported.
+    pub fn on_kinds(random: &mut Random) -> List {
+        let (left, conditions) = (random.range(10, 30), random.pick(&[0, 20, 50, 80]));
+        let kind = any_kind(random);
+        let list = match random.below(20) {
+            0 | 1 => List::on_full(random, conditions),
+            2 => List::on_dense(random),
+            3..=9 => List::on_granted(random, kind),
+            _ => List::on_register(random, conditions, kind),
+        };
+        List { left, mostly: Mostly::Kinds, ..list }
     }
 
     /// Most calls set marks, on blocks of any content, in many of which all is supported, most of it under
@@ -234,7 +250,7 @@ impl List {
         let subjects = random.pick(&[5, 6, 8, 13, 24, 64, 64, 64]);
         let delegations = random.range(subjects / 2, subjects * 2);
         let shape = Shape { subjects, delegations, weights: &UNLIMITED, marks: MARKS, conditions };
-        let mut register = random_register(random, &shape);
+        let mut register = any_register(random, &shape);
         if random.chance(65) {
             give_to_all(random, &mut register);
         }
@@ -251,7 +267,8 @@ impl List {
         let mut list = List::on_shape(random, kind, &shape);
         let Text { bytes, table, .. } = list.tables.usual(random).lent();
         for _ in 0..8 * subjects {
-            let n = plausible(random, Call::Grant, &list.register, conditions, &table);
+            let call = any_grant(random);
+            let n = plausible(random, call, &list.register, conditions, &table);
             run_table(&FAST, &n, bytes.as_deref().unwrap_or_default(), &mut list.first);
             list.register = decode(&list.first).expect("a grant leaves a well-formed block");
         }
@@ -262,7 +279,7 @@ impl List {
     fn on_full(random: &mut Random, conditions: u32) -> List {
         let (subjects, weights) = (random.pick(&[24, 40, 64]), random.pick(&[&WEIGHTS[..], &HEAVY]));
         let shape = Shape { subjects, delegations: 1000, weights, marks: MARKS, conditions };
-        let register = random_register(random, &shape);
+        let register = any_register(random, &shape);
         let mut register = with_retired(random, register);
         while register.delegations.len() > MOST_DELEGATIONS {
             let at = random.below(register.delegations.len() as u32);
@@ -272,7 +289,7 @@ impl List {
     }
 
     fn on_shape(random: &mut Random, kind: Kind, shape: &Shape) -> List {
-        let register = random_register(random, shape);
+        let register = any_register(random, shape);
         let register = with_retired(random, register);
         List::on_drawn(random, kind, register, shape.conditions)
     }
@@ -330,12 +347,14 @@ impl List {
 
     fn call(&self, random: &mut Random, call: Call) -> Drawn {
         let text = match call {
-            Call::SetMarks | Call::Retire => self.tables.next(random).lent(),
+            _ if is_always_lent(call) => self.tables.next(random).lent(),
             _ if takes_table(call) => self.tables.next(random),
             _ => Text::without(),
         };
         let n = match call {
-            Call::Grant if self.names_standing(random) => standing_grant(random, &self.register, &text.table),
+            Call::Grant | Call::GrantKind if self.names_standing(random) => {
+                standing_grant(random, call, &self.register, &text.table)
+            }
             _ => plausible(random, call, &self.register, self.conditions, &text.table),
         };
         Drawn { asked: Asked::Call(self.odd(random, &n)), text, file: Vec::new() }
@@ -391,7 +410,7 @@ impl List {
         }
         self.left -= 1;
         if self.is_filling() && random.chance(98) {
-            return What::Call(Call::Grant);
+            return What::Call(any_grant(random));
         }
         self.usual(random).unwrap_or_else(|| any_call(random))
     }
@@ -399,10 +418,14 @@ impl List {
     /// What the list is mostly made of, more often than in other lists.
     fn usual(&self, random: &mut Random) -> Option<What> {
         let cut = random.pick(&[Call::Revoke, Call::Downgrade]);
+        let grant = any_grant(random);
         let file = random.pick(&[FileCall::Write, FileCall::Read, FileCall::Read]);
         let chances = [
             (Mostly::Cuts, 70, 0, What::Call(cut)),
-            (Mostly::Raises, 70, 0, What::Call(Call::Grant)),
+            (Mostly::Raises, 70, 0, What::Call(grant)),
+            (Mostly::Kinds, 45, 0, What::Call(Call::GrantKind)),
+            (Mostly::Kinds, 35, 0, What::Call(Call::Use)),
+            (Mostly::Kinds, 50, 0, What::Call(cut)),
             (Mostly::Marks, 60, 4, What::Call(Call::SetMarks)),
             (Mostly::Retires, 45, 2, What::Call(Call::Retire)),
             (Mostly::Retires, 8, 0, What::Call(Call::Enrol)),
@@ -424,9 +447,10 @@ impl List {
 
     /// Whether a grant is for a pair that stands.
     fn names_standing(&self, random: &mut Random) -> bool {
-        let of_100 = match (self.mostly == Mostly::Raises, self.is_filling()) {
-            (true, _) => 90,
-            (_, true) => 5,
+        let of_100 = match self.mostly {
+            Mostly::Raises => 90,
+            Mostly::Kinds => 70,
+            _ if self.is_filling() => 5,
             _ => 25,
         };
         !self.register.delegations.is_empty() && random.chance(of_100)
@@ -436,7 +460,7 @@ impl List {
 /// One of the calls of document 01.
 fn any_call(random: &mut Random) -> What {
     What::Call(match random.below(200) {
-        0..=79 => Call::Grant,
+        0..=79 => any_grant(random),
         80..=109 => Call::Reach,
         110..=125 => Call::Use,
         126..=155 => Call::Revoke,
@@ -446,9 +470,24 @@ fn any_call(random: &mut Random) -> What {
     })
 }
 
+/// An ordinary grant, or one of a kind.
+fn any_grant(random: &mut Random) -> Call {
+    random.pick(&[Call::Grant, Call::Grant, Call::GrantKind])
+}
+
 /// Most often a well-formed block.
 fn any_kind(random: &mut Random) -> Kind {
     random.pick(&[Kind::Formed, Kind::Formed, Kind::Formed, Kind::Spoiled, Kind::Noise])
+}
+
+/// A register with delegations of both kinds.
+pub fn any_register(random: &mut Random, shape: &Shape) -> Register {
+    let mut register = random_register(random, shape);
+    let pass_only = random.pick(&[10, 50, 50, 90]);
+    for d in &mut register.delegations {
+        d.kind = random.chance(pass_only) as u8;
+    }
+    register
 }
 
 /// Each subject gets an unlimited delegation from one that has got one before, or from the owner.
@@ -457,7 +496,8 @@ fn give_to_all(random: &mut Random, register: &mut Register) {
     let mut with = vec![0];
     while !without.is_empty() {
         let receiver = without.swap_remove(random.below(without.len() as u32) as usize);
-        let new = Delegation { giver: random.pick(&with), receiver, weight: 255, need: 0, bar: 0 };
+        let kind = random.chance(50) as u8;
+        let new = Delegation { giver: random.pick(&with), receiver, weight: 255, kind, need: 0, bar: 0 };
         match register.place(new.giver as u32, receiver as u32) {
             Ok(at) => register.delegations[at] = new,
             Err(at) => register.delegations.insert(at, new),
@@ -499,7 +539,7 @@ pub fn spoiled(random: &mut Random, block: &[u8]) -> Vec<u8> {
     block
 }
 
-/// Most often in the head, the bits of the retired, the used records or the first unused one.
+/// Most often in the head, the bits of the retired, the used records or the first unused one; there often the kind.
 fn spoiled_place(random: &mut Random, block: &[u8]) -> usize {
     let used = RECORDS_AT + RECORD_LEN * (word(block, DELEGATIONS_AT) as usize + 1);
     let retired = RETIRED_AT + block[SUBJECTS_AT] as usize / 8 + 1;
@@ -509,9 +549,16 @@ fn spoiled_place(random: &mut Random, block: &[u8]) -> usize {
         4 => (RETIRED_AT, RECORDS_AT),
         5 => (RETIRED_AT, retired.min(RECORDS_AT)),
         6 => (0, BLOCK_LEN),
+        7 => return any_kind_place(random, block),
         _ => (RECORDS_AT, used.min(BLOCK_LEN)),
     };
     random.range(least as u32, most as u32 - 1) as usize
+}
+
+/// Where some used record of a block has its kind, or the first unused one.
+pub fn any_kind_place(random: &mut Random, block: &[u8]) -> usize {
+    let used = (word(block, DELEGATIONS_AT) as usize).min(MOST_DELEGATIONS - 1);
+    RECORDS_AT + RECORD_LEN * random.range(0, used as u32) as usize + KIND
 }
 
 /// A length for the block: nearly always the right one.
@@ -541,7 +588,7 @@ fn order_buffer(random: &mut Random) -> Vec<u8> {
 fn plausible(random: &mut Random, call: Call, register: &Register, conditions: u32, table: &Table) -> Passed {
     let count = register.marks.len() as u32;
     let (giver, receiver) = match call {
-        Call::Grant => open_pair(random, register),
+        Call::Grant | Call::GrantKind => open_pair(random, register),
         Call::Reach | Call::Order => any_pair(random, count),
         _ => standing_pair(random, register),
     };
@@ -550,11 +597,11 @@ fn plausible(random: &mut Random, call: Call, register: &Register, conditions: u
     let by = random.pick(&[0, 0, giver, giver, giver, other]);
     match call {
         Call::Enrol => Passed { need: random.next() as u32 & MARKS as u32, ..n },
-        Call::Grant => {
+        Call::Grant | Call::GrantKind => {
             let (need, bar) = if random.chance(conditions) { random_masks(random, MARKS) } else { (0, 0) };
             let reach = reach_table(table, register, giver, receiver);
             let weight = grant_weight(random, reach.max(0) as u32);
-            Passed { giver, receiver, weight, need: need as u32, bar: bar as u32, ..n }
+            with_kind(random, Passed { giver, receiver, weight, need: need as u32, bar: bar as u32, ..n }, PASS_ONLY)
         }
         Call::Revoke => Passed { by, giver, receiver, ..n },
         Call::Downgrade => Passed { by, giver, receiver, weight: lower_weight(random, register, giver, receiver), ..n },
@@ -618,7 +665,7 @@ fn idle_subject(random: &mut Random, register: &Register) -> u32 {
 /// if one is found in a few tries; rarely any pair.
 fn open_pair(random: &mut Random, register: &Register) -> (u32, u32) {
     let count = register.marks.len() as u32;
-    if random.chance(5) {
+    if random.chance(8) {
         return any_pair(random, count);
     }
     for _ in 0..6 {
@@ -643,9 +690,44 @@ fn grant_weight(random: &mut Random, reach: u32) -> u32 {
     }
 }
 
+/// The grant with a kind, if it takes one: most often this, else the other or any number, rarely with weight 0 or
+/// with one above 255.
+fn with_kind(random: &mut Random, n: Passed, likely: u8) -> Passed {
+    if n.call != Call::GrantKind {
+        return n;
+    }
+    let likely = likely as u32;
+    let kind = match random.below(20) {
+        0..=12 => likely,
+        13..=16 => 1 - likely,
+        17 => random.pick(&[2, 3, 254, 255]),
+        18 => random.pick(&[256, 257, 65_536, 0x8000_0000, 0x8000_0001, 0xFFFF_FFFE, 0xFFFF_FFFF]),
+        _ => random.next() as u32,
+    };
+    let weight = match random.below(40) {
+        0..=2 => 0,
+        3 => random.pick(&[256, 257, 512]),
+        _ => n.weight.max((kind == PASS_ONLY as u32) as u32),
+    };
+    Passed { kind, weight, ..n }
+}
+
+/// A standing delegation to grant anew: without a kind most often an ordinary one, with one often a pass-only one
+/// of weight 0.
+fn any_standing(random: &mut Random, call: Call, register: &Register) -> Delegation {
+    let likely = |d: &&Delegation| match call {
+        Call::GrantKind => d.kind == PASS_ONLY && d.weight == 0,
+        _ => d.kind == ORDINARY,
+    };
+    let some: Vec<Delegation> = register.delegations.iter().filter(likely).copied().collect();
+    let of_100 = if call == Call::GrantKind { 25 } else { 85 };
+    let any = some.is_empty() || !random.chance(of_100);
+    random.pick(if any { &register.delegations } else { &some })
+}
+
 /// A grant for a pair that stands: many are raises, the others differ from one by little.
-fn standing_grant(random: &mut Random, register: &Register, table: &Table) -> Passed {
-    let standing = random.pick(&register.delegations);
+fn standing_grant(random: &mut Random, call: Call, register: &Register, table: &Table) -> Passed {
+    let standing = any_standing(random, call, register);
     let (giver, receiver) = (standing.giver as u32, standing.receiver as u32);
     let reach = |table: &Table| reach_table(table, register, giver, receiver).max(0) as u32;
     let weight = match random.below(10) {
@@ -653,7 +735,7 @@ fn standing_grant(random: &mut Random, register: &Register, table: &Table) -> Pa
         _ => raised_weight(random, standing.weight as u32, reach(table)),
     };
     let (need, bar) = near_condition(random, standing.need as u32, standing.bar as u32);
-    Passed { giver, receiver, weight, need, bar, ..blank(Call::Grant) }
+    with_kind(random, Passed { giver, receiver, weight, need, bar, ..blank(call) }, standing.kind)
 }
 
 /// Most are above what stands, and within the reach where there is room for that.
@@ -748,7 +830,9 @@ pub fn odd_value(random: &mut Random, value: u32) -> u32 {
 /// with one that isn't enrolled in another.
 fn with_retired_number(random: &mut Random, n: &Passed, register: &Register) -> Passed {
     let retired: Vec<u32> = (0..64).filter(|&subject| register.is_retired(subject)).collect();
-    let mut places: Vec<usize> = (0..3).filter(|&at| used_columns(n.call)[at]).collect();
+    // The kind of a grant is in the place of by.
+    let first = (n.call == Call::GrantKind) as usize;
+    let mut places: Vec<usize> = (first..3).filter(|&at| used_columns(n.call)[at]).collect();
     if retired.is_empty() || places.is_empty() {
         return *n;
     }

@@ -2,7 +2,6 @@
 
 use crate::lent::Lent;
 use second::refusal::{Call, Passed};
-use std::ptr::NonNull;
 
 extern "C" {
     fn seatreg_open(block: *mut u8, block_len: usize, answers: *mut u8, answers_len: usize) -> u32;
@@ -29,6 +28,10 @@ extern "C" {
     ) -> u32;
     fn seatreg_grant_table(
         block: *mut u8, block_len: usize, giver: u32, receiver: u32, weight: u32, need: u32, bar: u32,
+        table: *const u8, table_len: usize, answers: *mut u8, answers_len: usize,
+    ) -> u32;
+    fn seatreg_grant_kind(
+        block: *mut u8, block_len: usize, giver: u32, receiver: u32, weight: u32, need: u32, bar: u32, kind: u32,
         table: *const u8, table_len: usize, answers: *mut u8, answers_len: usize,
     ) -> u32;
     fn seatreg_reach_table(
@@ -81,15 +84,14 @@ extern "C" {
     ) -> u32;
 }
 
-/// An entry point: a call, lent a table's text or not, the setting of marks, the retirement, a cut that writes
-/// a slip, the taking back of one, the order, a call on a register file, or the bringing over of an old block.
+/// An entry point: a call, lent a table's text or not, a call that is always lent one, a cut that writes a
+/// slip, the taking back of one, the order, a call on a register file, or the bringing over of an old block.
 #[derive(Clone, Copy, PartialEq, Eq)]
 pub enum Entry {
     Without(Call),
     WithTable(Call),
-    /// Always lent a table's text, as a retirement is.
-    SetMarks,
-    Retire,
+    /// The grant of a kind, the setting of marks, the retirement.
+    Always(Call),
     /// Lent a table's text, and the slip that it writes.
     CutSlip(Call),
     /// Lent a table's text, and the slip.
@@ -109,7 +111,7 @@ pub enum FileCall {
 }
 
 /// All of them, in the header's order.
-pub const ENTRIES: [Entry; 20] = [
+pub const ENTRIES: [Entry; 21] = [
     Entry::Without(Call::Open),
     Entry::Without(Call::Enrol),
     Entry::Without(Call::Grant),
@@ -118,11 +120,12 @@ pub const ENTRIES: [Entry; 20] = [
     Entry::Without(Call::Revoke),
     Entry::Without(Call::Downgrade),
     Entry::WithTable(Call::Grant),
+    Entry::Always(Call::GrantKind),
     Entry::WithTable(Call::Reach),
     Entry::WithTable(Call::Revoke),
     Entry::WithTable(Call::Downgrade),
-    Entry::SetMarks,
-    Entry::Retire,
+    Entry::Always(Call::SetMarks),
+    Entry::Always(Call::Retire),
     Entry::CutSlip(Call::Revoke),
     Entry::CutSlip(Call::Downgrade),
     Entry::TakeBack,
@@ -132,9 +135,17 @@ pub const ENTRIES: [Entry; 20] = [
     Entry::BringOver,
 ];
 
-/// Makes a call on two lent buffers, the setting of marks and the retirement with an empty text; answers the
+/// Whether a call has no entry point that takes no table's text.
+pub fn is_always_lent(call: Call) -> bool {
+    matches!(call, Call::GrantKind | Call::SetMarks | Call::Retire)
+}
+
+/// Makes a call on two lent buffers, one that is always lent a table's text with an empty one; answers the
 /// number returned.
 pub fn entry_call(n: &Passed, block: &mut Lent, answers: &mut Lent) -> u32 {
+    if is_always_lent(n.call) {
+        return entry_call_table(n, block, &mut Lent::new(), answers);
+    }
     let (b, b_len, a, a_len) = (block.pointer(), block.len(), answers.pointer(), answers.len());
     // Each pointer is valid for its length, and the two buffers lie apart.
     unsafe {
@@ -146,14 +157,8 @@ pub fn entry_call(n: &Passed, block: &mut Lent, answers: &mut Lent) -> u32 {
             Call::Downgrade => seatreg_downgrade(b, b_len, n.by, n.giver, n.receiver, n.weight, a, a_len),
             Call::Reach => seatreg_reach(b, b_len, n.giver, n.receiver, a, a_len),
             Call::Use => seatreg_use(b, b_len, n.receiver, a, a_len),
-            Call::SetMarks => {
-                seatreg_set_marks(b, b_len, n.by, n.receiver, n.need, NonNull::dangling().as_ptr(), 0, a, a_len)
-            }
-            Call::Retire => {
-                seatreg_retire(b, b_len, n.by, n.receiver, NonNull::dangling().as_ptr(), 0, a, a_len)
-            }
             Call::Chain => unreachable!("the chain call has no entry point"),
-            Call::Order | Call::BringOver => unreachable!("the call has a function of its own"),
+            _ => unreachable!("the call has a function of its own"),
         }
     }
 }
@@ -168,6 +173,9 @@ pub fn entry_call_table(n: &Passed, block: &mut Lent, table: &mut Lent, answers:
             Call::Grant => {
                 seatreg_grant_table(b, b_len, n.giver, n.receiver, n.weight, n.need, n.bar, t, t_len, a, a_len)
             }
+            Call::GrantKind => seatreg_grant_kind(
+                b, b_len, n.giver, n.receiver, n.weight, n.need, n.bar, n.kind, t, t_len, a, a_len,
+            ),
             Call::Reach => seatreg_reach_table(b, b_len, n.giver, n.receiver, t, t_len, a, a_len),
             Call::Revoke => seatreg_revoke_table(b, b_len, n.by, n.giver, n.receiver, t, t_len, a, a_len),
             Call::Downgrade => {

@@ -72,7 +72,7 @@ pub const NONE: Fault = Fault {
     parts: &[],
 };
 
-pub const FAULTS: [Fault; 25] = [
+pub const FAULTS: [Fault; 27] = [
     Fault {
         name: "giver and receiver exchanged",
         before: |n| Passed { giver: n.receiver, receiver: n.giver, ..*n },
@@ -81,7 +81,9 @@ pub const FAULTS: [Fault; 25] = [
     },
     Fault {
         name: "numbers narrowed to 16 bits",
-        before: |n| Passed { giver: n.giver & 0xFFFF, receiver: n.receiver & 0xFFFF, need: n.need & 0xFFFF, ..*n },
+        before: |n| Passed {
+            giver: n.giver & 0xFFFF, receiver: n.receiver & 0xFFFF, need: n.need & 0xFFFF, kind: n.kind & 0xFFFF, ..*n
+        },
         parts: &[Part::Number, Part::Block, Part::Answers],
         ..NONE
     },
@@ -156,6 +158,8 @@ pub const FAULTS: [Fault; 25] = [
     listed("weights in the list cut down to 7 bits", |listed| each(listed, |d| d.weight &= 0x7F)),
     listed("the high byte of need lost in the list", |listed| each(listed, |d| d.need &= 0xFF)),
     listed("the high byte of bar lost in the list", |listed| each(listed, |d| d.bar &= 0xFF)),
+    listed("every delegation listed as ordinary", |listed| each(listed, |d| d.kind = 0)),
+    listed("the weight read as the kind", |listed| each(listed, |d| d.kind = d.weight)),
     listed("an answer of -1 read as 255", |listed| listed.answers.iter_mut().for_each(|answer| *answer &= 0xFF)),
     listed("giver and receiver exchanged in the cut on a slip", |listed| {
         listed.cut.iter_mut().for_each(|cut| swap(&mut cut.giver, &mut cut.receiver));

@@ -1,13 +1,13 @@
 //! Random register files: as they are written, with one byte, one number or one
 //! line changed, and of quite another form. And the buffers of writes.
 
-use crate::draw::with_retired;
+use crate::draw::{any_register, with_retired};
 use crate::tables::{odd_number, place, BYTES};
 use second::block::{Register, MOST_DELEGATIONS, MOST_SUBJECTS};
 use second::callfile::lines;
 use second::cut::settle;
 use second::engine::FAST;
-use second::random::{random_register, Random, Shape};
+use second::random::{Random, Shape};
 use second::regfile::{Rows, DELEGATION_NAMES, LEAST_TEXT, SUBJECT_NAMES};
 use second::table::{Table, OURS};
 
@@ -23,7 +23,7 @@ impl Files<'_> {
     /// What a read under this table is lent.
     pub fn next(&self, random: &mut Random, table: &Table) -> Vec<u8> {
         let mut rows = Rows::of(&self.register(random, table));
-        match random.below(22) {
+        match random.below(24) {
             0..=6 => rows.text(),
             7..=10 => {
                 change_number(random, &mut rows);
@@ -31,6 +31,10 @@ impl Files<'_> {
             }
             20 | 21 => {
                 change_retired(random, &mut rows);
+                rows.text()
+            }
+            22 | 23 => {
+                change_pass(random, &mut rows);
                 rows.text()
             }
             11..=13 => with_odd_byte(random, rows.text()),
@@ -73,7 +77,7 @@ impl Files<'_> {
 
     fn of_size(&self, random: &mut Random, subjects: u32, delegations: u32) -> Register {
         let Files { weights, marks, conditions, .. } = *self;
-        let register = random_register(random, &Shape { subjects, delegations, weights, marks, conditions });
+        let register = any_register(random, &Shape { subjects, delegations, weights, marks, conditions });
         let mut register = with_retired(random, register);
         register.delegations.truncate(MOST_DELEGATIONS);
         register
@@ -134,6 +138,12 @@ fn change_retired(random: &mut Random, rows: &mut Rows) {
     if random.chance(50) {
         row[1] = 0;
     }
+}
+
+/// Shows one delegation otherwise in the column `pass`.
+fn change_pass(random: &mut Random, rows: &mut Rows) {
+    let Some(row) = any_of(random, &mut rows.delegations) else { return };
+    row[5] = random.pick(&[1 - row[5], 1 - row[5], 1 - row[5], 2, 3, 255, 256, 257, 0x8000_0000, 0xFFFF_FFFF]);
 }
 
 /// The text with one byte changed, left out or put in, or with its end cut off.
@@ -206,7 +216,7 @@ fn too_large(number: &str) -> String {
 /// Files that differ by more: too many lines or none, a part twice or missing, bytes after the end.
 fn other(random: &mut Random, mut rows: Rows) -> Vec<u8> {
     let mut text = rows.text();
-    match random.below(19) {
+    match random.below(22) {
         0 => return Vec::new(),
         1 => rows.subjects.clear(),
         2 => rows.subjects = (0..random.pick(&[64, 65, 66, 257, 320])).map(|subject| [subject, 0, 0]).collect(),
@@ -224,19 +234,31 @@ fn other(random: &mut Random, mut rows: Rows) -> Vec<u8> {
         }
         13 => return [text, random.pick(&[&b"\n"[..], b"\0", b" ", b"0", b"\r\n", b"#\n"]).to_vec()].concat(),
         14 => return OURS.text(),
-        15..=17 => return without_retired(&text),
+        15 | 16 => return without_retired(&text),
+        17 => return without_pass(&without_retired(&text)),
+        18..=20 => return without_pass(&text),
         _ => return (0..random.range(1, 300)).map(|_| random.next() as u8).collect(),
     }
     rows.text()
 }
 
-/// The file as it was written before there was the column `retired`.
+/// The file without the column `retired`.
 fn without_retired(text: &[u8]) -> Vec<u8> {
     let mut lines: Vec<Vec<u8>> = text.split(|&byte| byte == b'\n').map(<[u8]>::to_vec).collect();
-    for line in lines.iter_mut().take_while(|line| !line.is_empty()) {
-        line.truncate(line.iter().rposition(|&byte| byte == b' ').unwrap_or(0));
-    }
+    lines.iter_mut().take_while(|line| !line.is_empty()).for_each(drop_column);
     lines.join(&b'\n')
+}
+
+/// The file as it was written before there was the column `pass`.
+pub fn without_pass(text: &[u8]) -> Vec<u8> {
+    let mut lines: Vec<Vec<u8>> = text.split(|&byte| byte == b'\n').map(<[u8]>::to_vec).collect();
+    lines.iter_mut().skip_while(|line| !line.is_empty()).for_each(drop_column);
+    lines.join(&b'\n')
+}
+
+/// Drops the last column of a line.
+fn drop_column(line: &mut Vec<u8>) {
+    line.truncate(line.iter().rposition(|&byte| byte == b' ').unwrap_or(0));
 }
 
 /// The file of 64 subjects and so many delegations of the owner's and of subject 1 to 5.
@@ -245,12 +267,12 @@ fn too_many(count: usize) -> Vec<u8> {
     let given = pairs.filter(|(giver, receiver)| giver != receiver).take(count);
     let rows = Rows {
         subjects: (0..64).map(|subject| [subject, 0, 0]).collect(),
-        delegations: given.map(|(giver, receiver)| [giver, receiver, 255, 0, 0]).collect(),
+        delegations: given.map(|(giver, receiver)| [giver, receiver, 255, 0, 0, 0]).collect(),
     };
     rows.text()
 }
 
-const NEAR_LENGTHS: [usize; 10] = [0, 1, 60, 6376, 8190, 8191, 8191, 8193, 10_000, 16_384];
+const NEAR_LENGTHS: [usize; 10] = [0, 1, 65, 6893, 8190, 8191, 8191, 8193, 10_000, 16_384];
 
 /// What a write is lent: nearly always of the least length.
 pub fn buffer(random: &mut Random) -> Vec<u8> {

@@ -1,7 +1,7 @@
 //! Random slips that are handed in: as a cut wrote them, changed, of other
 //! lengths, and such as no cut wrote.
 
-use crate::draw::{any_bytes, odd_value, spoiled};
+use crate::draw::{any_bytes, any_kind_place, odd_value, spoiled};
 use crate::tables::{Tables, Text, TextKind};
 use second::block::{encode, Delegation, Register, BLOCK_LEN, MOST_DELEGATIONS};
 use second::call::blank;
@@ -137,15 +137,24 @@ fn some_retired(random: &mut Random, register: &Register) -> Option<u32> {
 /// Changes one thing on a slip.
 fn change(random: &mut Random, slip: &mut Vec<u8>, register: &Register) {
     let (before, after) = (slip[..BLOCK_LEN].to_vec(), slip[AFTER_AT..].to_vec());
-    match random.below(18) {
+    match random.below(22) {
         0..=9 => change_cut(random, slip, register),
         10 => slip[random.below(SLIP_LEN as u32) as usize] ^= 1 << random.below(8),
         11..=13 => slip[..BLOCK_LEN].copy_from_slice(&spoiled(random, &before)),
         14 => slip[AFTER_AT..].copy_from_slice(&spoiled(random, &after)),
         15 => slip[random.pick(&[BLOCK_LEN - 1, SLIP_LEN - 1])] ^= 1,
-        16 => *slip = [&after, &slip[CALL_AT..AFTER_AT], &before].concat(),
+        16..=19 => change_kind(random, slip),
+        20 => *slip = [&after, &slip[CALL_AT..AFTER_AT], &before].concat(),
         _ => slip[AFTER_AT..].copy_from_slice(&before),
     }
+}
+
+/// Another kind in one record of the block before, of the block after, or of both at the same place.
+fn change_kind(random: &mut Random, slip: &mut [u8]) {
+    let at = any_kind_place(random, slip);
+    let kind = random.pick(&[slip[at] ^ 1, slip[at] ^ 1, slip[at] ^ 1, 2, 255]);
+    let places = random.pick(&[&[0][..], &[AFTER_AT], &[0, AFTER_AT]]);
+    places.iter().for_each(|place| slip[place + at] = kind);
 }
 
 /// Another number in one of the five bytes.
@@ -222,7 +231,8 @@ fn add_fallen(random: &mut Random, register: &mut Register, receiver: u32) {
 fn add(random: &mut Random, register: &mut Register, giver: u32, receiver: u32) -> u8 {
     let weight = random.pick(&[0, 1, 3, 9, 254, 255]);
     let (need, bar) = if random.chance(30) { random_masks(random, 0x8007) } else { (0, 0) };
-    let new = Delegation { giver: giver as u8, receiver: receiver as u8, weight, need, bar };
+    let kind = random.chance(50) as u8;
+    let new = Delegation { giver: giver as u8, receiver: receiver as u8, weight, kind, need, bar };
     if let (Err(at), true) = (register.place(giver, receiver), register.delegations.len() < MOST_DELEGATIONS) {
         register.delegations.insert(at, new);
     }

@@ -2,7 +2,7 @@
 
 use crate::entry::ENTRIES;
 use crate::report::{name, refusals};
-use second::block::{BLOCK_LEN, MOST_DELEGATIONS, MOST_SUBJECTS, OLD_BLOCK_LEN};
+use second::block::{BLOCK_LEN, MOST_DELEGATIONS, MOST_SUBJECTS, OLD_BLOCK_LEN, ORDINARY, PASS_ONLY};
 use second::callfile::joined;
 use second::chain::{NONE, START};
 use second::host::ANSWERS_LEN;
@@ -26,6 +26,8 @@ pub fn print() -> bool {
     println!("MOST_DELEGATIONS {MOST_DELEGATIONS}");
     println!("USE_ONLY 0");
     println!("UNLIMITED {START}");
+    println!("ORDINARY {ORDINARY}");
+    println!("PASS_ONLY {PASS_ONLY}");
     println!("MOST_MARKS {}", u16::MAX);
     println!("NO_REACH ({NONE})");
     println!("SLIP_REVOKE {REVOKE}");

@@ -19,11 +19,13 @@ mod fault;
 mod filetexts;
 mod handed;
 mod header;
+mod kinds;
 mod lent;
 mod marks;
 mod named;
 mod olds;
 mod orders;
+mod passes;
 mod raises;
 mod readers;
 mod reads;
@@ -43,6 +45,7 @@ use fault::{Fault, FAULTS, NONE};
 use marks::MARKS;
 use named::NAMED;
 use orders::ORDERS;
+use passes::PASSES;
 use raises::RAISES;
 use reads::READS;
 use report::Report;
@@ -87,8 +90,8 @@ fn finds_nothing(seed: u64, cases: u64) -> bool {
 /// Each fault is found, and only in the parts where it was put in.
 fn finds_faults(seed: u64, cases: u64) -> bool {
     let mut all_found = true;
-    let faults: [&[Fault]; 11] = [
-        &FAULTS, &RAISES, &MARKS, &RETIRES, &NAMED, &CUT_SLIPS, &TAKE_BACKS, &ORDERS, &WRITES, &READS, &BRINGS,
+    let faults: [&[Fault]; 12] = [
+        &FAULTS, &RAISES, &PASSES, &MARKS, &RETIRES, &NAMED, &CUT_SLIPS, &TAKE_BACKS, &ORDERS, &WRITES, &READS, &BRINGS,
     ];
     for fault in faults.concat() {
         let report = compare(seed, cases, &fault, false);

@@ -1,9 +1,9 @@
 //! Random blocks as they were stored before there were retired subjects: well
 //! formed, with some bytes changed, and of other lengths.
 
-use crate::draw::{any_bytes, spoiled};
+use crate::draw::{any_bytes, any_register, spoiled};
 use second::block::{encode, Register, MOST_DELEGATIONS, MOST_SUBJECTS, RECORDS_AT, RETIRED_AT};
-use second::random::{random_register, Random, Shape};
+use second::random::{Random, Shape};
 
 const NEAR_LENGTHS: [usize; 12] = [0, 1, 4, 132, 140, 2172, 2179, 2179, 2181, 2181, 2188, 4360];
 
@@ -46,7 +46,7 @@ impl Olds<'_> {
 
     fn of_size(&self, random: &mut Random, subjects: u32, delegations: u32) -> Register {
         let Olds { weights, marks, conditions, .. } = *self;
-        let mut register = random_register(random, &Shape { subjects, delegations, weights, marks, conditions });
+        let mut register = any_register(random, &Shape { subjects, delegations, weights, marks, conditions });
         register.delegations.truncate(MOST_DELEGATIONS);
         register
     }
@@ -55,4 +55,9 @@ impl Olds<'_> {
 /// A block as it was laid out before: without the bits of the retired.
 pub fn old_layout(block: &[u8]) -> Vec<u8> {
     [&block[..RETIRED_AT], &block[RECORDS_AT..]].concat()
+}
+
+/// An old block in the new layout, well formed or not.
+pub fn new_layout(old: &[u8]) -> Vec<u8> {
+    [&old[..RETIRED_AT], &[0; RECORDS_AT - RETIRED_AT], &old[RETIRED_AT..]].concat()
 }

@@ -5,7 +5,7 @@ use crate::draw::List;
 use crate::fault::{Fault, NONE};
 use crate::report::Part;
 use crate::settling::next_subject;
-use second::block::{decode, Delegation, Register, BLOCK_LEN, RECORDS_AT, RETIRED_AT};
+use second::block::{decode, encode, Delegation, Register, BLOCK_LEN, ORDINARY, RECORDS_AT, RETIRED_AT};
 use second::chain::meets;
 use second::refusal::{MALFORMED, NOT_WELL_FORMED, ORDER_BUFFER, RETIRED, WRONG_LENGTH};
 use second::table::Table;
@@ -26,7 +26,7 @@ const NUMBER: &[Part] = &[Part::Number];
 const TO_OWNER: u32 = 6;
 const NOT_ENROLLED: u32 = 9;
 
-pub const ORDERS: [Fault; 27] = [
+pub const ORDERS: [Fault; 28] = [
     wrong("two subjects exchanged", FILE, |lent, to| rewritten(lent, to, |_, items| {
         let last = items.len() - 1;
         items.swap(last, last.max(1) - 1);
@@ -92,6 +92,15 @@ pub const ORDERS: [Fault; 27] = [
     wrong("the table's 7 before 6", NUMBER, |lent, to| match right(lent, to) {
         (TO_OWNER, left) if Table::read(&lent.table) == Err(MALFORMED) => (MALFORMED, left),
         right => right,
+    }),
+    wrong("an order by ordinary delegations alone", WRITTEN, |lent, to| match right(lent, to) {
+        (0, left) => {
+            let mut register = register(&left);
+            register.delegations.retain(|d| d.kind == ORDINARY);
+            let (number, left) = right(&Contents { block: encode(&register), ..lent.clone() }, to);
+            (number, Contents { block: lent.block.clone(), ..left })
+        }
+        refused => refused,
     }),
     wrong("an order for a retired receiver", ACCEPTED, |lent, to| match right(lent, to) {
         (RETIRED, _) => {

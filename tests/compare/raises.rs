@@ -47,12 +47,12 @@ fn is_to_reach(s: &Standing) -> bool {
 
 /// As what stands, and within the reach.
 fn is_the_same(s: &Standing) -> bool {
-    s.same_condition() && s.gain() == 0 && s.is_allowed()
+    s.same_condition() && s.same_kind() && s.gain() == 0 && s.is_allowed()
 }
 
 /// As what stands but lighter, and within the reach.
 fn is_lighter(s: &Standing) -> bool {
-    s.same_condition() && s.gain() < 0 && s.is_allowed()
+    s.same_condition() && s.same_kind() && s.gain() < 0 && s.is_allowed()
 }
 
 /// Accepted, and there is room for one more record.
@@ -60,9 +60,9 @@ fn has_room(s: &Standing) -> bool {
     s.is_accepted() && !s.is_full()
 }
 
-/// Heavier than what stands and within the reach.
+/// Heavier than what stands, of its kind and within the reach.
 fn is_heavier(s: &Standing) -> bool {
-    s.gain() > 0 && s.is_allowed()
+    s.same_kind() && s.gain() > 0 && s.is_allowed()
 }
 
 fn judged_by_ours(s: &Standing) -> Left {

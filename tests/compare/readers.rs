@@ -13,6 +13,7 @@ pub struct Delegation {
     pub weight: u32,
     pub need: u32,
     pub bar: u32,
+    pub kind: u32,
 }
 
 /// As the header has it.
@@ -91,5 +92,6 @@ fn plain(d: &second::block::Delegation) -> Delegation {
         weight: d.weight.into(),
         need: d.need.into(),
         bar: d.bar.into(),
+        kind: d.kind.into(),
     }
 }

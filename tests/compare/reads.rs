@@ -6,8 +6,8 @@ use crate::entry::FileCall;
 use crate::fault::{Fault, NONE};
 use crate::report::Part;
 use second::block::{
-    decode, encode, word, Register, BLOCK_LEN, DELEGATIONS_AT, MARKS_AT, MOST_DELEGATIONS, MOST_SUBJECTS, RECORDS_AT,
-    RECORD_LEN, RETIRED_AT, SUBJECTS_AT,
+    decode, encode, word, Register, BLOCK_LEN, DELEGATIONS_AT, MARKS_AT, MOST_DELEGATIONS, MOST_SUBJECTS, PASS_ONLY,
+    RECORDS_AT, RECORD_LEN, RETIRED_AT, SUBJECTS_AT,
 };
 use second::callfile::lines;
 use second::refusal::{BAD_TABLE, MALFORMED, NOT_WELL_FORMED, UNSUPPORTED, WRONG_LENGTH};
@@ -22,7 +22,7 @@ const ACCEPTED: &[Part] = &[Part::Number, Part::Block, Part::Answers];
 const NUMBER: &[Part] = &[Part::Number];
 const BLOCK: &[Part] = &[Part::Block];
 
-pub const READS: [Fault; 38] = [
+pub const READS: [Fault; 44] = [
     wrong("a leading zero accepted", ACCEPTED, |lent| read_as(lent, without_zeros(&lent.file))),
     wrong("numbers cut down to 32 bits", ACCEPTED, |lent| read_as(lent, with_numbers(&lent.file, |number| number % (1 << 32)))),
     wrong("8 for a number of more than 32 bits", NUMBER, |lent| {
@@ -75,6 +75,12 @@ pub const READS: [Fault; 38] = [
         }
         (number, left)
     }),
+    wrong("the column pass not looked at", ACCEPTED, |lent| rows_as(lent, |rows| each_pass(rows, |_| 0))),
+    wrong("every pass above 0 taken for 1", ACCEPTED, |lent| rows_as(lent, |rows| each_pass(rows, |pass| pass.min(1)))),
+    wrong("pass cut down to 8 bits", ACCEPTED, |lent| rows_as(lent, |rows| each_pass(rows, |pass| pass & 0xFF))),
+    wrong("a file without the column pass accepted", ACCEPTED, |lent| read_as(lent, with_pass_column(&lent.file))),
+    wrong("8 for a pass-only delegation of weight 0", ACCEPTED, |lent| refused_if(lent, 0, has_idle, NOT_WELL_FORMED)),
+    wrong("7 for a pass above 1", NUMBER, |lent| refused_if(lent, NOT_WELL_FORMED, has_large_pass, MALFORMED)),
     wrong("lines put in order", ACCEPTED, |lent| rows_as(lent, |rows| rows.delegations.sort_unstable())),
     wrong("a repeated line left out", ACCEPTED, |lent| rows_as(lent, |rows| rows.delegations.dedup())),
     wrong("a mark shared by need and bar accepted", ACCEPTED, with_shared_marks),
@@ -213,6 +219,30 @@ fn with_retired_column(text: &[u8]) -> Vec<u8> {
     lines.join(&b'\n')
 }
 
+/// The same of the column `pass` and every delegation.
+fn with_pass_column(text: &[u8]) -> Vec<u8> {
+    let mut lines: Vec<Vec<u8>> = text.split(|&byte| byte == b'\n').map(<[u8]>::to_vec).collect();
+    let Some(names) = lines.iter().position(|line| line == b"giver receiver weight need bar") else {
+        return text.to_vec();
+    };
+    lines[names].extend(b" pass");
+    lines.iter_mut().skip(names + 1).filter(|line| !line.is_empty()).for_each(|line| line.extend(b" 0"));
+    lines.join(&b'\n')
+}
+
+fn each_pass(rows: &mut Rows, change: fn(u32) -> u32) {
+    rows.delegations.iter_mut().for_each(|row| row[5] = change(row[5]));
+}
+
+/// A pass-only delegation of weight 0.
+fn has_idle(lent: &Contents) -> bool {
+    register(lent).delegations.iter().any(|d| d.kind == PASS_ONLY && d.weight == 0)
+}
+
+fn has_large_pass(lent: &Contents) -> bool {
+    Rows::read(&lent.file).is_some_and(|rows| rows.delegations.iter().any(|row| row[5] > 1))
+}
+
 fn unless_empty(text: &[u8]) -> Vec<u8> {
     if text.is_empty() { file_text(&Register::fresh()) } else { text.to_vec() }
 }
@@ -227,7 +257,9 @@ fn front(text: &[u8]) -> Vec<u8> {
 /// A number above what its place in the block can hold.
 fn has_large(lent: &Contents) -> bool {
     let Some(rows) = Rows::read(&lent.file) else { return false };
-    let large = |row: &[u32; 5]| row[..3].iter().any(|&number| number > 255) || row[3..].iter().any(|&mask| mask > 65_535);
+    let large = |row: &[u32; 6]| {
+        [row[0], row[1], row[2], row[5]].iter().any(|&number| number > 255) || row[3..5].iter().any(|&mask| mask > 65_535)
+    };
     rows.subjects.iter().any(|row| row[1] > 65_535) || rows.delegations.iter().any(large)
 }
 

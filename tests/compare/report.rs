@@ -2,7 +2,8 @@
 
 use crate::contents::{Asked, Contents};
 use crate::draw::{Kind, KINDS};
-use crate::entry::{Entry, FileCall, ENTRIES};
+use crate::entry::{is_always_lent, Entry, FileCall, ENTRIES};
+use crate::kinds::{Kinds, PlainKinds};
 use crate::returned::Back;
 use crate::standing::{Standing, NUMBERS};
 use crate::tables::{Text, TextKind, TEXT_KINDS};
@@ -43,8 +44,8 @@ pub struct Case {
     pub text: Text,
     /// Of a grant for a standing pair.
     pub standing: Option<Standing>,
-    /// How many delegations stood before it.
-    pub before: usize,
+    /// The block before it, in the right length.
+    pub before: Vec<u8>,
     /// What the entry point returned, and what the second implementation did.
     pub number: u32,
     pub due: u32,
@@ -58,8 +59,7 @@ pub struct Case {
 impl Case {
     fn entry(&self) -> Entry {
         match self.asked {
-            Asked::Call(n) if n.call == Call::SetMarks => Entry::SetMarks,
-            Asked::Call(n) if n.call == Call::Retire => Entry::Retire,
+            Asked::Call(n) if is_always_lent(n.call) => Entry::Always(n.call),
             Asked::Call(n) if self.text.kind == TextKind::Without => Entry::Without(n.call),
             Asked::Call(n) => Entry::WithTable(n.call),
             Asked::CutSlip(n) => Entry::CutSlip(n.call),
@@ -77,6 +77,11 @@ impl Case {
             Asked::File(call) => call == FileCall::Read,
             Asked::BringOver => false,
         }
+    }
+
+    /// Whether 256 delegations stood before it.
+    pub fn began_full(&self) -> bool {
+        is_full(&self.before)
     }
 
     /// The call whose numbers were accepted, if it is one that is followed by rounds.
@@ -106,6 +111,8 @@ pub struct Report {
     standing: [StandingGrants; 2],
     orders: [Orders; 2],
     files: [Files; 2],
+    kinds: [Kinds; 2],
+    plain_kinds: PlainKinds,
     /// How often an entry point, by its place in `ENTRIES`, returned a number.
     returned: BTreeMap<(usize, u32), u64>,
     shows: bool,
@@ -128,7 +135,7 @@ struct Settled {
 impl Settled {
     fn add(&mut self, case: &Case) {
         let [dropped, lowered, rounds] = case.left.three_answers();
-        self.full += (case.before == MOST_DELEGATIONS) as u64;
+        self.full += case.began_full() as u64;
         self.nothing += (rounds == 1) as u64;
         self.dropped += (dropped > 0) as u64;
         self.lowered += (lowered > 0) as u64;
@@ -170,7 +177,7 @@ impl Orders {
         }
         let order: Vec<(u8, u8)> = case.left.items().collect();
         let has_receiver = order.iter().any(|&(subject, _)| subject as u32 == receiver);
-        self.full += (word(&case.left.block, DELEGATIONS_AT) as usize == MOST_DELEGATIONS) as u64;
+        self.full += is_full(&case.left.block) as u64;
         self.all += (order.len() == MOST_SUBJECTS) as u64;
         self.with_receiver += has_receiver as u64;
         self.without += !has_receiver as u64;
@@ -213,7 +220,7 @@ impl Files {
         self.unsupported += (case.due == UNSUPPORTED) as u64;
         if case.due == 0 {
             self.read += 1;
-            self.full += (word(&case.left.block, DELEGATIONS_AT) as usize == MOST_DELEGATIONS) as u64;
+            self.full += is_full(&case.left.block) as u64;
             self.retired += case.left.block[RETIRED_AT..RECORDS_AT].iter().any(|&bits| bits != 0) as u64;
         }
     }
@@ -264,13 +271,18 @@ impl StandingGrants {
     }
 }
 
+/// Whether 256 delegations stand in a block.
+pub fn is_full(block: &[u8]) -> bool {
+    word(block, DELEGATIONS_AT) as usize == MOST_DELEGATIONS
+}
+
 /// What has a count of 0.
 pub fn absent(counts: &[(u64, &str)]) -> Vec<String> {
     counts.iter().filter(|(count, _)| *count == 0).map(|(_, what)| what.to_string()).collect()
 }
 
-/// The tables by which grants for a standing pair, cuts, settings of marks, retirements, slips, orders and register
-/// files are counted.
+/// The tables by which grants for a standing pair, cuts, settings of marks, retirements, slips, orders, register
+/// files and kinds are counted.
 const TABLES: [&str; 2] = ["our table", "others"];
 
 impl Report {
@@ -292,6 +304,8 @@ impl Report {
             standing: [StandingGrants::default(); 2],
             orders: [Orders::default(); 2],
             files: [Files::default(); 2],
+            kinds: [Kinds::default(); 2],
+            plain_kinds: PlainKinds::default(),
             returned: BTreeMap::new(),
             shows,
         }
@@ -310,6 +324,8 @@ impl Report {
         self.taken[table].add(case);
         self.orders[table].add(case);
         self.files[table].add(case);
+        self.kinds[table].add(case);
+        self.plain_kinds.add(case);
         match case.settled() {
             Some(Call::SetMarks) => self.marks[table].add(case),
             Some(Call::Retire) => self.retired[table].add(case),
@@ -318,7 +334,7 @@ impl Report {
         }
         if matches!(case.asked, Asked::BringOver) && case.due == 0 {
             self.brought[0] += 1;
-            self.brought[1] += (word(&case.left.block, DELEGATIONS_AT) as usize == MOST_DELEGATIONS) as u64;
+            self.brought[1] += is_full(&case.left.block) as u64;
         }
         if let Some(standing) = &case.standing {
             self.standing[table].add(standing, case.due);
@@ -365,6 +381,7 @@ impl Report {
         println!("tables: {without} without a text, {empty} empty, {ours} ours, {other} others that pass");
         println!("        {broken} that break a rule, {malformed} of another form");
         self.print_by_table();
+        self.plain_kinds.print();
         println!("old blocks brought over: {}, {} of them full registers", self.brought[0], self.brought[1]);
         println!("wrong lengths: {} of the block, {} of the answers", self.block_lengths, self.answers_lengths);
         match self.missing()[..] {
@@ -401,10 +418,13 @@ impl Report {
             println!("        of those read {full} of full registers, {retired} with a retired subject");
             println!("        written and read back: {same} the same, {not_back} with 18");
         }
+        for (table, kinds) in TABLES.iter().zip(self.kinds) {
+            kinds.print(table);
+        }
     }
 
     /// The numbers that a call can return and did not; of grants for a standing pair, settings of marks, retirements,
-    /// slips, orders and register files also by table and register.
+    /// slips, orders, register files and kinds also by table and register.
     pub fn missing(&self) -> Vec<String> {
         let rare = [
             (self.brought[1], "a full register brought over"),
@@ -418,6 +438,8 @@ impl Report {
         missing.extend(by_table(&self.taken, Taken::missing));
         missing.extend(by_table(&self.orders, Orders::missing));
         missing.extend(by_table(&self.files, Files::missing));
+        missing.extend(by_table(&self.kinds, Kinds::missing));
+        missing.extend(self.plain_kinds.missing());
         missing.extend(absent(&rare));
         missing
     }
@@ -443,15 +465,21 @@ fn by_table<T>(of: &[T; 2], missing: impl Fn(&T) -> Vec<String>) -> Vec<String> 
 
 pub fn name(entry: Entry) -> String {
     match entry {
-        Entry::Without(call) => format!("{call:?}").to_lowercase(),
-        Entry::WithTable(call) => format!("{call:?}").to_lowercase() + "_table",
-        Entry::SetMarks => "set_marks".to_string(),
-        Entry::Retire => "retire".to_string(),
-        Entry::CutSlip(call) => format!("{call:?}").to_lowercase() + "_slip",
+        Entry::Without(call) | Entry::Always(call) => call_name(call),
+        Entry::WithTable(call) => call_name(call) + "_table",
+        Entry::CutSlip(call) => call_name(call) + "_slip",
         Entry::TakeBack => "take_back".to_string(),
         Entry::Order => "order".to_string(),
         Entry::File(call) => format!("{call:?}").to_lowercase(),
         Entry::BringOver => "bring_over".to_string(),
+    }
+}
+
+fn call_name(call: Call) -> String {
+    match call {
+        Call::GrantKind => "grant_kind".to_string(),
+        Call::SetMarks => "set_marks".to_string(),
+        _ => format!("{call:?}").to_lowercase(),
     }
 }
 
@@ -462,9 +490,7 @@ pub fn refusals(entry: Entry) -> Vec<u32> {
         Entry::File(FileCall::Read) => return READ_REFUSALS.to_vec(),
         Entry::TakeBack => return slip::TESTS.iter().map(|(number, _)| *number).collect(),
         Entry::Without(call) => (call, false),
-        Entry::WithTable(call) | Entry::CutSlip(call) => (call, true),
-        Entry::SetMarks => (Call::SetMarks, true),
-        Entry::Retire => (Call::Retire, true),
+        Entry::WithTable(call) | Entry::Always(call) | Entry::CutSlip(call) => (call, true),
         Entry::Order => (Call::Order, true),
         Entry::BringOver => (Call::BringOver, false),
     };

@@ -4,6 +4,7 @@
 use crate::contents::{Asked, Contents};
 use crate::draw::List;
 use crate::fault::{Fault, Wrong, NONE};
+use crate::kinds::{make_ordinary, make_slip_ordinary};
 use crate::report::Part;
 use crate::returned::is_supported;
 use crate::settling::{Left, ACCEPTED, ANSWERS, BLOCK, MAY_NOT, NOT_ENROLLED, NUMBER};
@@ -23,7 +24,7 @@ const CUT: &[Part] = &[Part::Number, Part::Block, Part::Answers, Part::File];
 const SLIP: &[Part] = &[Part::File];
 const NO_SUBJECT: u32 = 2;
 
-pub const CUT_SLIPS: [Fault; 34] = [
+pub const CUT_SLIPS: [Fault; 35] = [
     cut("the slip's last byte changed", SLIP, |lent, n| written(lent, n, |left| left.file[SLIP_LEN - 1] ^= 1)),
     cut("the slip's first byte left as it was", SLIP, |lent, n| written(lent, n, |left| left.file[0] = lent.file[0])),
     cut("before taken after the named change", SLIP, |lent, n| written(lent, n, |left| {
@@ -74,6 +75,7 @@ pub const CUT_SLIPS: [Fault; 34] = [
         left.file[RETIRED_AT..RECORDS_AT].fill(0);
         left.file[AFTER_AT + RETIRED_AT..AFTER_AT + RECORDS_AT].fill(0);
     })),
+    cut("all made ordinary on the slip", SLIP, |lent, n| written(lent, n, |left| make_slip_ordinary(&mut left.file))),
     cut("what the register after doesn't use left as it was on the slip", SLIP, |lent, n| written(lent, n, |left| {
         let used = AFTER_AT + RECORDS_AT + RECORD_LEN * word(&left.block, DELEGATIONS_AT) as usize;
         left.file[used..].copy_from_slice(&lent.file[used..]);
@@ -123,7 +125,7 @@ pub const CUT_SLIPS: [Fault; 34] = [
     })),
 ];
 
-pub const TAKE_BACKS: [Fault; 50] = [
+pub const TAKE_BACKS: [Fault; 53] = [
     back("always 20", ACCEPTED, |lent, by| judged(lent, by, |_| Some(OTHER_SLIP))),
     back("the cut not made again", ACCEPTED, |lent, by| forgiven(lent, by, |h| h.is_after())),
     back("the register not compared", ACCEPTED, |lent, by| forgiven(lent, by, |h| h.is_written())),
@@ -134,6 +136,16 @@ pub const TAKE_BACKS: [Fault; 50] = [
         let counts = |block: &[u8]| word(block, DELEGATIONS_AT);
         h.is_written() && counts(&h.slip[AFTER_AT..]) == counts(&h.lent.block)
     })),
+    back("the register's kinds not compared", ACCEPTED, |lent, by| forgiven(lent, by, |h| {
+        let [mut after, mut register] = [h.slip[AFTER_AT..].to_vec(), h.lent.block.clone()];
+        make_ordinary(&mut after);
+        make_ordinary(&mut register);
+        h.is_written() && after == register
+    })),
+    back("the kinds on the slip not compared", ACCEPTED, |lent, by| forgiven(lent, by, |h| {
+        h.is_after() && h.with(make_slip_ordinary).is_written()
+    })),
+    back("all made ordinary by a taking back", BLOCK, |lent, by| restored(lent, by, |_, left| make_ordinary(&mut left.block))),
     back("a slip handed in again accepted", &[Part::Number, Part::Answers], |lent, by| forgiven(lent, by, |h| {
         h.is_written() && h.slip[..BLOCK_LEN] == h.lent.block
     })),

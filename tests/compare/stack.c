@@ -89,6 +89,14 @@ static void build(uint32_t subjects, uint32_t delegations)
     }
 }
 
+/* The same, all pass-only. */
+static void build_pass_only(void)
+{
+    build(SEATREG_MOST_SUBJECTS, SEATREG_MOST_DELEGATIONS);
+    for (size_t i = 0; i < SEATREG_MOST_DELEGATIONS; i++)
+        block[140 + 8 * i + 3] = SEATREG_PASS_ONLY;
+}
+
 static void build_full(void)
 {
     build(SEATREG_MOST_SUBJECTS, SEATREG_MOST_DELEGATIONS);
@@ -109,6 +117,16 @@ static void build_before_raise(void)
 {
     build_before_last_grant();
     grant(4, 8, SEATREG_USE_ONLY, 0, 0);
+}
+
+/* The same, pass-only. */
+static void build_before_pass_only_raise(void)
+{
+    uint32_t refusal;
+
+    build_before_last_grant();
+    refusal = seatreg_grant_kind(BLOCK, 4, 8, 1, 0, 0, SEATREG_PASS_ONLY, NO_TEXT, ANSWERS);
+    check(refusal == SEATREG_ACCEPTED, "grant_kind", "refused");
 }
 
 /* The register of the deepest cut, as tests/second/generate/rounds.rs explains it: 256 delegations
@@ -224,7 +242,7 @@ static void build_deep_file(void) { build_file(build_deep); }
 static void build_unformed_file(void)
 {
     build_file(build_full);
-    text[text_len - 2] = text[text_len - 4] = '1';
+    text[text_len - 4] = text[text_len - 6] = '1';
 }
 
 /* The owner's delegations come first: all have weight 0, so nothing supports the others. */
@@ -270,6 +288,16 @@ static void downgrade_deep(void) { returned = seatreg_downgrade(BLOCK, 0, 1, 12,
 static void grant_last_table(void)
 {
     returned = seatreg_grant_table(BLOCK, 4, 8, SEATREG_UNLIMITED, 0, 0, TABLE, ANSWERS);
+}
+
+static void grant_last_kind(void)
+{
+    returned = seatreg_grant_kind(BLOCK, 4, 8, SEATREG_UNLIMITED, 0, 0, SEATREG_PASS_ONLY, NO_TEXT, ANSWERS);
+}
+
+static void grant_last_kind_table(void)
+{
+    returned = seatreg_grant_kind(BLOCK, 4, 8, SEATREG_UNLIMITED, 0, 0, SEATREG_PASS_ONLY, TABLE, ANSWERS);
 }
 
 static void reach_last_table(void) { returned = seatreg_reach_table(BLOCK, 63, 62, TABLE, ANSWERS); }
@@ -331,6 +359,7 @@ static const struct row rows[] = {
     {"grant, a raise, full register", build_before_raise, grant_last, 0, 0},
     {"reach, full register", build_full, reach_last, 0, 0},
     {"use, full register", build_full, use_last, 0, 0},
+    {"  all pass-only", build_pass_only, use_last, 0, 0},
     {"revoke, full register", build_full, revoke_first, 1, 0},
     {"revoke, 485 rounds", build_deep, revoke_deep, 485, 0},
     {"downgrade, full register", build_full, downgrade_first, 1, 0},
@@ -338,6 +367,12 @@ static const struct row rows[] = {
     {"grant with a table", build_before_last_grant, grant_last_table, 0, 0},
     {"  a raise, full register", build_before_raise, grant_last_table, 0, 0},
     {"  refused with 7", build_before_last_grant, grant_last_table, 0, SEATREG_MALFORMED},
+    {"grant_kind, pass-only", build_before_last_grant, grant_last_kind, 0, 0},
+    {"  a raise, full register", build_before_pass_only_raise, grant_last_kind, 0, 0},
+    {"  the other kind", build_before_raise, grant_last_kind, 0, SEATREG_PAIR_STANDS},
+    {"grant_kind with a table", build_before_last_grant, grant_last_kind_table, 0, 0},
+    {"  a raise, full register", build_before_pass_only_raise, grant_last_kind_table, 0, 0},
+    {"  refused with 7", build_before_last_grant, grant_last_kind_table, 0, SEATREG_MALFORMED},
     {"reach with a table", build_full, reach_last_table, 0, 0},
     {"  refused with 7", build_full, reach_last_table, 0, SEATREG_MALFORMED},
     {"revoke with a table", build_full, revoke_first_table, 1, 0},

@@ -34,7 +34,7 @@ impl Standing {
     /// From the block before the call and the number that is due, if the call is such a grant.
     pub fn of(asked: &Asked, table: &Table, block: &[u8], due: u32) -> Option<Standing> {
         let Asked::Call(passed) = asked else { return None };
-        if passed.call != Call::Grant || !NUMBERS.contains(&due) {
+        if !matches!(passed.call, Call::Grant | Call::GrantKind) || !NUMBERS.contains(&due) {
             return None;
         }
         let register = decode(block)?;
@@ -58,13 +58,17 @@ impl Standing {
         self.same_need() && self.same_bar()
     }
 
+    pub fn same_kind(&self) -> bool {
+        self.record().kind as u32 == self.passed.kind
+    }
+
     /// How much heavier it is than what stands; below 0 where it is lighter.
     pub fn gain(&self) -> i64 {
         self.passed.weight as i64 - self.record().weight as i64
     }
 
     pub fn is_raise(&self) -> bool {
-        self.same_condition() && self.gain() > 0
+        self.same_condition() && self.same_kind() && self.gain() > 0
     }
 
     /// The pair's reach by a table.
@@ -93,7 +97,8 @@ impl Standing {
         Left { number: 0, register, answer }
     }
 
-    fn record(&self) -> &Delegation {
+    /// What stands.
+    pub fn record(&self) -> &Delegation {
         &self.register.delegations[self.place]
     }
 }

@@ -1,9 +1,9 @@
 //! What a comparison counts of slips.
 
 use crate::contents::Asked;
-use crate::report::{absent, Case};
+use crate::report::{absent, is_full, Case};
 use crate::returned::is_supported;
-use second::block::{decode, word, DELEGATIONS_AT, MOST_DELEGATIONS};
+use second::block::decode;
 use second::refusal::OTHER_SLIP;
 use second::slip::{AFTER_AT, BY_AT};
 
@@ -29,7 +29,7 @@ impl Taken {
         match case.asked {
             Asked::CutSlip(_) if case.due == 0 => {
                 self.written += 1;
-                self.full += (case.before == MOST_DELEGATIONS) as u64;
+                self.full += case.began_full() as u64;
             }
             Asked::TakeBack(by) if case.due == 0 => self.add_back(case, by),
             Asked::TakeBack(_) if case.due == OTHER_SLIP => {
@@ -45,7 +45,7 @@ impl Taken {
         let register = decode(&case.left.block).expect("a block that was taken back to is well formed");
         self.back += 1;
         self.unsupported += !is_supported(&case.text.table, &register) as u64;
-        self.to_full += (word(&case.left.block, DELEGATIONS_AT) as usize == MOST_DELEGATIONS) as u64;
+        self.to_full += is_full(&case.left.block) as u64;
         self.by_another += (by != case.left.file[BY_AT] as u32) as u64;
     }
 

@@ -4,6 +4,7 @@ use crate::contents::{Asked, Contents};
 use crate::draw::List;
 use crate::entry::FileCall;
 use crate::fault::{Fault, NONE};
+use crate::filetexts::without_pass;
 use crate::report::Part;
 use crate::returned::is_supported;
 use second::block::{decode, Register};
@@ -16,7 +17,7 @@ const ACCEPTED: &[Part] = &[Part::Number, Part::Answers, Part::File, Part::Back]
 const FILE: &[Part] = &[Part::File];
 const ANSWERS: &[Part] = &[Part::Answers];
 
-pub const WRITES: [Fault; 15] = [
+pub const WRITES: [Fault; 20] = [
     wrong("the rest of the buffer zeroed", FILE, |lent| accepted(lent, |left| {
         let length = left.answer();
         left.file[length..].fill(0);
@@ -65,6 +66,30 @@ pub const WRITES: [Fault; 15] = [
         rows.subjects.retain(|row| row[2] == 0);
         put(left, lent, &rows);
     })),
+    wrong("every delegation written as ordinary", &[Part::File, Part::Back], |lent| accepted(lent, |left| {
+        let mut rows = Rows::of(&register(left));
+        rows.delegations.iter_mut().for_each(|row| row[5] = 0);
+        put(left, lent, &rows);
+    })),
+    wrong("ordinary and pass-only exchanged", &[Part::File, Part::Back], |lent| accepted(lent, |left| {
+        let mut rows = Rows::of(&register(left));
+        rows.delegations.iter_mut().for_each(|row| row[5] = 1 - row[5]);
+        put(left, lent, &rows);
+    })),
+    wrong("the column pass after the weight", &[Part::File, Part::Back], |lent| accepted(lent, |left| {
+        let mut rows = Rows::of(&register(left));
+        rows.delegations.iter_mut().for_each(|row| row[3..].rotate_right(1));
+        put(left, lent, &rows);
+    })),
+    wrong("pass-only delegations left out", &[Part::Answers, Part::File, Part::Back], |lent| accepted(lent, |left| {
+        let mut rows = Rows::of(&register(left));
+        rows.delegations.retain(|row| row[5] == 0);
+        put(left, lent, &rows);
+    })),
+    wrong("the column pass left out", &[Part::Answers, Part::File, Part::Back], |lent| accepted(lent, |left| {
+        let text = without_pass(&Rows::of(&register(left)).text());
+        put_text(left, lent, &text);
+    })),
     wrong("18 for an unsupported register", ACCEPTED, |lent| {
         let (number, left) = right(lent);
         if number == 0 && !is_supported(&OURS, &register(&left)) { (UNSUPPORTED, lent.clone()) } else { (number, left) }
@@ -107,9 +132,13 @@ fn register(left: &Contents) -> Register {
 
 /// These rows in the buffer that was lent, and their length answered.
 fn put(left: &mut Contents, lent: &Contents, rows: &Rows) {
-    let text = rows.text();
+    put_text(left, lent, &rows.text());
+}
+
+/// The same of any text.
+fn put_text(left: &mut Contents, lent: &Contents, text: &[u8]) {
     left.file.clone_from(&lent.file);
-    left.file[..text.len()].copy_from_slice(&text);
+    left.file[..text.len()].copy_from_slice(text);
     set_answer(left, text.len());
 }
 

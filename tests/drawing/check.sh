@@ -20,43 +20,50 @@ committed() {
 }
 
 # register NAME SUBJECTS AHEAD WEIGHT: a register file in which the owner gives
-# each subject weight 9, and each subject the next ones this weight.
+# each subject weight 9, pass-only, and each subject the next ones this weight.
 register() {
     awk -v subjects="$2" -v ahead="$3" -v weight="$4" 'BEGIN {
         print "subject marks retired"
         for (s = 0; s < subjects; s++)
             print s, (s == 0 ? 0 : 65536 - s), 0
-        print "\ngiver receiver weight need bar"
+        print "\ngiver receiver weight need bar pass"
         for (s = 1; s < subjects; s++)
-            print 0, s, 9, 0, 0
+            print 0, s, 9, 0, 0, 1
         for (s = 1; s < subjects; s++)
             for (r = s + 1; r <= s + ahead && r < subjects && lines < 256 - subjects + 1; r++) {
-                print s, r, weight, 1, 2
+                print s, r, weight, 1, 2, 0
                 lines++
             }
     }' >"$out/$1.register"
 }
 
-# drawn NAME SUBJECTS DELEGATIONS UNSUPPORTED: all of them are in its drawing.
+# drawn NAME SUBJECTS DELEGATIONS UNSUPPORTED PASS_ONLY: all of them are in its drawing.
 drawn() {
     local svg="$out/$1.svg"
     "$drawing" "$out/$1.register" >"$svg" 2>"$out/errors" && ! test -s "$out/errors" &&
         test "$(grep -c '<text .*>marks [0-9]*</text>' "$svg")" -eq "$(($2 - 1))" &&
         test "$(grep -c '<path ' "$svg")" -eq "$3" &&
-        test "$(grep -c '<path .*stroke-dasharray' "$svg")" -eq "$4" || return 1
+        test "$(grep -c '<path .*stroke-dasharray' "$svg")" -eq "$4" &&
+        test "$(grep -c '<polygon .*fill="#ffffff"' "$svg")" -eq "$5" || return 1
     if command -v xmllint; then
         xmllint --noout "$svg" || return 1
     fi
 }
 
+# outlines NAME DASHED: so many subjects may not use the right in its drawing.
+outlines() {
+    test "$(grep -c '<rect .*stroke-dasharray' "$out/$1.svg")" -eq "$2"
+}
+
 # One with the owner alone, one with 64 subjects and 256 delegations, one in which
-# the subjects give more than they have, and one with a retired subject.
+# the subjects give more than they have, and one with a retired subject. Subject 1 of
+# the two in the middle has a pass-only delegation alone.
 registers() {
-    register fresh 1 0 0 && drawn fresh 1 0 0 &&
-        register full 64 5 0 && test "$(wc -l <"$out/full.register")" -eq 323 && drawn full 64 256 0 &&
-        register unsupported 6 1 10 && drawn unsupported 6 9 4 &&
-        printf '%s\n' 'subject marks retired' '0 0 0' '1 5 0' '2 0 1' '' 'giver receiver weight need bar' '0 1 9 0 0' \
-            >"$out/retired.register" && drawn retired 3 1 0
+    register fresh 1 0 0 && drawn fresh 1 0 0 0 && outlines fresh 0 &&
+        register full 64 5 0 && test "$(wc -l <"$out/full.register")" -eq 323 && drawn full 64 256 0 63 &&
+        register unsupported 6 1 10 && drawn unsupported 6 9 4 5 && outlines unsupported 1 &&
+        printf '%s\n' 'subject marks retired' '0 0 0' '1 5 0' '2 0 1' '' 'giver receiver weight need bar pass' '0 1 9 0 0 0' \
+            >"$out/retired.register" && drawn retired 3 1 0 0 && outlines retired 1
 }
 
 # refused STATUS LINE WORDS...: with these arguments the program prints nothing,
@@ -77,13 +84,16 @@ number() {
 refusals() {
     local file=examples/dealers.register
     head -c -1 "$file" >"$out/short" && : >"$out/empty" && sed 's/$/\r/' "$file" >"$out/carriage" &&
-        sed '1s/ retired$//; 2,/^$/s/ 0$//' "$file" >"$out/old" && sed 's/^8 2 0$/8 2 1/' "$file" >"$out/marked" &&
+        sed '1,/^$/s/ [a-z0-9]*$//' "$file" >"$out/old" && sed '/^giver/,$s/ [a-z0-9]*$//' "$file" >"$out/unkind" &&
+        sed 's/^0 1 255 0 2 1$/0 1 255 0 2 2/' "$file" >"$out/pass" && sed 's/^8 2 0$/8 2 1/' "$file" >"$out/marked" &&
         sed 's/^6 7 0/6 6 0/' "$file" >"$out/unformed" && printf 'weight next\n' >"$out/table" &&
         awk 'BEGIN { print "weight next"; for (w = 0; w < 256; w++) print w, w }' >"$out/keeping" || return 1
     refused 1 "drawing: $out/short: $(number 7)" "$out/short" &&
         refused 1 "drawing: $out/empty: $(number 7)" "$out/empty" &&
         refused 1 "drawing: $out/carriage: $(number 7)" "$out/carriage" &&
         refused 1 "drawing: $out/old: $(number 7)" "$out/old" &&
+        refused 1 "drawing: $out/unkind: $(number 7)" "$out/unkind" &&
+        refused 1 "drawing: $out/pass: $(number 8)" "$out/pass" &&
         refused 1 "drawing: $out/marked: $(number 8)" "$out/marked" &&
         refused 1 "drawing: $out/unformed: $(number 8)" "$out/unformed" &&
         refused 1 "drawing: $out/table: $(number 7)" "$file" "$out/table" &&

@@ -14,13 +14,14 @@ part="faults"
 
 # A copy of the sources, whose program runs one file of chain calls, one of
 # lists, one of calls that are lent tables, one of register files, one of orders,
-# one of calls that set marks, one of retirements and one of slips.
+# one of calls that set marks, one of retirements, one of slips and one of
+# delegations of both kinds.
 copy() {
     local crate="$out/copy/crates/cases" from="$root/target/second/cases" file
     rm -rf "$out/copy" && mkdir -p "$crate/data" &&
         cp "$root/crates.txt" "$out/copy/" &&
         (cd "$root/crates" && cp -r --parents */src "$out/copy/crates/") || return 1
-    for file in chain-00.cases list-00.lists table-00.cases file-00.cases order-00.cases marks-00.cases retire-00.cases slip-00.cases; do
+    for file in chain-00.cases list-00.lists table-00.cases file-00.cases order-00.cases marks-00.cases retire-00.cases slip-00.cases pass-00.cases; do
         cp "$from/$file" "$crate/data/" &&
             echo "$file" >>"$crate/args" &&
             cat "$from/${file%.*}.expected" >>"$crate/stdout" || return 1
@@ -92,6 +93,7 @@ bit='    set_retired(b, subject);'
 five='    let cut = [number, by as u8, giver as u8, receiver as u8, weight as u8];'
 exchanged='    let cut = [number, by as u8, receiver as u8, giver as u8, weight as u8];'
 restored='    change::copy(&slip[..layout::BLOCK_SIZE], block);'
+kind='    b[at + KIND] = kind;'
 sized='    if !is_sized(calls.len(), blocks.len(), refusals.len(), answers.len()) {'
 first='        if blocks.len() > 0 {
             blocks[0] = 0;
@@ -104,11 +106,12 @@ step "a refused chain spoils a byte" found "$end" "$end"$'\n'"$front" '0 0 =' '1
 step "chain_table spoils the byte after its part" found "$tabled" "$tabled"$'\n'"$past" '1 1 =' '0 1 ='
 step "chain_table goes by our table" found "$by_text" "$by_ours" '16 0 0 0 =' '0 0 0 0 ='
 step "a table's text is left out" found "$text" '    if text.len() + 1 > 0 {' '7 0 0 =' '8 0 0 ='
-step "file spoils the byte after its part" found "$file_end" "$file_end"$'\n'"$after" '1 1 60:' '0 1 60:'
+step "file spoils the byte after its part" found "$file_end" "$file_end"$'\n'"$after" '1 1 65:' '0 1 65:'
 step "order spoils the byte after its part" found "$order_end" "$order_end"$'\n'"$after" '1 1 12:' '0 1 12:'
 step "the marks stay as they were" found "$marks" '' '1 1 3 2188:' '0 0 1 ='
 step "a retired subject's bit stays unset" found "$bit" '' '02........0302' '.........0302'
 step "giver and receiver are exchanged on a slip" found "$five" "$exchanged" '10301/=' '30101/='
 step "a cut taken back leaves the block" found "$restored" '' '2188:05.05.' '= ='
+step "a record is written without its kind" found "$kind" '' '01\n0 2 0 0 2188:' '\n0 2 0 0 2188:'
 step "a refused list spoils a byte" found "$sized" "$sized"$'\n'"$first" '=' '2188:'
 step "a list does not copy its blocks" found '    copy_slot(blocks, i);' '' '0 1 0 0 2188:' '8 0 0 0 '

@@ -19,9 +19,14 @@ pub const RECORD_LEN: usize = 8;
 pub const GIVER: usize = 0;
 pub const RECEIVER: usize = 1;
 pub const WEIGHT: usize = 2;
-pub const RECORD_ZERO: usize = 3;
+pub const KIND: usize = 3;
 pub const NEED: usize = 4;
 pub const BAR: usize = 6;
+
+// Kinds of a delegation.
+pub const ORDINARY: u8 = 0;
+/// Document 02, C-18: its receiver passes the right on and has no use of it by this one.
+pub const PASS_ONLY: u8 = 1;
 
 /// A standing delegation.
 #[derive(Clone, Copy, Debug, PartialEq, Eq)]
@@ -29,6 +34,7 @@ pub struct Delegation {
     pub giver: u8,
     pub receiver: u8,
     pub weight: u8,
+    pub kind: u8,
     pub need: u16,
     pub bar: u16,
 }
@@ -93,7 +99,7 @@ pub const RULES: [Rule; 17] = [
     ("receivers are enrolled", |b| records(b).all(|r| (r[RECEIVER] as usize) < subjects(b))),
     ("giver and receiver differ", |b| records(b).all(|r| r[GIVER] != r[RECEIVER])),
     ("the receiver is not the owner", |b| records(b).all(|r| r[RECEIVER] != 0)),
-    ("a record's zero byte is zero", |b| records(b).all(|r| r[RECORD_ZERO] == 0)),
+    ("a record's kind is 0 or 1", |b| records(b).all(|r| r[KIND] <= PASS_ONLY)),
     ("need and bar share no mark", |b| records(b).all(|r| word(r, NEED) & word(r, BAR) == 0)),
     ("unused records are zero", |b| b[RECORDS_AT + RECORD_LEN * used(b)..].iter().all(|&x| x == 0)),
     ("the retired are enrolled", |b| retired(b).all(|s| s < subjects(b))),
@@ -137,8 +143,7 @@ pub fn encode(register: &Register) -> Vec<u8> {
 }
 
 /// The block that an old one of 2,180 bytes becomes: the bytes of the retired, all
-/// zero, come between its marks and its records. Nothing if it was not well formed: with
-/// none retired, the rules are those of before.
+/// zero, come between its marks and its records. Nothing if that is not well formed.
 pub fn brought(old: &[u8]) -> Option<Vec<u8>> {
     if old.len() != OLD_BLOCK_LEN {
         return None;
@@ -201,6 +206,7 @@ fn read_record(record: &[u8]) -> Delegation {
         giver: record[GIVER],
         receiver: record[RECEIVER],
         weight: record[WEIGHT],
+        kind: record[KIND],
         need: word(record, NEED),
         bar: word(record, BAR),
     }
@@ -210,7 +216,7 @@ fn write_record(record: &mut [u8], delegation: &Delegation) {
     record[GIVER] = delegation.giver;
     record[RECEIVER] = delegation.receiver;
     record[WEIGHT] = delegation.weight;
-    record[RECORD_ZERO] = 0;
+    record[KIND] = delegation.kind;
     set_word(record, NEED, delegation.need);
     set_word(record, BAR, delegation.bar);
 }

@@ -1,7 +1,7 @@
 //! The calls, on any bytes and any numbers. Those that reckon reach may be lent
 //! a table's text; without one, or with an empty one, they reckon by ours.
 
-use crate::block::{brought, encode, Delegation, Register, BLOCK_LEN, OLD_BLOCK_LEN};
+use crate::block::{brought, encode, Delegation, Register, BLOCK_LEN, OLD_BLOCK_LEN, ORDINARY};
 use crate::cut::settle;
 use crate::engine::{Engine, FAST};
 use crate::order;
@@ -118,8 +118,8 @@ pub fn order_table(engine: &Engine, block: &[u8], receiver: u32, text: &[u8], bu
 }
 
 /// A call whose numbers are all 0.
-pub fn blank(call: Call) -> Passed {
-    Passed { call, by: 0, giver: 0, receiver: 0, weight: 0, need: 0, bar: 0 }
+pub const fn blank(call: Call) -> Passed {
+    Passed { call, by: 0, giver: 0, receiver: 0, weight: 0, need: 0, bar: 0, kind: 0 }
 }
 
 /// Any call but chain and order, with the engine named. These need a buffer and
@@ -135,9 +135,7 @@ pub fn run_table(engine: &Engine, n: &Passed, text: &[u8], block: &mut [u8]) -> 
         Call::Open => open(block),
         Call::BringOver => bring_over(text, block),
         Call::Reach | Call::Use | Call::Chain | Call::Order => answer(engine, n, text, block),
-        Call::Enrol | Call::Grant | Call::Revoke | Call::Downgrade | Call::SetMarks | Call::Retire => {
-            change(engine, n, text, block)
-        }
+        _ => change(engine, n, text, block),
     }
 }
 
@@ -148,7 +146,7 @@ fn change(engine: &Engine, n: &Passed, text: &[u8], block: &mut [u8]) -> Outcome
     };
     let answers = match n.call {
         Call::Enrol => add_subject(n, &mut register),
-        Call::Grant => set_delegation(n, &mut register),
+        Call::Grant | Call::GrantKind => set_delegation(n, &mut register),
         _ => change_and_settle(engine, &table, n, &mut register),
     };
     block.copy_from_slice(&encode(&register));
@@ -179,6 +177,7 @@ fn set_delegation(n: &Passed, register: &mut Register) -> [i32; 3] {
         giver: n.giver as u8,
         receiver: n.receiver as u8,
         weight: n.weight as u8,
+        kind: n.kind as u8,
         need: n.need as u16,
         bar: n.bar as u16,
     };
@@ -209,8 +208,10 @@ pub fn retire_subject(register: &mut Register, subject: u32) {
     register.retired |= 1 << subject;
 }
 
+/// The owner, or where an ordinary delegation stands.
 fn may_use(register: &Register, receiver: u32) -> bool {
-    receiver == 0 || register.delegations.iter().any(|d| d.receiver as u32 == receiver)
+    let gives_use = |d: &Delegation| d.receiver as u32 == receiver && d.kind == ORDINARY;
+    receiver == 0 || register.delegations.iter().any(gives_use)
 }
 
 pub fn accepted(answers: [i32; 3]) -> Outcome {

@@ -71,14 +71,17 @@ pub fn read_number(digits: &[u8]) -> Option<u32> {
     u32::try_from(value).ok()
 }
 
+/// The kind of a grant with one is under by, which no grant uses.
 pub fn from_values(values: [u32; 7]) -> Option<Passed> {
     let [call, by, giver, receiver, weight, need, bar] = values;
     let call = ALL_CALLS.into_iter().find(|&known| known as u32 == call)?;
-    Some(Passed { call, by, giver, receiver, weight, need, bar })
+    let (by, kind) = if call == Call::GrantKind { (0, by) } else { (by, 0) };
+    Some(Passed { call, by, giver, receiver, weight, need, bar, kind })
 }
 
 pub fn values_of(n: &Passed) -> [u32; 7] {
-    [n.call as u32, n.by, n.giver, n.receiver, n.weight, n.need, n.bar]
+    let by = if n.call == Call::GrantKind { n.kind } else { n.by };
+    [n.call as u32, by, n.giver, n.receiver, n.weight, n.need, n.bar]
 }
 
 /// The columns after the call number that a call uses:
@@ -98,6 +101,7 @@ pub fn used_columns(call: Call) -> [bool; 6] {
         Call::SetMarks => [1, 0, 1, 0, 1, 0],
         Call::Retire => [1, 0, 1, 0, 0, 0],
         Call::BringOver => [0, 0, 0, 0, 0, 0],
+        Call::GrantKind => [1, 1, 1, 1, 1, 1],
     };
     columns.map(|used| used == 1)
 }

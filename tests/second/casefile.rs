@@ -129,7 +129,7 @@ pub fn read_case(line: &[u8], before: &[u8]) -> Option<Case> {
 }
 
 /// The last word of a line and what is before its space.
-fn split_last(line: &[u8]) -> Option<(&[u8], &[u8])> {
+pub fn split_last(line: &[u8]) -> Option<(&[u8], &[u8])> {
     let space = line.iter().rposition(|&byte| byte == b' ')?;
     Some((&line[..space], &line[space + 1..]))
 }
@@ -176,7 +176,7 @@ pub fn answer_table(engine: &Engine, n: &Passed, text: &[u8], block: &mut [u8]) 
         Call::Chain => chain_outcome(&n, text, block),
         Call::Order => {
             let (written, buffer) = ordered(engine, &n, text, block);
-            order_outcome(&written, &buffer)
+            filled_outcome(&written, &buffer)
         }
         _ => run_table(engine, &n, text, block),
     }
@@ -195,14 +195,14 @@ fn chain_outcome(n: &Passed, text: &[u8], block: &[u8]) -> Outcome {
 }
 
 /// What an order wrote, and its buffer afterwards.
-fn ordered(engine: &Engine, n: &Passed, text: &[u8], block: &[u8]) -> (Written, Vec<u8>) {
+pub fn ordered(engine: &Engine, n: &Passed, text: &[u8], block: &[u8]) -> (Written, Vec<u8>) {
     let mut buffer = vec![UNWRITTEN; (n.weight as usize).min(MOST_BYTES)];
     let written = order_table(engine, block, n.receiver, text, &mut buffer);
     (written, buffer)
 }
 
-/// The answers of an order that filled so much of the buffer.
-pub fn order_outcome(written: &Written, buffer: &[u8]) -> Outcome {
+/// The answers of an order, or of a write, that filled so much of the buffer.
+pub fn filled_outcome(written: &Written, buffer: &[u8]) -> Outcome {
     let rest_kept = buffer[written.filled..].iter().all(|&byte| byte == UNWRITTEN);
     let answers = match (written.refusal, rest_kept) {
         (0, true) => [written.filled as i32, 1, 1],
@@ -214,7 +214,7 @@ pub fn order_outcome(written: &Written, buffer: &[u8]) -> Outcome {
 
 /// The expected line of an order: in the place of the block the front that was written.
 pub fn order_line(written: &Written, buffer: &[u8]) -> String {
-    let outcome = order_outcome(written, buffer);
+    let outcome = filled_outcome(written, buffer);
     let [first, second, third] = outcome.answers;
     let front = if written.refusal != 0 { "=".to_string() } else { block_text(&buffer[..written.filled]) };
     format!("{} {first} {second} {third} {front}\n", outcome.refusal)
@@ -223,14 +223,21 @@ pub fn order_line(written: &Written, buffer: &[u8]) -> String {
 /// The expected text of a whole case file, or the number of a line that is no case.
 pub fn expected_text(engine: &Engine, text: &[u8]) -> Result<String, usize> {
     let (mut before, mut current) = (Vec::new(), Vec::new());
+    expected_by(text, |line| {
+        let case = read_case(line, &before)?;
+        let expected = expected_line(engine, &case, &mut current);
+        before = case.text.unwrap_or_default();
+        Some(expected)
+    })
+}
+
+/// The same by what is expected of each line without its byte 10, nothing if it is no case. On
+/// the first there is no line before.
+pub fn expected_by(text: &[u8], mut expected: impl FnMut(&[u8]) -> Option<String>) -> Result<String, usize> {
     let mut output = String::new();
     for (at, line) in lines(text).enumerate() {
-        if at == 0 && line.contains(&b'=') {
-            return Err(1);
-        }
-        let case = line.strip_suffix(b"\n").and_then(|line| read_case(line, &before)).ok_or(at + 1)?;
-        output.push_str(&expected_line(engine, &case, &mut current));
-        before = case.text.unwrap_or_default();
+        let line = line.strip_suffix(b"\n").filter(|line| at > 0 || !line.contains(&b'='));
+        output.push_str(&line.and_then(&mut expected).ok_or(at + 1)?);
     }
     Ok(output)
 }

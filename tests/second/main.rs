@@ -1,7 +1,7 @@
 //! `calls` runs the program on standard input, `cases FILE` prints what is
 //! expected of a case file, `generate DIR` writes all cases into a folder.
 
-use second::{callfile, casefile, engine::FAST, filecase, slipcase};
+use second::{callfile, casefile, engine::FAST, lentcase};
 use std::io::{self, Read, Write};
 use std::path::Path;
 use std::process::ExitCode;
@@ -32,13 +32,12 @@ fn calls() -> io::Result<()> {
     io::stdout().write_all(&callfile::print(&FAST, &input))
 }
 
-/// The lines of the kinds `file` and `slip` have forms of their own.
+/// The lines of the kinds `file`, `slip` and `pass` have a form of their own.
 fn cases(file: &Path) -> io::Result<()> {
     let text = std::fs::read(file)?;
     let name = file.file_name().and_then(|name| name.to_str()).unwrap_or_default();
     let expected_text = match name.split('-').next() {
-        Some("file") => filecase::expected_text,
-        Some("slip") => slipcase::expected_text,
+        Some("file" | "slip" | "pass") => lentcase::expected_text,
         _ => casefile::expected_text,
     };
     let expected = expected_text(&FAST, &text);

@@ -1,7 +1,7 @@
 //! A small generator of numbers with a fixed sequence, random registers and
 //! random step tables.
 
-use crate::block::{Delegation, Register};
+use crate::block::{Delegation, Register, ORDINARY};
 use crate::chain::NONE;
 use crate::table::{Table, WEIGHTS};
 
@@ -79,6 +79,7 @@ fn random_delegation(random: &mut Random, shape: &Shape) -> Delegation {
         giver: random.below(shape.subjects) as u8,
         receiver: random.range(1, shape.subjects - 1) as u8,
         weight: random.pick(shape.weights),
+        kind: ORDINARY,
         need,
         bar,
     }

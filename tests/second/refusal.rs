@@ -2,7 +2,9 @@
 //! The refusal is the first that applies of: 1, passed in order, 7 and 17 for a
 //! lent table's text, 8, held in order. It is never a numeric minimum.
 
-use crate::block::{brought, decode, Delegation, Register, BLOCK_LEN, MOST_DELEGATIONS, MOST_SUBJECTS, OLD_BLOCK_LEN};
+use crate::block::{
+    brought, decode, Delegation, Register, BLOCK_LEN, MOST_DELEGATIONS, MOST_SUBJECTS, OLD_BLOCK_LEN, PASS_ONLY,
+};
 use crate::engine::Engine;
 use crate::table::{Table, OURS};
 
@@ -19,6 +21,8 @@ pub const UNSUPPORTED: u32 = 18;
 pub const RETIRED: u32 = 19;
 /// A slip that takes no cut back.
 pub const OTHER_SLIP: u32 = 20;
+/// A pass-only grant of weight 0, or a kind above 1.
+pub const NO_KIND: u32 = 21;
 pub const LEAST_BUFFER: usize = 126;
 /// The buffer of an order has just so many bytes.
 pub const ORDER_BUFFER: usize = 128;
@@ -42,6 +46,8 @@ pub enum Call {
     Retire,
     /// A block of 2,180 bytes, lent in the place of a table's text, into one of 2,188.
     BringOver,
+    /// Document 02, C-18: a grant with a kind. Numbers 14 to 16 are those of the kind `slip`.
+    GrantKind = 17,
 }
 
 /// Document 01's calls, in the order of their numbers.
@@ -50,9 +56,9 @@ pub const CALLS: [Call; 8] = [
 ];
 
 /// Those and document 02's.
-pub const ALL_CALLS: [Call; 12] = [
+pub const ALL_CALLS: [Call; 13] = [
     Call::Enrol, Call::Grant, Call::Revoke, Call::Downgrade, Call::Reach, Call::Use, Call::Open, Call::Chain,
-    Call::Order, Call::SetMarks, Call::Retire, Call::BringOver,
+    Call::Order, Call::SetMarks, Call::Retire, Call::BringOver, Call::GrantKind,
 ];
 
 /// A call and the numbers passed. Numbers that the call does not use are 0,
@@ -67,6 +73,8 @@ pub struct Passed {
     /// The marks of enrol and set_marks are here.
     pub need: u32,
     pub bar: u32,
+    /// Of a delegation that is granted with one; every other is ordinary.
+    pub kind: u32,
 }
 
 type PassedTest = fn(&Passed) -> bool;
@@ -97,6 +105,17 @@ const NAMED: [(u32, HeldTest); 2] = [(9, R(not_enrolled)), (RETIRED, R(retired))
 /// The same of a call that is the owner's alone.
 const BY_THE_OWNER: [(u32, HeldTest); 3] = [NAMED[0], NAMED[1], (14, N(not_owner))];
 
+/// What a grant looks at in the numbers passed.
+const GRANTED: [(u32, PassedTest); 5] = [(2, subjects), (3, weight), (4, masks), (5, equal), (6, to_owner)];
+
+/// The same with a kind.
+const GRANTED_KIND: [(u32, PassedTest); 6] =
+    [GRANTED[0], GRANTED[1], GRANTED[2], GRANTED[3], GRANTED[4], (NO_KIND, no_kind)];
+
+/// What either looks at in the register.
+const GRANTS: [(u32, HeldTest); 5] =
+    [NAMED[0], NAMED[1], (11, R(stands)), (12, R(full)), (16, Reach(above_reach))];
+
 /// The calls that reckon reach take a table: all but these.
 pub fn takes_table(call: Call) -> bool {
     !matches!(call, Call::Open | Call::Enrol | Call::Use | Call::BringOver)
@@ -107,10 +126,8 @@ pub fn tests(call: Call) -> Tests {
     let (passed, held): (&'static [(u32, PassedTest)], &'static [(u32, HeldTest)]) = match call {
         Call::Open | Call::BringOver => (&[], &[]),
         Call::Enrol => (&[(4, masks)], &[(10, R(all_enrolled))]),
-        Call::Grant => (
-            &[(2, subjects), (3, weight), (4, masks), (5, equal), (6, to_owner)],
-            &[NAMED[0], NAMED[1], (11, R(stands)), (12, R(full)), (16, Reach(above_reach))],
-        ),
+        Call::Grant => (&GRANTED, &GRANTS),
+        Call::GrantKind => (&GRANTED_KIND, &GRANTS),
         Call::Reach => (&[(2, subjects), (5, equal), (6, to_owner)], &NAMED),
         Call::Use => (&[(2, subjects)], &NAMED),
         Call::Revoke => (
@@ -236,6 +253,11 @@ fn to_owner(n: &Passed) -> bool {
     n.receiver == 0
 }
 
+/// 21: a pass-only grant of weight 0, or a kind above 1.
+fn no_kind(n: &Passed) -> bool {
+    n.kind > PASS_ONLY as u32 || n.kind == PASS_ONLY as u32 && n.weight == 0
+}
+
 /// 9: a named subject, by included, is not enrolled.
 fn not_enrolled(n: &Passed, register: &Register) -> bool {
     [n.by, n.giver, n.receiver].iter().any(|&subject| !register.enrolled(subject))
@@ -256,9 +278,10 @@ fn stands(n: &Passed, register: &Register) -> bool {
     register.standing(n.giver, n.receiver).is_some_and(|d| !raises(n, d))
 }
 
-/// Document 02, C-12: a grant with the same need and bar and a larger weight.
+/// Document 02, C-12 and C-18: a grant with the same need, bar and kind and a larger weight.
 fn raises(n: &Passed, standing: &Delegation) -> bool {
-    (n.need, n.bar) == (standing.need as u32, standing.bar as u32) && n.weight > standing.weight as u32
+    let same = [standing.need as u32, standing.bar as u32, standing.kind as u32];
+    [n.need, n.bar, n.kind] == same && n.weight > standing.weight as u32
 }
 
 /// 12: 256 delegations stand, and the pair is not among them.

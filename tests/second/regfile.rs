@@ -1,6 +1,6 @@
-//! The register as a file: document 02, C-13 and C-16. The line `subject marks retired`,
+//! The register as a file: document 02, C-13, C-16 and C-18. The line `subject marks retired`,
 //! a line for each enrolled subject in order, an empty line, the line `giver receiver weight
-//! need bar`, a line for each delegation in the order of the block, and nothing
+//! need bar pass`, a line for each delegation in the order of the block, and nothing
 //! after them.
 
 use crate::block::{decode, encode, Delegation, Register, BLOCK_LEN, MOST_DELEGATIONS, MOST_SUBJECTS};
@@ -12,7 +12,7 @@ use crate::table::Table;
 
 pub const SUBJECT_NAMES: &[u8] = b"subject marks retired\n";
 pub const EMPTY_LINE: &[u8] = b"\n";
-pub const DELEGATION_NAMES: &[u8] = b"giver receiver weight need bar\n";
+pub const DELEGATION_NAMES: &[u8] = b"giver receiver weight need bar pass\n";
 
 /// The lent buffer of a write has at least so many bytes.
 pub const LEAST_TEXT: usize = 8192;
@@ -25,7 +25,7 @@ pub const READ_REFUSALS: [u32; 5] = [WRONG_LENGTH, MALFORMED, BAD_TABLE, NOT_WEL
 #[derive(Clone, Debug, PartialEq, Eq)]
 pub struct Rows {
     pub subjects: Vec<[u32; 3]>,
-    pub delegations: Vec<[u32; 5]>,
+    pub delegations: Vec<[u32; 6]>,
 }
 
 /// Writes the register's file into the buffer, supported or not.
@@ -108,7 +108,7 @@ impl Rows {
         let retired = |number: u32| register.is_retired(number) as u32;
         let subject = |(&marks, number): (&u16, u32)| [number, marks as u32, retired(number)];
         let delegation = |d: &Delegation| {
-            [d.giver as u32, d.receiver as u32, d.weight as u32, d.need as u32, d.bar as u32]
+            [d.giver as u32, d.receiver as u32, d.weight as u32, d.need as u32, d.bar as u32, d.kind as u32]
         };
         Rows {
             subjects: register.marks.iter().zip(0..).map(subject).collect(),
@@ -157,11 +157,12 @@ impl Rows {
 }
 
 /// Nothing if a number is larger than its place in the block.
-fn delegation_of(&[giver, receiver, weight, need, bar]: &[u32; 5]) -> Option<Delegation> {
+fn delegation_of(&[giver, receiver, weight, need, bar, pass]: &[u32; 6]) -> Option<Delegation> {
     Some(Delegation {
         giver: giver.try_into().ok()?,
         receiver: receiver.try_into().ok()?,
         weight: weight.try_into().ok()?,
+        kind: pass.try_into().ok()?,
         need: need.try_into().ok()?,
         bar: bar.try_into().ok()?,
     })

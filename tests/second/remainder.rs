@@ -41,7 +41,7 @@ fn advance(start: &Register, weights: &mut [i16]) -> bool {
     false
 }
 
-/// The same subjects, marks, retired ones and conditions with these weights.
+/// The same subjects, marks, retired ones, conditions and kinds with these weights.
 pub fn with_weights(start: &Register, weights: &[i16]) -> Register {
     let present = start.delegations.iter().zip(weights).filter(|(_, &weight)| weight != NONE);
     let delegations = present.map(|(d, &weight)| Delegation { weight: weight as u8, ..*d }).collect();
@@ -58,7 +58,7 @@ pub fn is_supported(table: &Table, register: &Register) -> bool {
 pub fn is_remainder(table: &Table, start: &Register, left: &Register) -> bool {
     let stands = |d: &Delegation| {
         let before = start.standing(d.giver as u32, d.receiver as u32);
-        before.is_some_and(|b| b.need == d.need && b.bar == d.bar && d.weight <= b.weight)
+        before.is_some_and(|b| (b.need, b.bar, b.kind) == (d.need, d.bar, d.kind) && d.weight <= b.weight)
     };
     let same_subjects = left.marks == start.marks && left.retired == start.retired;
     same_subjects && left.delegations.iter().all(stands) && is_supported(table, left)

@@ -10,7 +10,7 @@ use mir.Syntax.{w8}
 use mir.Val.{Fits}
 use lib.Dec.{T, ltb, ltb→lt, nltb→le}
 use lib.ListN.{length, getD, set, take, drop, replicate, length-append, length-take, length-drop, List·getD-append, List·getD-eq-default}
-use lib.Seq.{getD-take, getD-drop, getD-append-add, set-at, append-snoc, drop-cons, drop-at, take-add, drop-drop, drop-append-add}
+use lib.Seq.{getD-take, getD-drop, getD-append-add, set-at, append-snoc, drop-cons, drop-at, take-add, drop-drop}
 use Rattle.rules.specs.List.{_∈_, tabulate, concatMap}
 use Rattle.rules.proofs.Lists.{T-left, T-right, T-both, either}
 use Rattle.block.specs.Bytes.{IsBytes, two, twoBytes, readAll, padded, allFrom}
@@ -111,18 +111,6 @@ module _ {A : Type 0} (enc : A → List ℕ) (w : ℕ) (wide : (x : A) → lengt
   pub length-written : (xs : List A) → length (concatMap enc xs) ≡ w * length xs
   length-written [] = sym (mul-zero w)
   length-written (x ∷ xs) = length-append (enc x) (concatMap enc xs) ∙ omega (arith, wide x, length-written xs, mul-suc w (length xs))
-
-  -- what stands where value k begins
-  pub written-at : (xs : List A) (k : ℕ) (d : A) (rest : List ℕ) → k < length xs → (r : List ℕ) × (drop (w * k) (concatMap enc xs ++ rest) ≡ enc (getD xs k d) ++ r)
-  written-at [] k d rest l = absurd (not-suc-le-zero l)
-  written-at (x ∷ xs) zero d rest l = (concatMap enc xs ++ rest, ap (λ (m : ℕ). drop m ((enc x ++ concatMap enc xs) ++ rest)) (mul-zero w) ∙ append-assoc (enc x) (concatMap enc xs) rest)
-  written-at (x ∷ xs) (suc k) d rest l =
-      let (r, e) = written-at xs k d rest (le-of-suc-le-suc l) in
-      let n : w * suc k ≡ length (enc x) + w * k = omega (arith, mul-suc w k, wide x) in (
-        r,
-        ap (λ (s : List ℕ). drop (w * suc k) s) (append-assoc (enc x) (concatMap enc xs) rest) ∙ ap (λ (m : ℕ). drop m (enc x ++ (concatMap enc xs ++ rest))) n
-            ∙ drop-append-add (enc x) (concatMap enc xs ++ rest) (w * k) ∙ e,
-      )
 
   module _ (dec : List ℕ → A) where
     -- what was written is read back

@@ -65,7 +65,7 @@ pub record-read : (d : Delegation) → d .need ≤ 65535 → d .bar ≤ 65535 �
 record-read d h k r =
     let p = two-twoBytes (d .need) h in
     let q = two-twoBytes (d .bar) k in
-    λ i. record { giver = d .giver; receiver = d .receiver; weight = d .weight; need = p i; bar = q i }
+    λ i. record { giver = d .giver; receiver = d .receiver; weight = d .weight; need = p i; bar = q i; kind = d .kind }
 
 -- ── every byte is below 256 ──
 two-bytes : (n : ℕ) → IsBytes (twoBytes n)
@@ -142,7 +142,7 @@ module _ (R : Register) (f : Fits R) where
   record-bytes d k zero = omega (arith, k .giver)
   record-bytes d k (suc zero) = omega (arith, k .receiver)
   record-bytes d k (suc (suc zero)) = omega (arith, k .weight)
-  record-bytes d k (suc (suc (suc zero))) = omega arith
+  record-bytes d k (suc (suc (suc zero))) = omega (arith, k .kind)
   record-bytes d k (suc (suc (suc (suc i)))) = bytes-append (twoBytes (d .need)) (twoBytes (d .bar)) (two-bytes (d .need)) (two-bytes (d .bar)) i
 
   bytes-head : IsBytes (headOf (R .subjects) (length (R .delegations)))
@@ -184,5 +184,5 @@ formed-fits R f = record {
   marks = f .marks;
   bits = retired-room R f;
   few = f .few;
-  each = λ d m. let k = f .each d m in record { giver = omega (arith, k .giver, f .most); receiver = omega (arith, k .receiver, f .most); weight = k .weight; need = k .need; bar = k .bar };
+  each = λ d m. let k = f .each d m in record { giver = omega (arith, k .giver, f .most); receiver = omega (arith, k .receiver, f .most); weight = k .weight; need = k .need; bar = k .bar; kind = omega (arith, k .kind) };
 }

@@ -20,14 +20,14 @@ use Rattle.rules.proofs.Bits.{bit-zero, bit-high}
 use Rattle.rules.proofs.Retired.{bit-set}
 use Rattle.rules.proofs.WellFormed.{Before-trans}
 use Rattle.rules.proofs.Pairs.{before-Before, Before-before}
-use Rattle.block.specs.Layout.{blockSize, mostSubjects, mostRecords, freeAt, countAt, markSize, recordSize, marksSize, retiredSize, recordsSize, marksAt, retiredAt, recordsAt, giverByte, receiverByte, weightByte, restByte, needByte, barByte}
+use Rattle.block.specs.Layout.{blockSize, mostSubjects, mostRecords, freeAt, countAt, markSize, recordSize, marksSize, retiredSize, recordsSize, marksAt, retiredAt, recordsAt, giverByte, receiverByte, weightByte, kindByte, needByte, barByte}
 use Rattle.block.specs.Bytes.{IsBytes, two, twoBytes, readAll, padded, allFrom, zeros}
 use Rattle.block.specs.Block.{marksIn, delegationIn, recordBytes, subjectsIn, countIn, retiredIn, decode, encode}
-use Rattle.block.specs.WellFormed.{allPass, delegationTests, delegationFormed, recordTests, recordFormed, restUnmarked, retiredTests, subjectFormed, retiredFormed, recordsFormed, rises, recordsRise, isApart, recordsApart, restZero, blockTests, wellFormed}
-use Rattle.block.proofs.Bytes.{tabulate-suc, twoBytes-two, two-most, bytes-drop, length-tabulate, tabulate-mem, mem-tabulate, length-written, written-at, written-read, allFrom-at, allFrom-all, padded-zeros, getD-mem}
+use Rattle.block.specs.WellFormed.{delegationTests, delegationFormed, allPass, restUnmarked, retiredTests, subjectFormed, retiredFormed, recordsFormed, rises, recordsRise, isApart, recordsApart, restZero, blockTests, wellFormed}
+use Rattle.block.proofs.Bytes.{tabulate-suc, twoBytes-two, two-most, bytes-drop, length-tabulate, tabulate-mem, mem-tabulate, length-written, written-read, allFrom-at, allFrom-all, padded-zeros}
 use Rattle.block.proofs.Wide.{wide-most, bytes-wide}
 use Rattle.block.proofs.Tests.{Each, end, _▸_, each, every}
-use Rattle.block.proofs.Fitting.{marksPart, middlePart, middleSize, afterMarks, encode-records, encode-marks, record-wide, record-read}
+use Rattle.block.proofs.Fitting.{marksPart, middlePart, middleSize, afterMarks, encode-records, encode-marks, record-wide}
 use Rattle.block.proofs.Encode.{marks-encode, length-encode, subjects-encode, count-encode, retired-encode, records-encode, delegations-encode}
 use Rattle.block.specs.Records.{marksFor, delegationAt, delegationsTo, recordFrom}
 
@@ -103,11 +103,12 @@ Rising-rises (d ∷ e ∷ es) r = T-both (before d e) (rises (e ∷ es)) (Before
 
 -- ── a formed delegation, as a test and as a statement ──
 module _ (n : ℕ) (d : Delegation) where
-  formed-of : d .weight ≤ 255 → d .need ≤ 65535 → d .bar ≤ 65535 → T (allPass (delegationTests n) d) → DelegationFormed n d
+  formed-of : d .weight ≤ 255 → d .need ≤ 65535 → d .bar ≤ 65535 → T (delegationFormed n d) → DelegationFormed n d
+  unfolding delegationFormed
   formed-of w x y h = go (each (delegationTests n) d h)
     where
       go : Each d (delegationTests n) → DelegationFormed n d
-      go (giver ▸ receiver ▸ differ ▸ notOwner ▸ disjoint ▸ end) = record {
+      go (giver ▸ receiver ▸ differ ▸ notOwner ▸ disjoint ▸ kind ▸ end) = record {
         giver = ltb→lt (d .giver) n giver;
         receiver = ltb→lt (d .receiver) n receiver;
         differ = test-ne (d .giver) (d .receiver) differ;
@@ -116,34 +117,19 @@ module _ (n : ℕ) (d : Delegation) where
         need = x;
         bar = y;
         disjoint = eqb→eq (bitAnd (d .need) (d .bar)) 0 disjoint;
+        kind = leb→le (d .kind) 1 kind;
       }
 
-  formed-test : DelegationFormed n d → T (allPass (delegationTests n) d)
+  formed-test : DelegationFormed n d → T (delegationFormed n d)
+  unfolding delegationFormed
   formed-test k = every (delegationTests n) d (
       lt→ltb (d .giver) n (k .giver)
       ▸ lt→ltb (d .receiver) n (k .receiver)
       ▸ not-T (eqb (d .giver) (d .receiver)) (λ q. k .differ (eqb→eq (d .giver) (d .receiver) q))
       ▸ not-T (eqb (d .receiver) 0) (λ q. k .notOwner (eqb→eq (d .receiver) 0 q))
       ▸ eq→eqb (k .disjoint)
+      ▸ le→leb (d .kind) 1 (k .kind)
       ▸ end)
-
--- a formed record: the test of its delegation, and its fourth byte
-record-parts : (n : ℕ) (s : List ℕ) → T (recordFormed n s) → T (delegationFormed n s) × (getD s restByte 0 ≡ 0)
-unfolding recordFormed
-record-parts n s h = go (each (recordTests n) s h)
-  where
-    go : Each s (recordTests n) → T (delegationFormed n s) × (getD s restByte 0 ≡ 0)
-    go (formed ▸ fourth ▸ end) = (formed, eqb→eq (getD s restByte 0) 0 fourth)
-
--- a formed delegation written passes the test of a record
-record-test : (n : ℕ) (d : Delegation) (r : List ℕ) → DelegationFormed n d → T (recordFormed n (recordBytes d ++ r))
-unfolding recordFormed
-record-test n d r k =
-    every (recordTests n) (recordBytes d ++ r) (subst (λ (e : Delegation). T (allPass (delegationTests n) e)) (sym (record-read d (k .need) (k .bar) r)) (formed-test n d k) ▸ tt ▸ end)
-
--- any delegation, for places past the end of a list
-none-given : Delegation
-none-given = record { giver = 0; receiver = 0; weight = 0; need = 0; bar = 0 }
 
 -- the first marks of a block
 first-marks : (b : List ℕ) (n : ℕ) → 1 ≤ n → getD (readAll marksIn markSize (drop marksAt b) n) 0 0 ≡ two b marksAt
@@ -180,15 +166,12 @@ none-retired-apart d = λ j. not (eqb (bit-zero (d .giver) j) 1) && not (eqb (bi
 
 -- ── a well-formed block holds a well-formed register ──
 module _ (b : List ℕ) (bytes : IsBytes b) (p : Parts b) where
-  -- record k passes its test
-  record-at : (k : ℕ) → k < countIn b → T (recordFormed (subjectsIn b) (recordFrom b k))
-  record-at k l = subst (λ (j : ℕ). T (recordFormed (subjectsIn b) (recordFrom b j))) (zero-add k) (allFrom-at (λ k. recordFormed (subjectsIn b) (recordFrom b k)) 0 (countIn b) (p .formed) k l)
-
   delegation-at : (k : ℕ) → k < countIn b → DelegationFormed (subjectsIn b) (delegationAt b k)
   delegation-at k l =
       let s = recordFrom b k in
       let h = bytes-drop (recordSize * k) (drop recordsAt b) (bytes-drop recordsAt b bytes) in
-      formed-of (subjectsIn b) (delegationIn s) (omega (arith, h weightByte)) (two-most s h needByte) (two-most s h barByte) (record-parts (subjectsIn b) s (record-at k l) .0)
+      formed-of (subjectsIn b) (delegationIn s) (omega (arith, h weightByte)) (two-most s h needByte) (two-most s h barByte)
+      (subst (λ (j : ℕ). T (delegationFormed (subjectsIn b) (delegationAt b j))) (zero-add k) (allFrom-at (λ k. delegationFormed (subjectsIn b) (delegationAt b k)) 0 (countIn b) (p .formed) k l))
 
   -- a retired subject passes its test
   subject-at : (s : ℕ) → T (isSet (retiredIn b) s) → T (subjectFormed (retiredIn b) b s)
@@ -238,12 +221,11 @@ take-tabulate (suc n) (x ∷ xs) l = let e = take-tabulate n xs (le-of-suc-le-su
 marks-back : (s : List ℕ) → markSize ≤ length s → IsBytes s → twoBytes (marksIn s) ≡ take markSize s
 marks-back s l h = twoBytes-two (getD s 0 0) (getD s 1 0) (h 0) (h 1) ∙ sym (take-tabulate markSize s l)
 
-record-back : (s : List ℕ) → recordSize ≤ length s → IsBytes s → getD s restByte 0 ≡ 0 → recordBytes (delegationIn s) ≡ take recordSize s
-record-back s l h z =
+record-back : (s : List ℕ) → recordSize ≤ length s → IsBytes s → recordBytes (delegationIn s) ≡ take recordSize s
+record-back s l h =
     let p = twoBytes-two (getD s needByte 0) (getD s (needByte + 1) 0) (h needByte) (h (needByte + 1)) in
     let q = twoBytes-two (getD s barByte 0) (getD s (barByte + 1) 0) (h barByte) (h (barByte + 1)) in
-    let z′ = sym z in
-    (λ j. getD s giverByte 0 ∷ getD s receiverByte 0 ∷ getD s weightByte 0 ∷ z′ j ∷ (p j ++ q j)) ∙ sym (take-tabulate recordSize s l)
+    (λ j. getD s giverByte 0 ∷ getD s receiverByte 0 ∷ getD s weightByte 0 ∷ getD s kindByte 0 ∷ (p j ++ q j)) ∙ sym (take-tabulate recordSize s l)
 
 -- the zero bytes that a test names
 zeros-at : (b : List ℕ) (a n : ℕ) → T (zeros b a n) → (k : ℕ) → a ≤ k → k < a + n → getD b k 0 ≡ 0
@@ -278,11 +260,8 @@ module _ (b : List ℕ) (bytes : IsBytes b) (p : Parts b) where
       ∙ padded-zeros (drop recordsAt b) (recordSize * countIn b) recordsSize (omega (arith, p .few)) (simp length-drop (omega (arith, p .size))) (λ k l m. getD-drop recordsAt b k 0 ∙ zero-record k l m)
       ∙ take-all recordsSize (drop recordsAt b) (simp length-drop (omega (arith, p .size)))
     where
-      third : (k : ℕ) → k < countIn b → getD (recordFrom b k) restByte 0 ≡ 0
-      third k l = record-parts (subjectsIn b) (recordFrom b k) (record-at b bytes p k l) .1
-
       back : (k : ℕ) → k < countIn b → recordBytes (delegationAt b k) ≡ take recordSize (recordFrom b k)
-      back k l = record-back (recordFrom b k) (simp length-drop (omega (arith, p .size, p .few))) (bytes-drop (recordSize * k) (drop recordsAt b) (bytes-drop recordsAt b bytes)) (third k l)
+      back k l = record-back (recordFrom b k) (simp length-drop (omega (arith, p .size, p .few))) (bytes-drop (recordSize * k) (drop recordsAt b) (bytes-drop recordsAt b bytes))
 
       zero-record : (k : ℕ) → recordSize * countIn b ≤ k → k < recordsSize → getD b (recordsAt + k) 0 ≡ 0
       zero-record k l m = zeros-at b (recordsAt + recordSize * countIn b) (blockSize - (recordsAt + recordSize * countIn b)) (p .rest) (recordsAt + k) (omega arith) (omega (arith, p .few))
@@ -340,18 +319,17 @@ module _ (R : Register) (f : WellFormed R) where
       subst (λ (a : ℕ). T (zeros (encode R) a (marksAt + marksSize - a))) e
       (zeros-after (encode R) (concatMap twoBytes (R .marks)) (afterMarks R) marksAt (marksAt + marksSize - (marksAt + length (concatMap twoBytes (R .marks)))) (marksSize - length (concatMap twoBytes (R .marks))) marks-drop (omega arith))
 
+  -- what is read of a record stands in the register
+  read-back : (k : ℕ) → k < countIn (encode R) → delegationAt (encode R) (0 + k) ∈ R .delegations
+  read-back k l = subst (λ (ds : List Delegation). delegationAt (encode R) (0 + k) ∈ ds) (delegations-encode R f) (mem-tabulate (delegationAt (encode R)) 0 (countIn (encode R)) k l)
+
   records-formed : T (recordsFormed (encode R))
-  records-formed = allFrom-all (λ k. recordFormed (subjectsIn (encode R)) (recordFrom (encode R) k)) 0 (countIn (encode R)) one
+  records-formed = allFrom-all (λ k. delegationFormed (subjectsIn (encode R)) (delegationAt (encode R) k)) 0 (countIn (encode R)) one
     where
-      one : (k : ℕ) → k < countIn (encode R) → T (recordFormed (subjectsIn (encode R)) (recordFrom (encode R) (0 + k)))
+      one : (k : ℕ) → k < countIn (encode R) → T (delegationFormed (subjectsIn (encode R)) (delegationAt (encode R) (0 + k)))
       one k l =
-          let m : k < length (R .delegations) = omega (arith, count-encode R f) in
-          let d = getD (R .delegations) k none-given in
-          let i = getD-mem (R .delegations) k none-given m in
-          let (r, e) = written-at recordBytes recordSize record-wide (R .delegations) k none-given (replicate (recordsSize - length (concatMap recordBytes (R .delegations))) 0) m in
-          let z : 0 + k ≡ k = zero-add k in
-          subst (λ (s : List ℕ). T (recordFormed (subjectsIn (encode R)) s)) (sym ((λ j. drop (recordSize * z j) (records-encode R f j)) ∙ e))
-          (subst (λ (n : ℕ). T (recordFormed n (recordBytes d ++ r))) (sym (subjects-encode R f)) (record-test (R .subjects) d r (f .each d i)))
+          let d = delegationAt (encode R) (0 + k) in
+          subst (λ (n : ℕ). T (delegationFormed n d)) (sym (subjects-encode R f)) (formed-test (R .subjects) d (f .each d (read-back k l)))
 
   marks-read : (s : ℕ) → s < R .subjects → marksFor (encode R) s ≡ marksOf R s
   marks-read s l =
@@ -371,7 +349,7 @@ module _ (R : Register) (f : WellFormed R) where
       one : (k : ℕ) → k < countIn (encode R) → T (isApart (R .retired) (delegationAt (encode R) (0 + k)))
       one k l =
           let d = delegationAt (encode R) (0 + k) in
-          let (g, r) = f .apart d (subst (λ (ds : List Delegation). d ∈ ds) (delegations-encode R f) (mem-tabulate (delegationAt (encode R)) 0 (countIn (encode R)) k l)) in
+          let (g, r) = f .apart d (read-back k l) in
           T-both (not (isSet (R .retired) (d .giver))) (not (isSet (R .retired) (d .receiver))) g r
 
   pub encode-formed : T (wellFormed (encode R))

@@ -14,7 +14,7 @@ use Rattle.rules.specs.List.{_∈_, tabulate}
 use Rattle.rules.specs.Limit.{code}
 use Rattle.rules.specs.Pair.{isPair, stands}
 use Rattle.rules.specs.WellFormed.{WellFormed}
-use Rattle.rules.specs.Register.{Delegation, Register, marksOf, granted, noDelegation}
+use Rattle.rules.specs.Register.{Delegation, Register, marksOf, noDelegation}
 use Rattle.rules.proofs.Lists.{clash, either, getD-tabulate}
 use Rattle.block.specs.Layout.{blockSize, mostRecords}
 use Rattle.block.specs.Bytes.{IsBytes, readAll, leading}
@@ -116,7 +116,7 @@ module _ (b : List ℕ) (bytes : IsBytes b) (formed : wellFormed b ≡ true) whe
       pair-held = subst (λ (d : Delegation). T (isPair g r d)) at-place (pair-at g r (decode b .delegations) noDelegation place-inside)
 
     pub stands-found : k < countIn b → stands (decode b) g r ≡ true
-    stands-found l = let w = weightAt-found g r (decode b .delegations) (granted 0 0 0 0 0) (subst (λ (x : ℕ). x < length (decode b .delegations)) place-held (omega (arith, count-held))) in ap (λ (z : ℤ). ltb zero (code z)) w ∙ lt-ltb zero (suc (getD (decode b .delegations) (pairPlace g r (decode b .delegations)) (granted 0 0 0 0 0) .weight)) (omega arith)
+    stands-found l = let w = weightAt-found g r (decode b .delegations) noDelegation (subst (λ (x : ℕ). x < length (decode b .delegations)) place-held (omega (arith, count-held))) in ap (λ (z : ℤ). ltb zero (code z)) w ∙ lt-ltb zero (suc (getD (decode b .delegations) (pairPlace g r (decode b .delegations)) noDelegation .weight)) (omega arith)
 
     pub stands-missing : countIn b ≤ k → stands (decode b) g r ≡ false
     stands-missing l = let w = weightAt-missing g r (decode b .delegations) (subst (λ (x : ℕ). length (decode b .delegations) ≤ x) place-held (omega (arith, count-held))) in ap (λ (z : ℤ). ltb zero (code z)) w

@@ -9,9 +9,7 @@ use native.Mathlib.Omega.{arith}
 use borrow.Author.Tests.{ne-eqb}
 use lib.Bits.{bitOr, and-le-r, or-zero-l, or-add-and}
 use lib.Dec.{eqb}
-use Rattle.rules.specs.List.{tabulate}
-use Rattle.rules.specs.Register.{Delegation}
-use Rattle.rules.specs.Pair.{receives}
+use Rattle.rules.specs.List.{tabulate, any}
 use Rattle.block.specs.Bytes.{allFrom, leading}
 
 -- a test of every place
@@ -88,13 +86,13 @@ module _ {A : Type 0} (t : A → Bool) (f : ℕ → A) (i n : ℕ) (e : Counted 
   pub first-on : r ≡ false → Counted (λ x. not (t x)) f n (i + 1)
   first-on y = front-on (λ x. not (t x)) f i n e h (ap not (sym q ∙ y))
 
--- some value has the receiver r
-module _ {x : Bool} (r : ℕ) (f : ℕ → Delegation) (i n : ℕ) (e : x ≡ receives r (tabulate f i (n - i))) where
+-- some value passes the test t
+module _ {A : Type 0} {x : Bool} (t : A → Bool) (f : ℕ → A) (i n : ℕ) (e : x ≡ any t (tabulate f i (n - i))) where
   pub some-end : n ≤ i → false ≡ x
   some-end h = sym (rw (rest-end f i n h) at e)
 
-  pub some-stop : i < n → eqb (f i .receiver) r ≡ true → true ≡ x
-  some-stop h t = sym (rw (rest-on f i n h, t) at e)
+  pub some-stop : i < n → t (f i) ≡ true → true ≡ x
+  some-stop h p = sym (rw (rest-on f i n h, p) at e)
 
-  pub some-on : i < n → eqb (f i .receiver) r ≡ false → x ≡ receives r (tabulate f (i + 1) (n - (i + 1)))
-  some-on h t = rw (rest-on f i n h, t) at e
+  pub some-on : i < n → t (f i) ≡ false → x ≡ any t (tabulate f (i + 1) (n - (i + 1)))
+  some-on h p = rw (rest-on f i n h, p) at e

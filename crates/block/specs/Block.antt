@@ -1,22 +1,22 @@
--- A register as a block of bytes, and back (document 01, 'The block'; document 02, C-16). Assumes nothing.
+-- A register as a block of bytes, and back (document 01, 'The block'; document 02, C-16 and C-18). Assumes nothing.
 use mathlib.Core.List.{List, _∷_, _++_}
 use Prim.Native.Nat.{ℕ, _*_}
 use lib.ListN.{length, getD, take, drop}
 use Rattle.rules.specs.List.{concatMap}
 use Rattle.rules.specs.Register.{Delegation, Register}
-use Rattle.block.specs.Layout.{countAt, marksAt, retiredAt, recordsAt, markSize, recordSize, marksSize, retiredSize, recordsSize, giverByte, receiverByte, weightByte, needByte, barByte}
+use Rattle.block.specs.Layout.{countAt, marksAt, retiredAt, recordsAt, markSize, recordSize, marksSize, retiredSize, recordsSize, giverByte, receiverByte, weightByte, kindByte, needByte, barByte}
 use Rattle.block.specs.Bytes.{two, twoBytes, wide, wideBytes, readAll, padded}
 
 -- the marks that begin a list of bytes
 abbrev pub marksIn : List ℕ → ℕ
 marksIn s = two s 0
 
--- the delegation whose record begins a list of bytes: giver, receiver, weight, zero, need, bar
+-- the delegation whose record begins a list of bytes: giver, receiver, weight, kind, need, bar
 abbrev pub delegationIn : List ℕ → Delegation
-delegationIn s = record { giver = getD s giverByte 0; receiver = getD s receiverByte 0; weight = getD s weightByte 0; need = two s needByte; bar = two s barByte }
+delegationIn s = record { giver = getD s giverByte 0; receiver = getD s receiverByte 0; weight = getD s weightByte 0; need = two s needByte; bar = two s barByte; kind = getD s kindByte 0 }
 
 abbrev pub recordBytes : Delegation → List ℕ
-recordBytes d = d .giver ∷ d .receiver ∷ d .weight ∷ 0 ∷ (twoBytes (d .need) ++ twoBytes (d .bar))
+recordBytes d = d .giver ∷ d .receiver ∷ d .weight ∷ d .kind ∷ (twoBytes (d .need) ++ twoBytes (d .bar))
 
 -- how many subjects are enrolled, and how many delegations stand
 abbrev pub subjectsIn : List ℕ → ℕ

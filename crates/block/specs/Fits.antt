@@ -1,4 +1,4 @@
--- Registers whose numbers have room in a block, whatever rules they break (document 01, 'The block'; document 02, C-16). Assumes nothing.
+-- Registers whose numbers have room in a block, whatever rules they break (document 01, 'The block'; document 02, C-16 and C-18). Assumes nothing.
 use mathlib.Core.Path.{_≡_}
 use mathlib.Core.List.{List, []}
 use Prim.Native.Nat.{ℕ, _^_, _≤_, _<_}
@@ -15,6 +15,7 @@ pub record DelegationFits (d : Delegation) : Type 0 where
   pub weight : d .weight ≤ 255
   pub need : d .need ≤ 65535
   pub bar : d .bar ≤ 65535
+  pub kind : d .kind ≤ 255
 
 pub record Fits (R : Register) : Type 0 where
   pub most : R .subjects ≤ mostSubjects

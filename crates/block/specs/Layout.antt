@@ -1,4 +1,4 @@
--- The sizes and offsets of the block (document 01, 'The block'; document 02, C-16). Assumes nothing.
+-- The sizes and offsets of the block (document 01, 'The block'; document 02, C-16 and C-18). Assumes nothing.
 use Prim.Native.Nat.{ℕ, _+_, _*_}
 
 abbrev pub blockSize : ℕ
@@ -44,7 +44,7 @@ retiredAt = marksAt + marksSize
 abbrev pub recordsAt : ℕ
 recordsAt = retiredAt + retiredSize
 
--- where each field of a record begins; its fourth byte is zero
+-- where each field of a record begins
 abbrev pub giverByte : ℕ
 giverByte = 0
 
@@ -54,8 +54,8 @@ receiverByte = 1
 abbrev pub weightByte : ℕ
 weightByte = 2
 
-abbrev pub restByte : ℕ
-restByte = 3
+abbrev pub kindByte : ℕ
+kindByte = 3
 
 abbrev pub needByte : ℕ
 needByte = 4

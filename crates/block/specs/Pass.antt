@@ -1,10 +1,10 @@
--- What one pass over the records tests of each: as pairs rise, a giver is tested once, for the last record. Assumes nothing.
-use mathlib.Core.Bool.{Bool, _&&_}
-use mathlib.Core.List.{List, [], _∷_}
+-- What one pass over the records tests of each: as pairs rise, a giver is tested once, for the last record; all kinds are tested at the end, joined. Assumes nothing.
+use mathlib.Core.Bool.{Bool}
+use mathlib.Core.List.{[], _∷_}
 use Prim.Native.Nat.{ℕ}
-use Rattle.block.specs.Block.{delegationIn}
-use Rattle.block.specs.WellFormed.{allPass, receiverEnrolled, endsDiffer, notToOwner, marksApart, fourthZero}
+use Rattle.rules.specs.Register.{Delegation}
+use Rattle.block.specs.WellFormed.{allPass, receiverEnrolled, endsDiffer, notToOwner, marksApart}
 
--- the record that begins a list of bytes is formed but for its giver, which may be any
-unfoldable pub formedButGiver : ℕ → List ℕ → Bool
-formedButGiver n s = allPass (receiverEnrolled n ∷ endsDiffer ∷ notToOwner ∷ marksApart ∷ []) (delegationIn s) && fourthZero s
+-- the delegation is formed but for its giver and its kind, which may be any
+unfoldable pub formedOtherwise : ℕ → Delegation → Bool
+formedOtherwise n d = allPass (receiverEnrolled n ∷ endsDiffer ∷ notToOwner ∷ marksApart ∷ []) d

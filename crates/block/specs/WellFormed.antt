@@ -1,4 +1,4 @@
--- Well-formed blocks (document 01, 'The block'; document 02, C-16): a list of named tests, for any list of bytes of any length. Assumes nothing.
+-- Well-formed blocks (document 01, 'The block'; document 02, C-16 and C-18): a list of named tests, for any list of bytes of any length. Assumes nothing.
 use mathlib.Core.Bool.{Bool, true, not, _&&_, _||_}
 use mathlib.Core.List.{List, [], _∷_, _++_}
 use Prim.Native.Nat.{ℕ, _+_, _-_}
@@ -8,18 +8,18 @@ use lib.ListN.{length, getD}
 use Rattle.rules.specs.Bits.{isSet}
 use Rattle.rules.specs.Register.{Delegation}
 use Rattle.rules.specs.CallStep.{before}
-use Rattle.block.specs.Layout.{blockSize, mostSubjects, mostRecords, freeAt, marksAt, marksSize, restByte}
+use Rattle.block.specs.Layout.{blockSize, mostSubjects, mostRecords, freeAt, marksAt, marksSize}
 use Rattle.block.specs.Bytes.{two, allFrom, zeros}
-use Rattle.block.specs.Block.{delegationIn, subjectsIn, countIn, retiredIn}
-use Rattle.block.specs.Records.{markPlace, recordPlace, marksFor, recordFrom, delegationAt, delegationsTo}
+use Rattle.block.specs.Block.{subjectsIn, countIn, retiredIn}
+use Rattle.block.specs.Records.{markPlace, recordPlace, marksFor, delegationAt, delegationsTo}
 
 -- every test of a list passes
 abbrev pub allPass : {A : Type 0} → List (A → Bool) → A → Bool
 allPass [] x = true
 allPass (f ∷ fs) x = f x && allPass fs x
 
--- ── a delegation among n subjects, and its record ──
--- giver and receiver are enrolled and differ, the receiver is not 0, need and bar share no mark
+-- ── a delegation among n subjects ──
+-- giver and receiver are enrolled and differ, the receiver is not 0, need and bar share no mark, the kind is 0 or 1
 abbrev pub giverEnrolled : ℕ → Delegation → Bool
 giverEnrolled n d = ltb (d .giver) n
 
@@ -35,21 +35,14 @@ notToOwner d = not (eqb (d .receiver) 0)
 abbrev pub marksApart : Delegation → Bool
 marksApart d = eqb (bitAnd (d .need) (d .bar)) 0
 
+abbrev pub kindKnown : Delegation → Bool
+kindKnown d = leb (d .kind) 1
+
 abbrev pub delegationTests : ℕ → List (Delegation → Bool)
-delegationTests n = giverEnrolled n ∷ receiverEnrolled n ∷ endsDiffer ∷ notToOwner ∷ marksApart ∷ []
+delegationTests n = giverEnrolled n ∷ receiverEnrolled n ∷ endsDiffer ∷ notToOwner ∷ marksApart ∷ kindKnown ∷ []
 
--- the record that begins a list of bytes: its delegation is formed, and its fourth byte is zero
-abbrev pub delegationFormed : ℕ → List ℕ → Bool
-delegationFormed n s = allPass (delegationTests n) (delegationIn s)
-
-abbrev pub fourthZero : List ℕ → Bool
-fourthZero s = eqb (getD s restByte 0) 0
-
-abbrev pub recordTests : ℕ → List (List ℕ → Bool)
-recordTests n = delegationFormed n ∷ fourthZero ∷ []
-
-unfoldable pub recordFormed : ℕ → List ℕ → Bool
-recordFormed n s = allPass (recordTests n) s
+unfoldable pub delegationFormed : ℕ → Delegation → Bool
+delegationFormed n d = allPass (delegationTests n) d
 
 -- ── the head: byte 0, enrolled subjects, 1 to 64; byte 1, zero; bytes 2 and 3, delegations, 0 to 256 ──
 abbrev pub someEnrolled : List ℕ → Bool
@@ -83,7 +76,7 @@ abbrev pub restUnmarked : List ℕ → Bool
 restUnmarked b = let a = markPlace (subjectsIn b) in zeros b a (marksAt + marksSize - a)
 
 abbrev pub recordsFormed : List ℕ → Bool
-recordsFormed b = allFrom (λ k. recordFormed (subjectsIn b) (recordFrom b k)) 0 (countIn b)
+recordsFormed b = allFrom (λ k. delegationFormed (subjectsIn b) (delegationAt b k)) 0 (countIn b)
 
 -- strictly rising by giver, then receiver
 abbrev pub follows : Delegation → List Delegation → Bool

@@ -31,14 +31,14 @@ pub const RETIRED_AT: usize = MARKS_AT + MARKS_SIZE;
 
 pub const RECORDS_AT: usize = RETIRED_AT + RETIRED_SIZE;
 
-// Where each field of a record begins; its byte `REST` is zero.
+// Where each field of a record begins.
 pub const GIVER: usize = 0;
 
 pub const RECEIVER: usize = 1;
 
 pub const WEIGHT: usize = 2;
 
-pub const REST: usize = 3;
+pub const KIND: usize = 3;
 
 pub const NEED: usize = 4;
 

@@ -4,20 +4,21 @@ ghost use mathlib.Core.Bool.{not, _&&_};
 ghost use Prim.Native.Nat.{_+_, _-_, _≤_, _<_};
 ghost use lib.ListN.{length, getD};
 ghost use Rattle.rules.specs.Bits.{isSet};
-ghost use Rattle.rules.specs.Pair.{isPair, receives};
+ghost use Rattle.rules.specs.Pair.{isPair, opensTo, opens};
 ghost use Rattle.rules.specs.Register.{granted};
 ghost use Rattle.rules.specs.CallStep.{before};
 ghost use Rattle.block.specs.Layout.{mostSubjects, mostRecords, recordSize};
 ghost use Rattle.block.specs.Bytes.{two, allFrom, zeros, leading};
 ghost use Rattle.block.specs.Block.{subjectsIn, countIn, retiredIn, recordsIn};
 ghost use Rattle.block.specs.Records.{HasHead, HasMarks, HasRetired, HasRecord, HasRecords, marksFor, recordPlace, recordFrom, delegationAt, delegationsTo};
-ghost use Rattle.block.specs.WellFormed.{headFormed, subjectFormed, retiredFormed, recordFormed, rises, isApart, wellFormed};
-ghost use Rattle.block.specs.Pass.{formedButGiver};
+ghost use Rattle.block.specs.WellFormed.{headFormed, subjectFormed, retiredFormed, delegationFormed, rises, isApart, wellFormed};
+ghost use Rattle.block.specs.Pass.{formedOtherwise};
 use crate::layout::BAR;
 use crate::layout::BLOCK_SIZE;
 use crate::layout::COUNT_AT;
 use crate::layout::FREE_AT;
 use crate::layout::GIVER;
+use crate::layout::KIND;
 use crate::layout::MARK_SIZE;
 use crate::layout::MARKS_AT;
 use crate::layout::MOST_RECORDS;
@@ -26,7 +27,6 @@ use crate::layout::NEED;
 use crate::layout::RECEIVER;
 use crate::layout::RECORD_SIZE;
 use crate::layout::RECORDS_AT;
-use crate::layout::REST;
 use crate::layout::RETIRED_AT;
 use crate::layout::WEIGHT;
 
@@ -165,10 +165,17 @@ pub fn bar(b: &[u8], k: usize) -> u16
     record_two(b, k, BAR)
 }
 
-// Record `k` is formed, but for its giver, which may be any.
-fn formed_but_giver(b: &[u8], k: usize, subjects: u8) -> bool
+pub fn kind(b: &[u8], k: usize) -> u8
     requires { ⌜ HasRecord (now b) k ⌝ }
-    ensures { λ r. ⌜ r ≡ formedButGiver subjects (recordFrom (now (b .entry)) k) ⌝ }
+    ensures { λ r. ⌜ r ≡ delegationAt (now (b .entry)) k .kind ⌝ }
+{
+    record_byte(b, k, KIND)
+}
+
+// Record `k` is formed, but for its giver and its kind, which may be any.
+fn formed_otherwise(b: &[u8], k: usize, subjects: u8) -> bool
+    requires { ⌜ HasRecord (now b) k ⌝ }
+    ensures { λ r. ⌜ r ≡ formedOtherwise subjects (delegationAt (now (b .entry)) k) ⌝ }
 {
     let giver = self::giver(b, k);
     let receiver = self::receiver(b, k);
@@ -182,27 +189,31 @@ fn formed_but_giver(b: &[u8], k: usize, subjects: u8) -> bool
         return false;
     }
     let shared = need(b, k) & bar(b, k);
-    let rest = record_byte(b, k, REST) as u16;
-    (shared | rest) == 0
+    shared == 0
 }
 
-// The first `count` records are each formed and rise strictly. A pair is compared as one number, giver first, so the last giver is the largest.
+// The first `count` records are each formed and rise strictly. A pair is compared as one number, giver first, so the last giver is the largest. All kinds joined are at most 1 exactly where each is.
 fn records_formed(b: &[u8], count: usize, subjects: u8) -> bool
     requires { ⌜ (1 ≤ subjects) × (HasRecords (now b) count) ⌝ }
-    ensures { λ r. ⌜ r ≡ (allFrom (λ k. recordFormed subjects (recordFrom (now (b .entry)) k)) 0 count && rises (delegationsTo (now (b .entry)) count)) ⌝ }
+    ensures { λ r. ⌜ r ≡ (allFrom (λ k. delegationFormed subjects (delegationAt (now (b .entry)) k)) 0 count && rises (delegationsTo (now (b .entry)) count)) ⌝ }
 {
     let mut last: u16 = 0;
+    let mut kinds: u8 = 0;
     let mut k: usize = 0;
     while k < count {
         let pair = (giver(b, k) as u16) * 256 + (receiver(b, k) as u16);
         if pair <= last {
             return false;
         }
-        if !formed_but_giver(b, k, subjects) {
+        if !formed_otherwise(b, k, subjects) {
             return false;
         }
         last = pair;
+        kinds = kinds | kind(b, k);
         k += 1;
+    }
+    if kinds > rules::kind::PASS_ONLY {
+        return false;
     }
     last < (subjects as u16) * 256
 }
@@ -293,7 +304,7 @@ pub fn is_pair(b: &[u8], k: usize, giver: u8, receiver: u8) -> bool
 // This pair comes before record `k`: by giver, then receiver.
 fn is_before(b: &[u8], k: usize, giver: u8, receiver: u8) -> bool
     requires { ⌜ HasRecord (now b) k ⌝ }
-    ensures { λ r. ⌜ r ≡ before (granted giver receiver 0 0 0) (delegationAt (now (b .entry)) k) ⌝ }
+    ensures { λ r. ⌜ r ≡ before (granted giver receiver 0 0 0 0) (delegationAt (now (b .entry)) k) ⌝ }
 {
     let g = self::giver(b, k);
     let r = self::receiver(b, k);
@@ -367,7 +378,7 @@ pub fn find(b: &[u8], count: usize, giver: u8, receiver: u8) -> usize
 // How many records at the front this pair does not come before: its place.
 pub fn place(b: &[u8], count: usize, giver: u8, receiver: u8) -> usize
     requires { ⌜ HasRecords (now b) count ⌝ }
-    ensures { λ r. ⌜ r ≡ leading (λ e. not (before (granted giver receiver 0 0 0) e)) (delegationsTo (now (b .entry)) count) ⌝ }
+    ensures { λ r. ⌜ r ≡ leading (λ e. not (before (granted giver receiver 0 0 0 0) e)) (delegationsTo (now (b .entry)) count) ⌝ }
 {
     let mut k: usize = 0;
     while k < count {
@@ -379,14 +390,25 @@ pub fn place(b: &[u8], count: usize, giver: u8, receiver: u8) -> usize
     k
 }
 
-// Some record is to this receiver.
-pub fn receives(b: &[u8], count: usize, receiver: u8) -> bool
+// Record `k` is ordinary and to this receiver.
+fn opens_to(b: &[u8], k: usize, receiver: u8) -> bool
+    requires { ⌜ HasRecord (now b) k ⌝ }
+    ensures { λ r. ⌜ r ≡ opensTo receiver (delegationAt (now (b .entry)) k) ⌝ }
+{
+    if self::receiver(b, k) != receiver {
+        return false;
+    }
+    kind(b, k) == rules::kind::ORDINARY
+}
+
+// Some record is ordinary and to this receiver.
+pub fn opens(b: &[u8], count: usize, receiver: u8) -> bool
     requires { ⌜ HasRecords (now b) count ⌝ }
-    ensures { λ r. ⌜ r ≡ receives receiver (delegationsTo (now (b .entry)) count) ⌝ }
+    ensures { λ r. ⌜ r ≡ opens receiver (delegationsTo (now (b .entry)) count) ⌝ }
 {
     let mut k: usize = 0;
     while k < count {
-        if self::receiver(b, k) == receiver {
+        if opens_to(b, k, receiver) {
             return true;
         }
         k += 1;

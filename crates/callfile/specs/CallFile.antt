@@ -42,7 +42,7 @@ pub data FileCall : Type 0 where
 -- the call that is meant
 abbrev pub meant : FileCall → Call
 meant (enrols marks) = enrol marks
-meant (grants giver receiver weight need bar) = grant (granted giver receiver weight need bar)
+meant (grants giver receiver weight need bar) = grant (granted giver receiver weight need bar 0)
 meant (revokes by giver receiver) = revoke by giver receiver
 meant (downgrades by giver receiver weight) = downgrade by giver receiver weight
 meant (asksReach giver receiver) = askReach giver receiver

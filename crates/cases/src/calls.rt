@@ -55,7 +55,8 @@ pub fn read_columns(text: &[u8], from: usize, has_table: bool) -> Columns {
 }
 
 // One arm for each call that reckons reach, by its number in the files; it is lent the table's text where the line has one. Only read
-// takes a file. Marks has its subject under receiver, the marks under need; retire has its subject under receiver.
+// takes a file. Marks has its subject under receiver, the marks under need; retire has its subject under receiver; a grant with a kind has
+// that under by.
 pub fn make(c: Columns, file: &[u8], table: &[u8], block: &mut [u8]) -> Answer {
     let call = c.call;
     match call {
@@ -67,6 +68,7 @@ pub fn make(c: Columns, file: &[u8], table: &[u8], block: &mut [u8]) -> Answer {
         9 => transfer::read_file(block, file, table),
         11 => register::set_marks(block, c.by, c.receiver, c.need, table),
         12 => register::retire(block, c.by, c.receiver, table),
+        17 => grant_kind(c, table, block),
         _ => make_other(c, table, block),
     }
 }
@@ -103,6 +105,19 @@ fn grant(c: Columns, table: &[u8], block: &mut [u8]) -> Answer {
         return register::grant_table(block, c.giver, c.receiver, c.weight, c.need, c.bar, table);
     }
     register::grant(block, c.giver, c.receiver, c.weight, c.need, c.bar)
+}
+
+fn grant_kind(c: Columns, table: &[u8], block: &mut [u8]) -> Answer {
+    register::grant_kind(
+        block,
+        c.giver,
+        c.receiver,
+        c.weight,
+        c.need,
+        c.bar,
+        c.by,
+        table,
+    )
 }
 
 fn revoke(c: Columns, table: &[u8], block: &mut [u8]) -> Answer {

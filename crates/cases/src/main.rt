@@ -55,7 +55,7 @@ fn kind_of(name: &[u8]) -> u8 {
     first
 }
 
-// Runs a text by its kind, a digit for a call file, `l` for lists, else cases, `t`, `o` and `m` for those with tables, `f` for those with files and `s` for those with slips; false where it cannot be read to its end.
+// Runs a text by its kind, a digit for a call file, `l` for lists, else cases, `t`, `o` and `m` for those with tables, `f` for those with files, `s` for those with slips and `p` for those with either; false where it cannot be read to its end.
 fn run_text(kind: u8, text: &[u8]) -> bool {
     if kind <= b'9' {
         print_calls(text);

@@ -31,7 +31,7 @@ fn nowhere() -> Place {
 }
 
 // Runs every line, by the text's kind: `t`, `o` and `m` where lines have a table's text, `f` where they have a file and a table's text,
-// `s` where they have a slip and a table's text; false where one cannot be read.
+// `s` where they have a slip and a table's text, `p` where they have either and a table's text; false where one cannot be read.
 pub fn run_lines(
     text: &[u8],
     kind: u8,
@@ -64,7 +64,7 @@ fn run_line(
     table: &mut [u8],
     block: &mut [u8],
 ) -> Place {
-    let has_file = kind == b'f' || kind == b's';
+    let has_file = kind == b'f' || kind == b's' || kind == b'p';
     let has_table = has_file || kind == b't' || kind == b'o' || kind == b'm';
     let columns = calls::read_columns(text, from.at, has_table);
     if !columns.is_read {

@@ -15,7 +15,7 @@ use lib.Signed.{ltZ}
 use Rattle.rules.specs.List.{_∈_, keep, filter, any}
 use Rattle.rules.specs.Limit.{none, code}
 use Rattle.rules.specs.Table.{TableRule}
-use Rattle.rules.specs.Register.{Delegation, Register, marksOf, granted}
+use Rattle.rules.specs.Register.{Delegation, Register, marksOf, noDelegation}
 use Rattle.rules.specs.Chain.{limit, IsChain}
 use Rattle.rules.specs.Reach.{reach}
 use Rattle.rules.specs.Support.{ChainFor, allowed}
@@ -141,7 +141,7 @@ module _ (t : List ℤ) (b : List ℕ) (bytes : IsBytes b) (formed : wellFormed 
           ≡ ltZ (reach t (decode b) g r) (pos (delegationAt b k .weight))
       heavy-test =
           let a = at-place b bytes formed g r k place found in
-          let (e, h) = one-pair g r (decode b .delegations) (granted 0 0 0 0 0) (held-formed b bytes formed .rising) (place-inside b bytes formed g r k place found) in
+          let (e, h) = one-pair g r (decode b .delegations) noDelegation (held-formed b bytes formed .rising) (place-inside b bytes formed g r k place found) in
           let q = test-pair g r (delegationAt b k) (subst (λ (x : Delegation). T (isPair g r x)) a h) in
           ap (any (λ x. ltb (code (allowed t (decode b) x)) (suc (x .weight)))) (e ∙ ap (λ (x : Delegation). x ∷ []) a)
           ∙ or-false (ltb (code (allowed t (decode b) (delegationAt b k))) (suc (delegationAt b k .weight)))

@@ -8,7 +8,7 @@ use native.Mathlib.Omega.{arith}
 use lib.Dec.{T, not-T}
 use lib.ListN.{length, getD, take, drop, set}
 use lib.Seq.{sets}
-use Rattle.rules.specs.Register.{Delegation, reweigh, withDelegations, granted}
+use Rattle.rules.specs.Register.{Delegation, reweigh, withDelegations, granted, noDelegation}
 use Rattle.rules.specs.Pair.{isPair, stands, reweighed}
 use Rattle.rules.specs.Cut.{removal, marking, named, changed}
 use Rattle.rules.specs.Call.{enrolled}
@@ -66,7 +66,7 @@ module _ (b : List ℕ) (bytes : IsBytes b) (formed : wellFormed b ≡ true) whe
   -- ── the place of a pair, where a delegation of it is put ──
   module _ (g r k : ℕ) (place : IsPlace b g r k) where
     pub place-most : k ≤ countIn b
-    place-most = subst (λ (m : ℕ). m ≤ countIn b) (sym place) (leading-read (λ e. not (before (granted g r 0 0 0) e)) delegationIn recordSize (drop recordsAt b) (countIn b))
+    place-most = subst (λ (m : ℕ). m ≤ countIn b) (sym place) (leading-read (λ e. not (before (granted g r 0 0 0 0) e)) delegationIn recordSize (drop recordsAt b) (countIn b))
 
     -- where the pair stands, its record is the one before
     after-pair : stands (decode b) g r ≡ true → (j : ℕ) × (k ≡ suc j) × T (isPair g r (delegationAt b j))
@@ -76,8 +76,8 @@ module _ (b : List ℕ) (bytes : IsBytes b) (formed : wellFormed b ≡ true) whe
         let e : j ≡ leading (λ d. not (isPair g r d)) (delegationsTo b (countIn b)) = ap (leading (λ d. not (isPair g r d))) (delegations-held b bytes formed) in
         let l = found-stands b bytes formed g r j e s in (
           j,
-          place ∙ ap (leading (λ d. not (before (granted g r 0 0 0) d))) (sym (delegations-held b bytes formed))
-              ∙ pair-past g r (granted g r 0 0 0) (refl, refl) ds (held-formed b bytes formed .rising) (place-inside b bytes formed g r j e l),
+          place ∙ ap (leading (λ d. not (before (granted g r 0 0 0 0) d))) (sym (delegations-held b bytes formed))
+              ∙ pair-past g r (granted g r 0 0 0 0) (refl, refl) ds (held-formed b bytes formed .rising) (place-inside b bytes formed g r j e l),
           pair-held b bytes formed g r j e l,
         )
 
@@ -122,11 +122,11 @@ module _ (b : List ℕ) (bytes : IsBytes b) (formed : wellFormed b ≡ true) whe
       place-below = omega (arith, found-stands b bytes formed g r k found s, counted)
 
       -- the pair's delegation removed
-      pub remove-held : sets (sets (movedDown b (recordPlace k) (recordPlace n)) (recordPlace (n - 1)) (recordBytes (granted 0 0 0 0 0))) countAt (twoBytes (n - 1)) ≡ encode (named (decode b) (removal g r))
+      pub remove-held : sets (sets (movedDown b (recordPlace k) (recordPlace n)) (recordPlace (n - 1)) (recordBytes noDelegation)) countAt (twoBytes (n - 1)) ≡ encode (named (decode b) (removal g r))
       unfolding named
       remove-held =
           let ds = decode b .delegations in
-          (λ j. sets (sets (movedDown ((held-written b bytes formed) j) (recordPlace k) (recordPlace (all j))) (recordPlace (all j - 1)) (recordBytes (granted 0 0 0 0 0))) countAt (twoBytes (all j - 1)))
+          (λ j. sets (sets (movedDown ((held-written b bytes formed) j) (recordPlace k) (recordPlace (all j))) (recordPlace (all j - 1)) (recordBytes noDelegation)) countAt (twoBytes (all j - 1)))
           ∙ encode-remove (decode b) (held-fitting b bytes formed .fits) k (omega (arith, place-below, all))
           ∙ ap (λ (x : ℕ). encode (withDelegations (decode b) (take x ds ++ drop (suc x) ds))) (place-held b bytes formed g r k found)
           ∙ ap (λ (x : List Delegation). encode (withDelegations (decode b) x)) (sym (filter-pair g r ds ((held-formed b bytes formed) .rising)))
@@ -138,5 +138,5 @@ module _ (b : List ℕ) (bytes : IsBytes b) (formed : wellFormed b ≡ true) whe
           let l : k < length ds = omega (arith, place-below, all) in
           ap (λ (x : List ℕ). set x (recordPlace k + weightByte) w) (held-written b bytes formed)
           ∙ encode-reweigh (decode b) (held-fitting b bytes formed .fits) k l w
-          ∙ ap (λ (x : ℕ). encode (withDelegations (decode b) (take x ds ++ (reweigh (getD ds x (granted 0 0 0 0 0)) w ∷ drop (suc x) ds)))) (place-held b bytes formed g r k found)
-          ∙ ap (λ (x : List Delegation). encode (withDelegations (decode b) x)) (sym (map-pair g r w ds (granted 0 0 0 0 0) ((held-formed b bytes formed) .rising) (subst (λ (x : ℕ). x < length ds) (place-held b bytes formed g r k found) l)))
+          ∙ ap (λ (x : ℕ). encode (withDelegations (decode b) (take x ds ++ (reweigh (getD ds x noDelegation) w ∷ drop (suc x) ds)))) (place-held b bytes formed g r k found)
+          ∙ ap (λ (x : List Delegation). encode (withDelegations (decode b) x)) (sym (map-pair g r w ds noDelegation ((held-formed b bytes formed) .rising) (subst (λ (x : ℕ). x < length ds) (place-held b bytes formed g r k found) l)))

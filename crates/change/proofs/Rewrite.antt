@@ -7,7 +7,7 @@ use native.Mathlib.Omega.{arith}
 use lib.ListN.{length, getD, take, drop, set, replicate, length-append, length-drop, length-set, length-replicate, drop-of-length-le, take-append-drop, replicate-append-replicate}
 use lib.Seq.{sets, sets-eq, length-take-le, drop-at, drop-cons, drop-drop, drop-append-add, drop-append-le, set-at, take-all, take-at}
 use Rattle.rules.specs.List.{concatMap}
-use Rattle.rules.specs.Register.{Delegation, Register, reweigh, withDelegations, withMarks, granted}
+use Rattle.rules.specs.Register.{Delegation, Register, reweigh, withDelegations, withMarks, noDelegation}
 use Rattle.rules.specs.Call.{fresh, enrolled}
 use Rattle.block.specs.Layout.{blockSize, mostSubjects, mostRecords, markSize, recordSize, marksSize, recordsSize, countAt, recordsAt, weightByte}
 use Rattle.block.specs.Bytes.{twoBytes, padded}
@@ -102,21 +102,21 @@ module _ (R : Register) (f : Fits R) where
 
   -- the delegation at place k, and those after it
   module _ (k : ℕ) (l : k < length (R .delegations)) where
-    at-place : drop k (R .delegations) ≡ (getD (R .delegations) k (granted 0 0 0 0 0) ∷ []) ++ drop (suc k) (R .delegations)
-    at-place = drop-cons (R .delegations) k (granted 0 0 0 0 0) l
+    at-place : drop k (R .delegations) ≡ (getD (R .delegations) k noDelegation ∷ []) ++ drop (suc k) (R .delegations)
+    at-place = drop-cons (R .delegations) k noDelegation l
 
     before-place : length (take k (R .delegations)) ≡ k
     before-place = length-take-le k (R .delegations) (omega arith)
 
     -- it is removed
-    pub encode-remove : sets (sets (movedDown (encode R) (recordPlace k) (recordPlace (length (R .delegations)))) (recordPlace (length (R .delegations) - 1)) (recordBytes (granted 0 0 0 0 0))) countAt (twoBytes (length (R .delegations) - 1))
+    pub encode-remove : sets (sets (movedDown (encode R) (recordPlace k) (recordPlace (length (R .delegations)))) (recordPlace (length (R .delegations) - 1)) (recordBytes noDelegation)) countAt (twoBytes (length (R .delegations) - 1))
         ≡ encode (withDelegations R (take k (R .delegations) ++ drop (suc k) (R .delegations)))
     encode-remove =
         let xs = take k (R .delegations) in
         let ys = drop (suc k) (R .delegations) in
-        let e = getD (R .delegations) k (granted 0 0 0 0 0) in
+        let e = getD (R .delegations) k noDelegation in
         let n = length (R .delegations) in
-        let none = recordBytes (granted 0 0 0 0 0) in
+        let none = recordBytes noDelegation in
         let Y = concatMap recordBytes ys in
         let y : length Y ≡ recordSize * (n - suc k) = size ys ∙ ap (λ (i : ℕ). recordSize * i) (length-drop (suc k) (R .delegations)) in
         let out = spliced-out (frontOf n xs) (recordPlace k) (length-front n xs ∙ ap recordPlace before-place) (recordBytes e) Y (zerosAfter n) none (recordPlace n) (recordPlace (n - 1)) refl (omega arith) (omega arith) refl in
@@ -130,13 +130,13 @@ module _ (R : Register) (f : Fits R) where
 
     -- it is set to another weight
     pub encode-reweigh : (w : ℕ)
-        → set (encode R) (recordPlace k + weightByte) w ≡ encode (withDelegations R (take k (R .delegations) ++ (reweigh (getD (R .delegations) k (granted 0 0 0 0 0)) w ∷ drop (suc k) (R .delegations))))
+        → set (encode R) (recordPlace k + weightByte) w ≡ encode (withDelegations R (take k (R .delegations) ++ (reweigh (getD (R .delegations) k noDelegation) w ∷ drop (suc k) (R .delegations))))
     encode-reweigh w =
         let xs = take k (R .delegations) in
         let ys = drop (suc k) (R .delegations) in
-        let e = getD (R .delegations) k (granted 0 0 0 0 0) in
+        let e = getD (R .delegations) k noDelegation in
         let n = length (R .delegations) in
-        let rest : List ℕ = 0 ∷ (twoBytes (e .need) ++ twoBytes (e .bar)) ++ (concatMap recordBytes ys ++ zerosAfter n) in
+        let rest : List ℕ = e .kind ∷ (twoBytes (e .need) ++ twoBytes (e .bar)) ++ (concatMap recordBytes ys ++ zerosAfter n) in
         let P = frontOf n xs ++ (e .giver ∷ e .receiver ∷ []) in
         let group : (v : ℕ) → frontOf n xs ++ (recordBytes (reweigh e v) ++ (concatMap recordBytes ys ++ zerosAfter n)) ≡ P ++ (v ∷ rest) = λ v. sym (append-assoc (frontOf n xs) (e .giver ∷ e .receiver ∷ []) (v ∷ rest)) in
         let p : length P ≡ recordPlace k + weightByte = length-append (frontOf n xs) (e .giver ∷ e .receiver ∷ []) ∙ omega (arith, length-front n xs, before-place) in

@@ -18,11 +18,11 @@ use lib.ListN.{length, getD, take, drop, set, replicate, length-append, length-d
 use lib.Seq.{sets, sets-eq, length-take-le, take-at, drop-drop, drop-append-add, getD-drop, getD-set-other, set-getD}
 use Rattle.rules.specs.List.{tabulate, concatMap}
 use Rattle.rules.specs.Limit.{code, _≼_}
-use Rattle.rules.specs.Register.{Delegation, granted, reweigh, withDelegations}
+use Rattle.rules.specs.Register.{Delegation, granted, noDelegation, reweigh, withDelegations}
 use Rattle.rules.specs.Round.{placed}
 use Rattle.rules.proofs.Lists.{clash}
 use Rattle.rules.proofs.Signed.{kept}
-use Rattle.block.specs.Layout.{blockSize, mostRecords, recordSize, recordsSize, countAt, recordsAt, giverByte, receiverByte, weightByte, restByte, needByte, barByte}
+use Rattle.block.specs.Layout.{blockSize, mostRecords, recordSize, recordsSize, countAt, recordsAt, giverByte, receiverByte, weightByte, kindByte, needByte, barByte}
 use Rattle.block.specs.Bytes.{IsBytes, twoBytes}
 use Rattle.block.specs.Block.{delegationIn, recordBytes, countIn, decode, encode}
 use Rattle.block.specs.Records.{recordPlace, HasRecord, HasRecords, delegationAt, leftTo}
@@ -43,20 +43,17 @@ module _ (b : List ℕ) (bytes : IsBytes b) (at : ℕ) where
       ap (λ (d : List ℕ). sets d (suc i) (tabulate (λ m. getD (drop at b) m 0) (suc j) n)) (ap (set c i) v ∙ set-getD c i 0)
       ∙ again c n (suc i) (suc j) (omega arith) (λ m l. h m (omega arith))
 
-  -- at its place only its weight and its zero byte are set
-  stays : (w : ℕ) → sets b at (recordBytes (reweigh (delegationIn (drop at b)) w)) ≡ sets b (at + weightByte) (w ∷ 0 ∷ [])
+  -- at its place only its weight is set
+  stays : (w : ℕ) → sets b at (recordBytes (reweigh (delegationIn (drop at b)) w)) ≡ set b (at + weightByte) w
   stays w =
       let s = drop at b in
       let h = bytes-drop at b bytes in
       let p = twoBytes-two (getD s needByte 0) (getD s (needByte + 1) 0) (h needByte) (h (needByte + 1)) in
       let q = twoBytes-two (getD s barByte 0) (getD s (barByte + 1) 0) (h barByte) (h (barByte + 1)) in
-      (λ i. sets b at (getD s giverByte 0 ∷ getD s receiverByte 0 ∷ w ∷ 0 ∷ (p i ++ q i)))
-      ∙ ap (λ (c : List ℕ). sets c (suc (suc at)) (w ∷ 0 ∷ tabulate (λ m. getD s m 0) needByte 4)) (again b 2 at 0 (omega arith) (λ m l. refl))
-      ∙ again (sets b (suc (suc at)) (w ∷ 0 ∷ [])) 4 (suc (suc (suc (suc at)))) needByte (omega arith) other
-      ∙ ap (λ (i : ℕ). sets b i (w ∷ 0 ∷ [])) (sym (plus2 at))
-    where
-      other : (m : ℕ) → suc (suc (suc (suc at))) ≤ m → getD (sets b (suc (suc at)) (w ∷ 0 ∷ [])) m 0 ≡ getD b m 0
-      other m l = getD-set-other (set b (suc (suc at)) w) (suc (suc (suc at))) m 0 0 (λ q. omega arith) ∙ getD-set-other b (suc (suc at)) m w 0 (λ q. omega arith)
+      (λ i. sets b at (getD s giverByte 0 ∷ getD s receiverByte 0 ∷ w ∷ getD s kindByte 0 ∷ (p i ++ q i)))
+      ∙ ap (λ (c : List ℕ). sets c (suc (suc at)) (w ∷ tabulate (λ m. getD s m 0) kindByte 5)) (again b 2 at 0 (omega arith) (λ m l. refl))
+      ∙ again (set b (suc (suc at)) w) 5 (suc (suc (suc at))) kindByte (omega arith) (λ m l. getD-set-other b (suc (suc at)) m w 0 (λ q. omega arith))
+      ∙ ap (λ (i : ℕ). set b i w) (sym (plus2 at))
 
 -- ── a weight as the machine holds it ──
 negative : (z : ℤ) → ltZ z (pos 0) ≡ true → (d : Delegation) → (false ≡ ltb 0 (code z)) × ([] ≡ placed d z)
@@ -80,27 +77,25 @@ module _ (z : ℤ) (f : SFits w16 z) where
 
   module _ (e : ltZ (kept z) (pos 0) ≡ false) (l : z ≼ pos 255) where
     pub weight-fits : T (nonNeg (kept z)) × Fits w8 (natAbs (kept z))
-    weight-fits = rw as-is (let q = other z (rw as-is at e) l (granted 0 0 0 0 0) in (q .0, record { fits = q .1 }))
+    weight-fits = rw as-is (let q = other z (rw as-is at e) l noDelegation in (q .0, record { fits = q .1 }))
 
     -- the record at its new weight
-    pub one-written : (b c : List ℕ) (at g r n m : ℕ) (d : Delegation) → g ≡ d .giver → r ≡ d .receiver → n ≡ d .need → m ≡ d .bar
-        → c ≡ sets b at (recordBytes (granted g r (natAbs (kept z)) n m)) → (true ≡ ltb 0 (code z)) × (c ≡ sets b at (concatMap recordBytes (placed d z)))
-    one-written b c at g r n m d eg er en em ec =
+    pub one-written : (b c : List ℕ) (at g r n m k : ℕ) (d : Delegation) → g ≡ d .giver → r ≡ d .receiver → n ≡ d .need → m ≡ d .bar → k ≡ d .kind
+        → c ≡ sets b at (recordBytes (granted g r (natAbs (kept z)) n m k)) → (true ≡ ltb 0 (code z)) × (c ≡ sets b at (concatMap recordBytes (placed d z)))
+    one-written b c at g r n m k d eg er en em ek ec =
         let q = other z (rw as-is at e) l d in (
           q .2,
-          ec ∙ (λ i. sets b at (recordBytes (granted (eg i) (er i) (natAbs (as-is i)) (en i) (em i)))) ∙ ap (sets b at) (q .3),
+          ec ∙ (λ i. sets b at (recordBytes (granted (eg i) (er i) (natAbs (as-is i)) (en i) (em i) (ek i)))) ∙ ap (sets b at) (q .3),
         )
 
     -- the record in its place, at its new weight
-    pub weight-written : (b c : List ℕ) → IsBytes b → (at k : ℕ) → at ≡ recordPlace k → c ≡ set (set b (at + weightByte) (natAbs (kept z))) (at + restByte) 0
+    pub weight-written : (b c : List ℕ) → IsBytes b → (at k : ℕ) → at ≡ recordPlace k → c ≡ set b (at + weightByte) (natAbs (kept z))
         → (true ≡ ltb 0 (code z)) × (c ≡ sets b (recordPlace k) (concatMap recordBytes (placed (delegationAt b k) z)))
     weight-written b c bytes at k ea ec =
         let a = recordPlace k in
-        let next : a + restByte ≡ suc (a + weightByte) = omega arith in
         let q = other z (rw as-is at e) l (delegationAt b k) in (
           q .2,
-          ec ∙ (λ i. set (set b (ea i + weightByte) (natAbs (as-is i))) (ea i + restByte) 0)
-              ∙ ap (λ (i : ℕ). set (set b (a + weightByte) (natAbs z)) i 0) next
+          ec ∙ (λ i. set b (ea i + weightByte) (natAbs (as-is i)))
               ∙ sym (stays b bytes a (natAbs z))
               ∙ ap (λ (s : List ℕ). sets b a (recordBytes (reweigh (delegationIn s) (natAbs z)))) (sym (drop-drop (recordSize * k) recordsAt b))
               ∙ ap (sets b a) (q .3),

@@ -11,4 +11,4 @@ use Rattle.block.specs.Records.{delegationsTo}
 
 -- how many records at the front the pair does not come before: where a delegation of it is put, and one past its own record where it stands
 abbrev pub IsPlace : List ℕ → ℕ → ℕ → ℕ → Type 0
-IsPlace b g r k = k ≡ leading (λ e. not (before (granted g r 0 0 0) e)) (delegationsTo b (countIn b))
+IsPlace b g r k = k ≡ leading (λ e. not (before (granted g r 0 0 0 0) e)) (delegationsTo b (countIn b))

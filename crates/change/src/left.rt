@@ -20,7 +20,7 @@ use crate::write::put_two;
 use crate::write::zero_all;
 use block::layout;
 
-// Record `from` written at the place `to` with a new weight, unless that is -1; whether it was. Of a record that keeps its place only the weight and the zero byte are written.
+// Record `from` written at the place `to` with a new weight, unless that is -1; whether it was. Of a record that keeps its place only the weight is written.
 fn keep_at(block: &mut [u8], from: usize, to: usize, weight: i16) -> bool
     requires { ⌜ Movable (now block) from to weight ⌝ }
     ensures { λ r. ⌜ (r ≡ ltb 0 (code weight)) × (now (block .exit) ≡ sets (now (block .entry)) (recordPlace to) (concatMap recordBytes (placed (delegationAt (now (block .entry)) from) weight))) ⌝ }
@@ -31,14 +31,14 @@ fn keep_at(block: &mut [u8], from: usize, to: usize, weight: i16) -> bool
     let at = block::record_place(to);
     if from == to {
         block[at + layout::WEIGHT] = weight as u8;
-        block[at + layout::REST] = 0;
         return true;
     }
     let giver = block::giver(block, from);
     let receiver = block::receiver(block, from);
     let need = block::need(block, from);
     let bar = block::bar(block, from);
-    put_record(block, at, giver, receiver, weight as u8, need, bar);
+    let kind = block::kind(block, from);
+    put_record(block, at, giver, receiver, weight as u8, need, bar, kind);
     true
 }
 

@@ -96,12 +96,12 @@ pub fn set_retired(b: &mut [u8], subject: u8)
 }
 
 // One more delegation, after all others.
-pub fn append(b: &mut [u8], giver: u8, receiver: u8, weight: u8, need: u16, bar: u16)
+pub fn append(b: &mut [u8], giver: u8, receiver: u8, weight: u8, need: u16, bar: u16, kind: u8)
     requires { ⌜ Fitting (now b) × (countIn (now b) < mostRecords) ⌝ }
-    ensures { λ _. ⌜ now (b .exit) ≡ encode (withDelegations (decode (now (b .entry))) ((decode (now (b .entry))) .delegations ++ (granted giver receiver weight need bar ∷ []))) ⌝ }
+    ensures { λ _. ⌜ now (b .exit) ≡ encode (withDelegations (decode (now (b .entry))) ((decode (now (b .entry))) .delegations ++ (granted giver receiver weight need bar kind ∷ []))) ⌝ }
 {
     let n = count(b);
-    put_record(b, record_place(n), giver, receiver, weight, need, bar);
+    put_record(b, record_place(n), giver, receiver, weight, need, bar, kind);
     put_two(b, COUNT_AT, (n + 1) as u16);
 }
 
@@ -117,14 +117,23 @@ fn stands_before(b: &[u8], at: usize, giver: u8, receiver: u8) -> bool
 }
 
 // One more delegation, at its place.
-fn insert(b: &mut [u8], at: usize, giver: u8, receiver: u8, weight: u8, need: u16, bar: u16)
+fn insert(
+    b: &mut [u8],
+    at: usize,
+    giver: u8,
+    receiver: u8,
+    weight: u8,
+    need: u16,
+    bar: u16,
+    kind: u8,
+)
     requires { ⌜ (wellFormed (now b) ≡ true) × (countIn (now b) < mostRecords) × IsPlace (now b) giver receiver at ⌝ }
-    ensures { λ _. ⌜ now (b .exit) ≡ encode (withDelegations (decode (now (b .entry))) (insert (granted giver receiver weight need bar) ((decode (now (b .entry))) .delegations))) ⌝ }
+    ensures { λ _. ⌜ now (b .exit) ≡ encode (withDelegations (decode (now (b .entry))) (insert (granted giver receiver weight need bar kind) ((decode (now (b .entry))) .delegations))) ⌝ }
 {
     let n = count(b);
     let start = record_place(at);
     shift_up(b, start, record_place(n));
-    put_record(b, start, giver, receiver, weight, need, bar);
+    put_record(b, start, giver, receiver, weight, need, bar, kind);
     put_two(b, COUNT_AT, (n + 1) as u16);
 }
 
@@ -137,7 +146,7 @@ pub fn remove(b: &mut [u8], giver: u8, receiver: u8)
     let at = record_place(find(b, n, giver, receiver));
     shift_down(b, at, record_place(n));
     let last = n - 1;
-    put_record(b, record_place(last), 0, 0, 0, 0, 0);
+    put_record(b, record_place(last), 0, 0, 0, 0, 0, 0);
     put_two(b, COUNT_AT, last as u16);
 }
 
@@ -152,9 +161,9 @@ pub fn set_weight(b: &mut [u8], giver: u8, receiver: u8, weight: u8)
 }
 
 // A delegation granted: the weight of its pair raised to its own, or one more delegation.
-pub fn put_granted(b: &mut [u8], giver: u8, receiver: u8, weight: u8, need: u16, bar: u16)
+pub fn put_granted(b: &mut [u8], giver: u8, receiver: u8, weight: u8, need: u16, bar: u16, kind: u8)
     requires { ⌜ (wellFormed (now b) ≡ true) × (stands (decode (now b)) giver receiver ≡ false → countIn (now b) < mostRecords) ⌝ }
-    ensures { λ _. ⌜ now (b .exit) ≡ encode (afterGrant (decode (now (b .entry))) (granted giver receiver weight need bar)) ⌝ }
+    ensures { λ _. ⌜ now (b .exit) ≡ encode (afterGrant (decode (now (b .entry))) (granted giver receiver weight need bar kind)) ⌝ }
 {
     let n = count(b);
     let at = place(b, n, giver, receiver);
@@ -162,5 +171,5 @@ pub fn put_granted(b: &mut [u8], giver: u8, receiver: u8, weight: u8, need: u16,
         set_weight(b, giver, receiver, weight);
         return;
     }
-    insert(b, at, giver, receiver, weight, need, bar);
+    insert(b, at, giver, receiver, weight, need, bar, kind);
 }

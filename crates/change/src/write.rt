@@ -11,12 +11,12 @@ ghost use Rattle.block.specs.Records.{markPlace, HasMarks, HasRetired};
 ghost use Rattle.change.specs.Shift.{movedUp, movedDown};
 use block::layout::BAR;
 use block::layout::GIVER;
+use block::layout::KIND;
 use block::layout::MARK_SIZE;
 use block::layout::MARKS_AT;
 use block::layout::NEED;
 use block::layout::RECEIVER;
 use block::layout::RECORD_SIZE;
-use block::layout::REST;
 use block::layout::RETIRED_AT;
 use block::layout::RETIRED_SIZE;
 use block::layout::WEIGHT;
@@ -76,14 +76,23 @@ pub fn put_retired(b: &mut [u8], bits: u64)
 }
 
 // The record of a delegation.
-pub fn put_record(b: &mut [u8], at: usize, giver: u8, receiver: u8, weight: u8, need: u16, bar: u16)
+pub fn put_record(
+    b: &mut [u8],
+    at: usize,
+    giver: u8,
+    receiver: u8,
+    weight: u8,
+    need: u16,
+    bar: u16,
+    kind: u8,
+)
     requires { ⌜ at + recordSize ≤ length (now b) ⌝ }
-    ensures { λ _. ⌜ now (b .exit) ≡ sets (now (b .entry)) at (recordBytes (granted giver receiver weight need bar)) ⌝ }
+    ensures { λ _. ⌜ now (b .exit) ≡ sets (now (b .entry)) at (recordBytes (granted giver receiver weight need bar kind)) ⌝ }
 {
     b[at + GIVER] = giver;
     b[at + RECEIVER] = receiver;
     b[at + WEIGHT] = weight;
-    b[at + REST] = 0;
+    b[at + KIND] = kind;
     put_two(b, at + NEED, need);
     put_two(b, at + BAR, bar);
 }

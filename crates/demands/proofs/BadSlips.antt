@@ -289,7 +289,7 @@ lone-formed = delegations-formed nothing (entry 1 2 5 ∷ []) nothing-formed (om
     each : (d : Delegation) → d ∈ (entry 1 2 5 ∷ []) → DelegationFormed 3 d × Apart nothing d
     each d (List·Memᴰ·tail m) = absurd (List·Memᴰ·not-nil m)
     each d (List·Memᴰ·head e) = subst (λ (x : Delegation). DelegationFormed 3 x × Apart nothing x) (sym e)
-        (record { giver = omega arith; receiver = omega arith; differ = λ q. omega arith; notOwner = λ q. omega arith; weight = omega arith; need = omega arith; bar = omega arith; disjoint = refl }, (tt, tt))
+        (record { giver = omega arith; receiver = omega arith; differ = λ q. omega arith; notOwner = λ q. omega arith; weight = omega arith; need = omega arith; bar = omega arith; disjoint = refl; kind = omega arith }, (tt, tt))
 
 lone-step : callStep steps lone (cutCall 1 (removal 1 2)) ≡ answered (pos 0) (pos 0) (pos 1) nothing
 unfolding larger next step steps meets limitFrom goesOn chains reach allowed settle named passed held refusalOf cut accepted callStep

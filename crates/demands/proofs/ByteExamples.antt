@@ -5,10 +5,10 @@ use mathlib.Core.List.{List, [], _∷_, _++_, map}
 use Prim.Native.Nat.{ℕ, zero, suc}
 use lib.ListN.{length, take, drop}
 use lib.Seq.{take-at}
-use Rattle.rules.specs.List.{At}
+use Rattle.rules.specs.List.{At, concatMap}
 use Rattle.rules.specs.Limit.{larger}
 use Rattle.rules.specs.Table.{next, step, steps}
-use Rattle.rules.specs.Register.{Register}
+use Rattle.rules.specs.Register.{Delegation, Register}
 use Rattle.rules.specs.Condition.{meets}
 use Rattle.rules.specs.Chain.{limitFrom}
 use Rattle.rules.specs.Reach.{goesOn, chains, reach}
@@ -21,22 +21,22 @@ use Rattle.rules.specs.Refusal.{passed, held, refusalOf}
 use Rattle.rules.specs.CallStep.{Outcome, cut, accepted, callStep}
 use Rattle.rules.specs.Trace.{Entry, allAsked, traceFrom, stateFrom, History}
 use Rattle.rules.specs.History.{leftBy, trace, registerAt}
-use Rattle.rules.specs.Examples.{Example, lastLeft, computed, said, leaving, leaving-idle, examples}
+use Rattle.rules.specs.Examples.{Example, lastLeft, computed, said, leaving, leaving-idle, passing, passOnly, entry, examples}
 use Rattle.rules.proofs.Calls.{fresh-formed, callStep-formed}
 use Rattle.rules.proofs.Trace.{trace-at, history-from}
 use Rattle.rules.proofs.History.{demand3-steps}
 use Rattle.rules.proofs.Answers.{examples-hold}
-use Rattle.block.specs.Layout.{retiredAt, retiredSize}
-use Rattle.block.specs.Bytes.{wideBytes}
-use Rattle.block.specs.Block.{decode, encode}
+use Rattle.block.specs.Layout.{retiredAt, retiredSize, recordsSize, recordsAt, recordSize}
+use Rattle.block.specs.Bytes.{wideBytes, padded}
+use Rattle.block.specs.Block.{recordBytes, decode, encode}
 use Rattle.block.proofs.Wide.{length-wideBytes}
-use Rattle.block.proofs.Fitting.{recordsPart, retired-drop, formed-fits}
+use Rattle.block.proofs.Fitting.{recordsPart, records-encode, retired-drop, formed-fits}
 use Rattle.block.proofs.Encode.{decode-encode}
 use Rattle.steptable.specs.declared.Given.{Given}
 use Rattle.register.specs.CallOn.{callOn}
 use Rattle.slips.specs.Slip.{Effect}
 use Rattle.demands.specs.History.{Asked, asks, plain, askedOn, bytesLeft, traceOn, blockAt}
-use Rattle.demands.specs.Examples.{lineOn, computedOn, bitsAfter, RetiredBytes}
+use Rattle.demands.specs.Examples.{lineOn, computedOn, bitsAfter, RetiredBytes, firstRecord, PassBytes}
 use Rattle.demands.proofs.History.{lent-ours}
 use Rattle.register.proofs.OnBytes.{onBytes, callOn-encode}
 
@@ -144,4 +144,27 @@ pub retired-bytes : RetiredBytes
 retired-bytes = record {
   one = bits-after (leaving .given ++ (retire 0 1 ∷ [])) 10 ∙ ap (wideBytes retiredSize) one-retired;
   nine = bits-after (leaving-idle .given ++ (retire 0 9 ∷ [])) 10 ∙ ap (wideBytes retiredSize) nine-retired;
+}
+
+-- ── the bytes of a pass-only delegation ──
+first-record : (cs : List Call) (n : ℕ) (ds : List Delegation) → registerAt steps cs n .delegations ≡ ds → firstRecord cs n ≡ take recordSize (padded recordsSize (concatMap recordBytes ds))
+first-record cs n ds e =
+    let S = registerAt steps cs n in
+    ap (λ (b : List ℕ). take recordSize (drop recordsAt b)) (blocks-written fresh fresh-formed cs n)
+    ∙ ap (take recordSize) (records-encode S (formed-fits S (demand3-steps .wellFormed cs n)))
+    ∙ ap (λ (xs : List Delegation). take recordSize (padded recordsSize (concatMap recordBytes xs))) e
+
+pass-granted : registerAt steps (passing .given) 4 .delegations ≡ passOnly 0 1 3 ∷ entry 1 2 2 ∷ []
+unfolding larger next step steps meets limitFrom goesOn chains reach allowed settle named passed held refusalOf cut accepted callStep
+pass-granted = refl
+
+pass-lowered : registerAt steps (passing .given ++ passing .calls) 10 .delegations ≡ passOnly 0 1 0 ∷ []
+unfolding larger next step steps meets limitFrom goesOn chains reach allowed settle named passed held refusalOf cut accepted callStep
+pass-lowered = refl
+
+pub pass-bytes : PassBytes
+pass-bytes = record {
+  place = refl;
+  granted = first-record (passing .given) 4 (passOnly 0 1 3 ∷ entry 1 2 2 ∷ []) pass-granted;
+  lowered = first-record (passing .given ++ passing .calls) 10 (passOnly 0 1 0 ∷ []) pass-lowered;
 }

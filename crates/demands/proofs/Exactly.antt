@@ -1,12 +1,12 @@
 -- Demand 2, as theorems about the calls on bytes. Assumes nothing.
-use mathlib.Core.Path.{_≡_, sym, ap, subst, _∙_}
+use mathlib.Core.Path.{_≡_, refl, sym, ap, subst, _∙_}
 use mathlib.Core.Logic.{_≢_, _⊎_, inl, inr}
-use mathlib.Core.Bool.{Bool, true, false, not, _&&_}
+use mathlib.Core.Bool.{Bool, true, false, not, cond, _&&_, _||_}
 use mathlib.Core.List.{List, [], _∷_, _++_}
 use Prim.Native.Nat.{ℕ, suc}
 use native.Mathlib.Omega.{arith}
 use borrow.Author.Tests.{le-ltb}
-use lib.Dec.{T, ltb, nltb→le, not-T}
+use lib.Dec.{T, ltb, eqb, eqb→eq, nltb→le, not-T}
 use lib.IntN.{ℤ, pos}
 use Rattle.rules.specs.List.{_∈_}
 use Rattle.rules.specs.Limit.{none, code, _≼_}
@@ -15,17 +15,17 @@ use Rattle.rules.specs.Register.{Delegation, Register, marksOf}
 use Rattle.rules.specs.Chain.{limit, IsChain}
 use Rattle.rules.specs.Reach.{IsReach, reach}
 use Rattle.rules.specs.Support.{allowed, Carried}
-use Rattle.rules.specs.Pair.{isPair, stands, raises}
-use Rattle.rules.specs.Call.{grant, askReach, setMarks}
+use Rattle.rules.specs.Pair.{isPair, stands, raises, opens}
+use Rattle.rules.specs.Call.{grant, askReach, askUse, setMarks}
 use Rattle.rules.specs.Refusal.{firstOf, held, subjectsHeld, pairStands, allStand, overweight}
 use Rattle.rules.specs.CallStep.{accepted}
 use Rattle.rules.specs.Granted.{GrantedIn, Raises}
 use Rattle.rules.proofs.Table.{steps-rule}
-use Rattle.rules.proofs.Lists.{either, T-true, unset, not-or-left, not-not}
+use Rattle.rules.proofs.Lists.{either, eq→eqb, T-true, unset, not-or-left, not-not}
 use Rattle.rules.proofs.Refusals.{firstOf-left, firstOf-none, passes-of}
 use Rattle.rules.proofs.Reach.{reach-is, reach-only}
 use Rattle.rules.proofs.Support.{allowed-carried, carried-allowed}
-use Rattle.rules.proofs.Pairs.{test-pair, pair-stands}
+use Rattle.rules.proofs.Pairs.{test-pair, pair-stands, opens-right}
 use Rattle.rules.proofs.Granting.{one-raised, raising, grant-leaves}
 use Rattle.rules.proofs.Calls.{accepted-refusal}
 use Rattle.rules.proofs.Still.{marks-still}
@@ -37,7 +37,7 @@ use Rattle.steptable.specs.TableText.{ours, given}
 use Rattle.steptable.specs.declared.Given.{Given}
 use Rattle.steptable.proofs.Right.{given-keeps}
 use Rattle.register.specs.CallOn.{Result, written, callOn}
-use Rattle.demands.specs.Exactly.{Grantable, GrantExactly, Before11, Raisable, RaiseAnswer, RaiseExactly, GrantKeeps, RaiseByte, ReachAnswer, ReachExactly, MarksStill}
+use Rattle.demands.specs.Exactly.{Grantable, GrantExactly, Before11, Raisable, RaiseAnswer, RaiseExactly, GrantKeeps, RaiseByte, ReachAnswer, ReachExactly, MayUse, UseAnswer, UseExactly, MarksStill}
 use Rattle.refusals.proofs.EarlyTests.{early-none, none-early, refused-held}
 use Rattle.register.proofs.Made.{callOn-accepted, made-refused}
 use Rattle.register.proofs.GrantWays.{grant-register, raise-left}
@@ -174,6 +174,45 @@ module _ (o : Given) (b : List ℕ) (g r : ℕ) (e : callOn o b (askReach g r) .
 
 pub reach-exactly : (o : Given) (b : List ℕ) (g r : ℕ) → ReachExactly o b g r
 reach-exactly o b g r e = answers-reach o b g r e
+
+-- ── use ──
+module _ (g : Given) (b : List ℕ) (r : ℕ) (e : callOn g b (askUse r) .refusal ≡ 0) where
+  -- the test that decides the answer, and what it tests
+  abbrev test : Bool
+  test = eqb r 0 || opens r (decode b .delegations)
+
+  answer-use : callOn g b (askUse r) .first ≡ pos (cond test 1 0)
+  unfolding accepted
+  answer-use = let h = accepted-through g b (askUse r) e in ap (λ (x : Result). x .first) (callOn-accepted g (askUse r) b (h .early) (h .held))
+
+  test-may : T test → MayUse b r
+  test-may h = go (eqb r 0) refl h
+    where
+      go : (x : Bool) → eqb r 0 ≡ x → T (x || opens r (decode b .delegations)) → MayUse b r
+      go true q h = inl (eqb→eq r 0 (subst T (sym q) tt))
+      go false q h = inr (opens-right r (decode b .delegations) .0 h)
+
+  may-test : MayUse b r → T test
+  may-test (inl z) = subst (λ (x : Bool). T (x || opens r (decode b .delegations))) (sym (T-true (eqb r 0) (eq→eqb z))) tt
+  may-test (inr d) = go (eqb r 0) (opens-right r (decode b .delegations) .1 d)
+    where
+      go : (x : Bool) → T (opens r (decode b .delegations)) → T (x || opens r (decode b .delegations))
+      go true h = tt
+      go false h = h
+
+  answers-use : UseAnswer g b r
+  answers-use = record {
+    only = λ q. test-may (one (either test) (sym answer-use ∙ q));
+    whenever = λ m. answer-use ∙ ap (λ (x : Bool). pos (cond x 1 0)) (T-true test (may-test m));
+    otherwise = λ n. answer-use ∙ ap (λ (x : Bool). pos (cond x 1 0)) (unset test (not-T test (λ h. n (test-may h))));
+  }
+    where
+      one : T test ⊎ T (not test) → pos (cond test 1 0) ≡ pos 1 → T test
+      one (inl h) q = h
+      one (inr h) q = let z = ap code (ap (λ (x : Bool). pos (cond x 1 0)) (sym (unset test h)) ∙ q) in absurd (omega arith)
+
+pub use-exactly : (g : Given) (b : List ℕ) (r : ℕ) → UseExactly g b r
+use-exactly g b r e = answers-use g b r e
 
 -- ── the marks that stand ──
 pub marks-left : (g : Given) → TableRule (g .steps) → (b : List ℕ) → IsBytes b → (y s : ℕ) → MarksStill g b y s

@@ -6,3 +6,4 @@ pub mod Keeping
 pub mod BadSlips
 pub mod BadLists
 pub mod Leaving
+pub mod Passing

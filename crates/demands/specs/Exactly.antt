@@ -1,6 +1,7 @@
--- Demand 2: when exactly a grant is accepted, what it leaves, what exactly reach answers, and what setting the marks that stand leaves, on any bytes and by any step table (document 01, 'Calls'; document 02,
--- C-11, C-12, C-15 and C-16). Assumes nothing.
+-- Demand 2: when exactly a grant is accepted, what it leaves, what exactly reach and use answer, and what setting the marks that stand leaves, on any bytes and by any step table (document 01, 'Calls'; document 02,
+-- C-11, C-12, C-15, C-16 and C-18). Assumes nothing.
 use mathlib.Core.Path.{_≡_}
+use mathlib.Core.Logic.{_⊎_}
 use mathlib.Core.Bool.{true}
 use mathlib.Core.List.{List, [], _∷_, _++_}
 use Prim.Native.Nat.{ℕ, _+_, _<_}
@@ -13,7 +14,7 @@ use Rattle.rules.specs.Register.{Delegation, marksOf}
 use Rattle.rules.specs.Chain.{limit, IsChain}
 use Rattle.rules.specs.Support.{Carried, Supported}
 use Rattle.rules.specs.Pair.{isPair, stands}
-use Rattle.rules.specs.Call.{grant, askReach, setMarks}
+use Rattle.rules.specs.Call.{grant, askReach, askUse, setMarks}
 use Rattle.rules.specs.Refusal.{firstOf, subjectsHeld, pairStands, allStand}
 use Rattle.rules.specs.Granted.{GrantedIn, Raises}
 use Rattle.block.specs.Layout.{weightByte}
@@ -56,7 +57,7 @@ pub record RaiseAnswer (g : Given) (b : List ℕ) (d e : Delegation) : Type 0 wh
 abbrev pub RaiseExactly : Given → List ℕ → Delegation → Type 0
 RaiseExactly g b d = (e : Delegation) → e ∈ decode b .delegations → T (isPair (d .giver) (d .receiver) e) → RaiseAnswer g b d e
 
--- an accepted grant drops nothing, lowers nothing and changes no condition; what it names stands as granted, and nothing else is heavier or new
+-- an accepted grant drops nothing, lowers nothing and changes no condition and no kind; what it names stands as granted, and nothing else is heavier or new
 abbrev pub GrantKeeps : Given → List ℕ → Delegation → Type 0
 GrantKeeps g b d = callOn g b (grant d) .refusal ≡ 0 → GrantedIn (decode b) (decode (callOn g b (grant d) .bytes)) d
 
@@ -77,6 +78,20 @@ pub record ReachAnswer (k : Given) (b : List ℕ) (g r : ℕ) : Type 0 where
 -- of every accepted reach
 abbrev pub ReachExactly : Given → List ℕ → ℕ → ℕ → Type 0
 ReachExactly k b g r = callOn k b (askReach g r) .refusal ≡ 0 → ReachAnswer k b g r
+
+-- what lets r use the right: r is the owner, or some ordinary delegation to r stands
+abbrev pub MayUse : List ℕ → ℕ → Type 0
+MayUse b r = (r ≡ 0) ⊎ ((d : Delegation) × (d ∈ decode b .delegations) × (d .receiver ≡ r) × (d .kind ≡ 0))
+
+-- use answers 1 exactly then, and otherwise 0
+pub record UseAnswer (g : Given) (b : List ℕ) (r : ℕ) : Type 0 where
+  pub only : callOn g b (askUse r) .first ≡ pos 1 → MayUse b r
+  pub whenever : MayUse b r → callOn g b (askUse r) .first ≡ pos 1
+  pub otherwise : (MayUse b r → ⊥) → callOn g b (askUse r) .first ≡ pos 0
+
+-- of every accepted use
+abbrev pub UseExactly : Given → List ℕ → ℕ → Type 0
+UseExactly g b r = callOn g b (askUse r) .refusal ≡ 0 → UseAnswer g b r
 
 -- setting the marks that the subject has, on a register that the table given supports: where it is accepted nothing is dropped, nothing lowered, one round is made, and every byte is left
 abbrev pub MarksStill : Given → List ℕ → (by subject : ℕ) → Type 0

@@ -1,11 +1,11 @@
--- P1 to P8 of document 01, and the examples of raises, of marks and of retirements, on bytes: the calls on bytes followed down a list from the block that open writes. Assumes nothing.
+-- P1 to P8 of document 01, and the examples of raises, of marks, of retirements and of pass-only delegations, on bytes: the calls on bytes followed down a list from the block that open writes. Assumes nothing.
 use mathlib.Core.Path.{_≡_}
 use mathlib.Core.List.{List, [], _∷_, _++_, map}
-use Prim.Native.Nat.{ℕ}
+use Prim.Native.Nat.{ℕ, _+_}
 use lib.ListN.{length, take, drop}
 use Rattle.rules.specs.Call.{Call, retire}
-use Rattle.rules.specs.Examples.{Line, line, Example, leaving, leaving-idle, Shown}
-use Rattle.block.specs.Layout.{retiredAt, retiredSize}
+use Rattle.rules.specs.Examples.{Line, line, Example, leaving, leaving-idle, passing, Shown}
+use Rattle.block.specs.Layout.{retiredAt, retiredSize, recordsAt, recordSize, kindByte}
 use Rattle.block.specs.Block.{decode}
 use Rattle.slips.specs.Slip.{Effect}
 use Rattle.demands.specs.History.{asks, traceOn, blockAt}
@@ -33,3 +33,13 @@ bitsAfter cs n = take retiredSize (drop retiredAt (blockAt (map (asks []) cs) n)
 pub record RetiredBytes : Type 0 where
   pub one : bitsAfter (leaving .given ++ (retire 0 1 ∷ [])) 10 ≡ 2 ∷ 0 ∷ 0 ∷ 0 ∷ 0 ∷ 0 ∷ 0 ∷ 0 ∷ []
   pub nine : bitsAfter (leaving-idle .given ++ (retire 0 9 ∷ [])) 10 ≡ 0 ∷ 2 ∷ 0 ∷ 0 ∷ 0 ∷ 0 ∷ 0 ∷ 0 ∷ []
+
+-- the bytes of the first record after the first n calls
+abbrev pub firstRecord : List Call → ℕ → List ℕ
+firstRecord cs n = take recordSize (drop recordsAt (blockAt (map (asks []) cs) n))
+
+-- 0-1, pass-only, at 3 and then at 0: byte 143 of the block is 1
+pub record PassBytes : Type 0 where
+  pub place : recordsAt + kindByte ≡ 143
+  pub granted : firstRecord (passing .given) 4 ≡ 0 ∷ 1 ∷ 3 ∷ 1 ∷ 0 ∷ 0 ∷ 0 ∷ 0 ∷ []
+  pub lowered : firstRecord (passing .given ++ passing .calls) 10 ≡ 0 ∷ 1 ∷ 0 ∷ 1 ∷ 0 ∷ 0 ∷ 0 ∷ 0 ∷ []

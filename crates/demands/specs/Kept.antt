@@ -78,7 +78,7 @@ pub record KeptFilled (most : ℕ) (before : List ℕ) (n k : ℕ) (after : List
 
 -- the bytes of the longest text of a register
 abbrev pub mostWritten : ℕ
-mostWritten = 6376
+mostWritten = 6893
 
 -- a write of a register's text
 abbrev pub KeptWrite : List ℕ → Filled → List ℕ → Type 0

@@ -3,5 +3,6 @@ pub mod Exactly
 pub mod Examples
 pub mod Kept
 pub mod Retired
+pub mod Kinds
 pub mod TakeBack
 pub mod SlipExample

@@ -111,9 +111,9 @@ grant-room t b bytes formed d e s =
     let p = passes-of (held t (decode b) (grant d)) tt e in
     subst (λ (k : ℕ). k < 256) (count-held b bytes formed) (nleb→lt 256 (length (decode b .delegations)) (subst (λ (x : Bool). T (not (not x && leb 256 (length (decode b .delegations))))) s (p 12)))
 
--- a grant for the pair of e raises it by these three tests
-pub own-raise : (e : Delegation) (w n b : ℕ) → (eqb (e .need) n && eqb (e .bar) b && ltb (e .weight) w) ≡ isRaise (granted (e .giver) (e .receiver) w n b) e
-own-raise e w n b = sym (rw (T-true (isPair (e .giver) (e .receiver) e) (pair-test (e .giver) (e .receiver) e (refl, refl))))
+-- a grant for the pair of e raises it by these four tests
+pub own-raise : (e : Delegation) (w n b k : ℕ) → (eqb (e .need) n && eqb (e .bar) b && eqb (e .kind) k && ltb (e .weight) w) ≡ isRaise (granted (e .giver) (e .receiver) w n b k) e
+own-raise e w n b k = sym (rw (T-true (isPair (e .giver) (e .receiver) e) (pair-test (e .giver) (e .receiver) e (refl, refl))))
 
 -- ── the tests of 11 and 12, as the code makes them; k is the pair's place ──
 module _ (b : List ℕ) (bytes : IsBytes b) (formed : wellFormed b ≡ true) (d : Delegation) (n k : ℕ) (place : k ≡ leading (λ e. not (isPair (d .giver) (d .receiver) e)) (delegationsTo b (countIn b))) where
@@ -144,10 +144,10 @@ module _ (b : List ℕ) (bytes : IsBytes b) (formed : wellFormed b ≡ true) (d 
         go false true f g = absurd (g tt)
 
     -- a grant of d's numbers for the pair of that record is d
-    own : granted (e .giver) (e .receiver) (d .weight) (d .need) (d .bar) ≡ d
-    own = let (g, r) = test-pair (d .giver) (d .receiver) e pair in λ j. granted (g j) (r j) (d .weight) (d .need) (d .bar)
+    own : granted (e .giver) (e .receiver) (d .weight) (d .need) (d .bar) (d .kind) ≡ d
+    own = let (g, r) = test-pair (d .giver) (d .receiver) e pair in λ j. granted (g j) (r j) (d .weight) (d .need) (d .bar) (d .kind)
 
-    pub place-found : orElse n (11, not (isRaise (granted (e .giver) (e .receiver) (d .weight) (d .need) (d .bar)) e)) ≡ orElse (orElse n (pairStands (decode b) d)) (allStand (decode b) d)
+    pub place-found : orElse n (11, not (isRaise (granted (e .giver) (e .receiver) (d .weight) (d .need) (d .bar) (d .kind)) e)) ≡ orElse (orElse n (pairStands (decode b) d)) (allStand (decode b) d)
     place-found =
         ap (λ (x : Delegation). orElse n (11, not (isRaise x e))) own
         ∙ ap (λ (x : Bool). orElse n (11, not x)) (sym raise-test)

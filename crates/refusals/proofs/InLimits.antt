@@ -1,6 +1,6 @@
 -- The numbers of a call that no refusal by what was passed turns back are within their ranges. Assumes nothing.
 use mathlib.Core.Path.{_≡_}
-use mathlib.Core.Bool.{not, _||_}
+use mathlib.Core.Bool.{not, _&&_, _||_}
 use mathlib.Core.List.{List, [], _∷_}
 use Prim.Native.Nat.{ℕ}
 use lib.Bits.{bitAnd}
@@ -23,7 +23,7 @@ passes-in-limits (grant d) p =
     let n = d .need in
     let m = d .bar in
     let masks = not-or-left (ltb 65535 n || ltb 65535 m) (not (eqb (bitAnd n m) 0)) (p 4) in
-    (subjects (d .giver ∷ d .receiver ∷ []) (p 2), nltb→le 255 (d .weight) (p 3), nltb→le 65535 n (not-or-left (ltb 65535 n) (ltb 65535 m) masks), nltb→le 65535 m (not-or-right (ltb 65535 n) (ltb 65535 m) masks))
+    (subjects (d .giver ∷ d .receiver ∷ []) (p 2), nltb→le 255 (d .weight) (p 3), nltb→le 65535 n (not-or-left (ltb 65535 n) (ltb 65535 m) masks), nltb→le 65535 m (not-or-right (ltb 65535 n) (ltb 65535 m) masks), nltb→le 1 (d .kind) (not-or-left (ltb 1 (d .kind)) (eqb (d .kind) 1 && eqb (d .weight) 0) (p 21)))
 passes-in-limits (revoke y g r) p = subjects (y ∷ g ∷ r ∷ []) (p 2)
 passes-in-limits (downgrade y g r w) p = (subjects (y ∷ g ∷ r ∷ []) (p 2), nltb→le 255 w (p 3))
 passes-in-limits (askReach g r) p = subjects (g ∷ r ∷ []) (p 2)

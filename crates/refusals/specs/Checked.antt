@@ -15,7 +15,7 @@ Subjects (x ∷ xs) = (x ≤ 63) × Subjects xs
 -- the numbers of a call are within their ranges
 abbrev pub InLimits : Call → Type 0
 InLimits (enrol m) = m ≤ 65535
-InLimits (grant d) = Subjects (d .giver ∷ d .receiver ∷ []) × (d .weight ≤ 255) × (d .need ≤ 65535) × (d .bar ≤ 65535)
+InLimits (grant d) = Subjects (d .giver ∷ d .receiver ∷ []) × (d .weight ≤ 255) × (d .need ≤ 65535) × (d .bar ≤ 65535) × (d .kind ≤ 1)
 InLimits (revoke y g r) = Subjects (y ∷ g ∷ r ∷ [])
 InLimits (downgrade y g r w) = Subjects (y ∷ g ∷ r ∷ []) × (w ≤ 255)
 InLimits (askReach g r) = Subjects (g ∷ r ∷ [])

@@ -96,14 +96,17 @@ pub fn all_enrolled(n: u32, block: &[u8]) -> u32
 }
 
 // A grant of these numbers for the pair of record `k` raises it.
-fn is_raise(block: &[u8], k: usize, weight: u32, need: u32, bar: u32) -> bool
+fn is_raise(block: &[u8], k: usize, weight: u32, need: u32, bar: u32, kind: u32) -> bool
     requires { ⌜ HasRecord (now block) k ⌝ }
-    ensures { λ r. ⌜ (let e = delegationAt (now (block .entry)) k in r ≡ isRaise (granted (e .giver) (e .receiver) weight need bar) e) ⌝ }
+    ensures { λ r. ⌜ (let e = delegationAt (now (block .entry)) k in r ≡ isRaise (granted (e .giver) (e .receiver) weight need bar kind) e) ⌝ }
 {
     if block::need(block, k) as u32 != need {
         return false;
     }
     if block::bar(block, k) as u32 != bar {
+        return false;
+    }
+    if block::kind(block, k) as u32 != kind {
         return false;
     }
     (block::weight(block, k) as u32) < weight
@@ -118,9 +121,10 @@ fn no_place(
     weight: u32,
     need: u32,
     bar: u32,
+    kind: u32,
 ) -> u32
-    requires { ⌜ Checked (now block) (grant (granted giver receiver weight need bar)) ⌝ }
-    ensures { λ r. ⌜ r ≡ orElse (orElse n (pairStands (decode (now (block .entry))) (granted giver receiver weight need bar))) (allStand (decode (now (block .entry))) (granted giver receiver weight need bar)) ⌝ }
+    requires { ⌜ Checked (now block) (grant (granted giver receiver weight need bar kind)) ⌝ }
+    ensures { λ r. ⌜ r ≡ orElse (orElse n (pairStands (decode (now (block .entry))) (granted giver receiver weight need bar kind))) (allStand (decode (now (block .entry))) (granted giver receiver weight need bar kind)) ⌝ }
 {
     let count = block::count(block);
     let k = block::find(block, count, giver as u8, receiver as u8);
@@ -130,7 +134,7 @@ fn no_place(
     tested(
         n,
         refusal::PAIR_STANDS,
-        !is_raise(block, k, weight, need, bar),
+        !is_raise(block, k, weight, need, bar, kind),
     )
 }
 
@@ -171,9 +175,10 @@ fn overweight(
     weight: u32,
     need: u32,
     bar: u32,
+    kind: u32,
 ) -> u32
-    requires { ⌜ Checked (now block) (grant (granted giver receiver weight need bar)) × TableRule (now table) × (n ≡ 0 → BothEnrolled (now block) giver receiver) ⌝ }
-    ensures { λ r. ⌜ r ≡ orElse n (overweight (now (table .entry)) (decode (now (block .entry))) (granted giver receiver weight need bar ∷ [])) ⌝ }
+    requires { ⌜ Checked (now block) (grant (granted giver receiver weight need bar kind)) × TableRule (now table) × (n ≡ 0 → BothEnrolled (now block) giver receiver) ⌝ }
+    ensures { λ r. ⌜ r ≡ orElse n (overweight (now (table .entry)) (decode (now (block .entry))) (granted giver receiver weight need bar kind ∷ [])) ⌝ }
 {
     if n != 0 {
         return n;
@@ -191,13 +196,14 @@ pub fn grant_held(
     weight: u32,
     need: u32,
     bar: u32,
+    kind: u32,
 ) -> u32
-    requires { ⌜ Checked (now block) (grant (granted giver receiver weight need bar)) × TableRule (now table) ⌝ }
-    ensures { λ r. ⌜ r ≡ firstOf (held (now (table .entry)) (decode (now (block .entry))) (grant (granted giver receiver weight need bar))) ⌝ }
+    requires { ⌜ Checked (now block) (grant (granted giver receiver weight need bar kind)) × TableRule (now table) ⌝ }
+    ensures { λ r. ⌜ r ≡ firstOf (held (now (table .entry)) (decode (now (block .entry))) (grant (granted giver receiver weight need bar kind))) ⌝ }
 {
     let n = pair_held(block, giver, receiver);
-    let n = no_place(n, block, giver, receiver, weight, need, bar);
-    overweight(n, block, table, giver, receiver, weight, need, bar)
+    let n = no_place(n, block, giver, receiver, weight, need, bar, kind);
+    overweight(n, block, table, giver, receiver, weight, need, bar, kind)
 }
 
 // Of a revocation.

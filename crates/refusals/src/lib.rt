@@ -100,19 +100,20 @@ pub fn grant_refusal(
     weight: u32,
     need: u32,
     bar: u32,
+    kind: u32,
 ) -> u32
     requires { ⌜ TableRule (now table) ⌝ }
-    ensures { λ r. ⌜ r ≡ refusalOn (lent fault (now (table .entry))) (now (block .entry)) (grant (granted giver receiver weight need bar)) ⌝ }
+    ensures { λ r. ⌜ r ≡ refusalOn (lent fault (now (table .entry))) (now (block .entry)) (grant (granted giver receiver weight need bar kind)) ⌝ }
 {
     let n = early(
         block,
-        passed::grant_passed(giver, receiver, weight, need, bar),
+        passed::grant_passed(giver, receiver, weight, need, bar, kind),
         fault,
     );
     if n != 0 {
         return n;
     }
-    held::grant_held(block, table, giver, receiver, weight, need, bar)
+    held::grant_held(block, table, giver, receiver, weight, need, bar, kind)
 }
 
 // Of a revocation.

@@ -3,7 +3,7 @@ ghost use mathlib.Core.Path.{_≡_};
 ghost use mathlib.Core.List.{[], _∷_};
 ghost use Rattle.rules.specs.Register.{granted};
 ghost use Rattle.rules.specs.Call.{enrol, grant, revoke, downgrade, askReach, askUse, setMarks, retire};
-ghost use Rattle.rules.specs.Refusal.{firstOf, noSubject, noWeight, noMarks, noCondition, equalPair, toOwner, passed, orderPassed};
+ghost use Rattle.rules.specs.Refusal.{firstOf, noSubject, noWeight, noMarks, noCondition, equalPair, toOwner, noKind, passed, orderPassed};
 ghost use Rattle.refusals.specs.Joined.{orElse};
 use crate::tested;
 use rules::most;
@@ -53,6 +53,16 @@ fn to_owner(n: u32, receiver: u32) -> u32
     tested(n, refusal::TO_OWNER, receiver == 0)
 }
 
+// 21: a kind above 1, or pass-only of weight 0.
+fn no_kind(n: u32, weight: u32, kind: u32) -> u32
+    ensures { λ r. ⌜ r ≡ orElse n (noKind weight kind) ⌝ }
+{
+    if kind != rules::kind::PASS_ONLY as u32 {
+        return tested(n, refusal::NO_KIND, kind > most::KIND);
+    }
+    tested(n, refusal::NO_KIND, weight == 0)
+}
+
 // Of an enrolment.
 pub fn enrol_passed(marks: u32) -> u32
     ensures { λ r. ⌜ r ≡ firstOf (passed (enrol marks)) ⌝ }
@@ -86,15 +96,16 @@ pub fn pair_passed(giver: u32, receiver: u32) -> u32
 }
 
 // Of a grant.
-pub fn grant_passed(giver: u32, receiver: u32, weight: u32, need: u32, bar: u32) -> u32
-    ensures { λ r. ⌜ r ≡ firstOf (passed (grant (granted giver receiver weight need bar))) ⌝ }
+pub fn grant_passed(giver: u32, receiver: u32, weight: u32, need: u32, bar: u32, kind: u32) -> u32
+    ensures { λ r. ⌜ r ≡ firstOf (passed (grant (granted giver receiver weight need bar kind))) ⌝ }
 {
     let n = no_subject(0, giver);
     let n = no_subject(n, receiver);
     let n = no_weight(n, weight);
     let n = no_condition(n, need, bar);
     let n = equal_pair(n, giver, receiver);
-    to_owner(n, receiver)
+    let n = to_owner(n, receiver);
+    no_kind(n, weight, kind)
 }
 
 // Of a revocation.

@@ -30,17 +30,17 @@ use Rattle.regfile.proofs.Parsing.{NoRow, lines-unique, empty-apart, en
 pair-formed : (d : Delegation) → d ∈ pairs → DelegationFormed 3 d
 pair-formed d (List·Memᴰ·head q) =
     subst (λ (x : Delegation). DelegationFormed 3 x) (sym q)
-    record { giver = omega arith; receiver = omega arith; differ = λ e. omega arith; notOwner = λ e. omega arith; weight = omega arith; need = omega arith; bar = omega arith; disjoint = refl }
+    record { giver = omega arith; receiver = omega arith; differ = λ e. omega arith; notOwner = λ e. omega arith; weight = omega arith; need = omega arith; bar = omega arith; disjoint = refl; kind = omega arith }
 pair-formed d (List·Memᴰ·tail (List·Memᴰ·head q)) =
     subst (λ (x : Delegation). DelegationFormed 3 x) (sym q)
-    record { giver = omega arith; receiver = omega arith; differ = λ e. omega arith; notOwner = λ e. omega arith; weight = omega arith; need = omega arith; bar = omega arith; disjoint = refl }
+    record { giver = omega arith; receiver = omega arith; differ = λ e. omega arith; notOwner = λ e. omega arith; weight = omega arith; need = omega arith; bar = omega arith; disjoint = refl; kind = omega arith }
 pair-formed d (List·Memᴰ·tail (List·Memᴰ·tail m)) = absurd (List·Memᴰ·not-nil m)
 
 pairs-rising : Rising pairs
 pairs-rising = (first, ((λ e m. absurd (List·Memᴰ·not-nil m)), tt))
   where
-    first : (e : Delegation) → e ∈ (granted 1 2 8 0 0 ∷ []) → Before (granted 0 1 9 4 0) e
-    first e (List·Memᴰ·head q) = subst (Before (granted 0 1 9 4 0)) (sym q) (inl (omega arith))
+    first : (e : Delegation) → e ∈ (granted 1 2 8 0 0 0 ∷ []) → Before (granted 0 1 9 4 0 1) e
+    first e (List·Memᴰ·head q) = subst (Before (granted 0 1 9 4 0 1)) (sym q) (inl (omega arith))
     first e (List·Memᴰ·tail m) = absurd (List·Memᴰ·not-nil m)
 
 module _ (m : ℕ) (l : m ≤ 65535) where
@@ -67,7 +67,7 @@ module _ (ss ds : List (List ℤ)) (a : T (areRows subjectColumns ss)) (b : T (a
       let text = subjectNames ++ (concatMap line ss ++ (delegationNames ++ (concatMap line ds ++ t))) in
       let p = sym (names-after text (concatMap line ss ++ (delegationNames ++ (concatMap line ds ++ t))) refl) ∙ names-after text (concatMap line us ++ (delegationNames ++ concatMap line es)) (h .same) in
       let q = lines-unique subjectColumns ss us (delegationNames ++ (concatMap line ds ++ t)) (delegationNames ++ concatMap line es) (test-rows subjectColumns ss a) (h .subjects) (names-apart 2 (concatMap line ds ++ t)) (names-apart 2 (concatMap line es)) p in
-      some (lines-unique delegationColumns ds es t [] (test-rows delegationColumns ds b) (h .delegations) n (end-apart 4) (ap (drop 32) (q .1) ∙ sym (append-nil (concatMap line es))) .1)
+      some (lines-unique delegationColumns ds es t [] (test-rows delegationColumns ds b) (h .delegations) n (end-apart 5) (ap (drop 37) (q .1) ∙ sym (append-nil (concatMap line es))) .1)
 
 -- the first of some values can be read, and the others follow it
 row-value : (s : List ℕ) (y z : ℤ) (zs : List ℤ) (rest : List ℕ) → Allowed false y → s ≡ line (y ∷ z ∷ zs) ++ rest → (readFrom 32 s 0 .found ≡ true) × (drop (readFrom 32 s 0 .next) s ≡ line (z ∷ zs) ++ rest)
@@ -78,15 +78,15 @@ row-value s (pos n) z zs rest l e =
     let v : suc (0 + length (digits n)) ≡ suc (length (digits n)) = omega arith in
     (ap (λ (x : Number). x .found) p, ap (λ (x : Number). drop (x .next) s) p ∙ ap (λ (k : ℕ). drop k s) v ∙ ap (drop (suc (length (digits n)))) q ∙ drop-end (digits n) 32 (line (z ∷ zs) ++ rest))
 
-zero-apart : NoRow delegationColumns (bytesOf "1 2 08 0 0\n")
+zero-apart : NoRow delegationColumns (bytesOf "1 2 08 0 0 0\n")
 zero-apart [] rest k l e = absurd (omega (arith, k))
 zero-apart (a ∷ []) rest k l e = absurd (omega (arith, k))
 zero-apart (a ∷ b ∷ []) rest k l e = absurd (omega (arith, k))
 zero-apart (a ∷ b ∷ c ∷ []) rest k l e = absurd (omega (arith, k))
 zero-apart (a ∷ b ∷ c ∷ d ∷ zs) rest k l e =
-    let p = row-value (bytesOf "1 2 08 0 0\n") a b (c ∷ d ∷ zs) rest (l .0) e .1 in
-    let q = row-value (bytesOf "2 08 0 0\n") b c (d ∷ zs) rest (l .1 .0) p .1 in
-    clash (row-value (bytesOf "08 0 0\n") c d zs rest (l .1 .1 .0) q .0)
+    let p = row-value (bytesOf "1 2 08 0 0 0\n") a b (c ∷ d ∷ zs) rest (l .0) e .1 in
+    let q = row-value (bytesOf "2 08 0 0 0\n") b c (d ∷ zs) rest (l .1 .0) p .1 in
+    clash (row-value (bytesOf "08 0 0 0\n") c d zs rest (l .1 .1 .0) q .0)
 
 some-bytes : (b : ℕ) (s : List ℕ) → b ∷ s ≢ []
 some-bytes b s e = let z : _≡_ {A = ℕ} 0 1 = cc in absurd (omega arith)
@@ -112,11 +112,14 @@ subjectRow s m = retiredRow s m 0
 abbrev threeRows : List (List ℤ)
 threeRows = subjectRow 0 0 ∷ subjectRow 1 4 ∷ subjectRow 2 4 ∷ []
 
+abbrev kindRow : ℕ → List ℤ
+kindRow k = pos 0 ∷ pos 1 ∷ pos 9 ∷ pos 4 ∷ pos 0 ∷ pos k ∷ []
+
 abbrev first : List ℤ
-first = pos 0 ∷ pos 1 ∷ pos 9 ∷ pos 4 ∷ pos 0 ∷ []
+first = kindRow 1
 
 abbrev second : ℕ → List ℤ
-second w = pos 1 ∷ pos 2 ∷ pos w ∷ pos 0 ∷ pos 0 ∷ []
+second w = pos 1 ∷ pos 2 ∷ pos w ∷ pos 0 ∷ pos 0 ∷ pos 0 ∷ []
 
 abbrev skippedRows : List (List ℤ)
 skippedRows = subjectRow 0 0 ∷ subjectRow 1 4 ∷ subjectRow 3 4 ∷ []
@@ -136,16 +139,21 @@ wide-unmade = unmade wideRows (first ∷ second 8 ∷ []) tt tt (λ R f m d e.
 
 heavy-unmade : filed (fileOf threeRows (first ∷ second 264 ∷ [])) ≡ refusedFile 8
 heavy-unmade = unmade threeRows (first ∷ second 264 ∷ []) tt tt (λ R f m d e.
-    let h = f .each (granted 1 2 264 0 0) (subst (λ (ds : List Delegation). granted 1 2 264 0 0 ∈ ds) (sym d) (List·Memᴰ·tail (List·Memᴰ·head refl))) in
+    let h = f .each (granted 1 2 264 0 0 0) (subst (λ (ds : List Delegation). granted 1 2 264 0 0 0 ∈ ds) (sym d) (List·Memᴰ·tail (List·Memᴰ·head refl))) in
     omega (arith, h .weight))
 
-turned-apart : Before (granted 1 2 8 0 0) (granted 0 1 9 4 0) → ⊥
+kind-unmade : (k : ℕ) → 1 < k → T (areRows delegationColumns (kindRow k ∷ second 8 ∷ [])) → filed (fileOf threeRows (kindRow k ∷ second 8 ∷ [])) ≡ refusedFile 8
+kind-unmade k l h = unmade threeRows (kindRow k ∷ second 8 ∷ []) tt h (λ R f m d e.
+    let x = f .each (granted 0 1 9 4 0 k) (subst (λ (ds : List Delegation). granted 0 1 9 4 0 k ∈ ds) (sym d) (List·Memᴰ·head refl)) in
+    omega (arith, x .kind))
+
+turned-apart : Before (granted 1 2 8 0 0 0) (granted 0 1 9 4 0 1) → ⊥
 turned-apart (inl l) = omega arith
 turned-apart (inr (e, l)) = omega arith
 
 falling-unmade : filed (fileOf threeRows (second 8 ∷ first ∷ [])) ≡ refusedFile 8
 falling-unmade = unmade threeRows (second 8 ∷ first ∷ []) tt tt (λ R f m d e.
-    turned-apart (subst Rising d (f .rising) .0 (granted 0 1 9 4 0) (List·Memᴰ·head refl)))
+    turned-apart (subst Rising d (f .rising) .0 (granted 0 1 9 4 0 1) (List·Memᴰ·head refl)))
 
 -- ── retired subjects ──
 -- the bit of subject k that a well-formed register with these rows has
@@ -178,7 +186,7 @@ standingRows = subjectRow 0 0 ∷ retiredRow 1 0 1 ∷ subjectRow 2 4 ∷ []
 
 standing-unmade : filed (fileOf standingRows (first ∷ [])) ≡ refusedFile 8
 standing-unmade = bit-unmade standingRows (first ∷ []) tt tt 1 1 (omega arith) refl (λ R f m d q.
-    let (g, r) = f .apart (granted 0 1 9 4 0) (subst (λ (ds : List Delegation). granted 0 1 9 4 0 ∈ ds) (sym d) (List·Memᴰ·head refl)) in
+    let (g, r) = f .apart (granted 0 1 9 4 0 1) (subst (λ (ds : List Delegation). granted 0 1 9 4 0 1 ∈ ds) (sym d) (List·Memᴰ·head refl)) in
     T-not (isRetired R 1) r (eq→eqb q))
 
 abbrev ownerRows : List (List ℤ)
@@ -202,11 +210,11 @@ left-off-formed = record {
   apart = λ d i. subst (λ (x : Delegation). T (not (isRetired left-off (x .giver))) × T (not (isRetired left-off (x .receiver)))) (sym (only d i)) (tt, tt);
 }
   where
-    only : (d : Delegation) → d ∈ (granted 0 1 9 4 0 ∷ []) → d ≡ granted 0 1 9 4 0
+    only : (d : Delegation) → d ∈ (granted 0 1 9 4 0 1 ∷ []) → d ≡ granted 0 1 9 4 0 1
     only d (List·Memᴰ·head q) = q
     only d (List·Memᴰ·tail i) = absurd (List·Memᴰ·not-nil i)
 
-    one : (d : Delegation) → d ∈ (granted 0 1 9 4 0 ∷ []) → d ∈ pairs
+    one : (d : Delegation) → d ∈ (granted 0 1 9 4 0 1 ∷ []) → d ∈ pairs
     one d i = List·Memᴰ·head (only d i)
 
     gone : (s : ℕ) → T (isRetired left-off s) → (s < 3) × (s ≢ 0) × (marksOf left-off s ≡ 0)
@@ -220,14 +228,35 @@ old-apart : (rest : List ℕ) → NoLines (bytesOf "subject marks\n" ++ rest)
 unfolding subjectNames
 old-apart rest ss ds h = let z : _≡_ {A = ℕ} 10 32 = ap (λ (s : List ℕ). getD s 13 0) (h .same) in omega arith
 
--- ── the examples ──
-leading-zero-apart : NoLines (fileWith "0 0 0\n1 4 0\n2 4 0\n" "0 1 9 4 0\n1 2 08 0 0\n")
+-- so does the line of names of the delegations
+old-names-apart : (rest : List ℕ) → NoLines (bytesOf "subject marks retired\n0 0 0\n1 4 0\n2 4 0\n" ++ (bytesOf "\ngiver receiver weight need bar\n" ++ rest))
 unfolding subjectNames delegationNames digits
-leading-zero-apart = rest-apart threeRows (first ∷ []) tt tt (bytesOf "1 2 08 0 0\n") zero-apart (some-bytes 49 _)
+old-names-apart rest us es h =
+    let text = bytesOf "subject marks retired\n0 0 0\n1 4 0\n2 4 0\n" ++ (bytesOf "\ngiver receiver weight need bar\n" ++ rest) in
+    let old = bytesOf "\ngiver receiver weight need bar\n" ++ rest in
+    let p = sym (names-after text (concatMap line threeRows ++ old) refl) ∙ names-after text (concatMap line us ++ (delegationNames ++ concatMap line es)) (h .same) in
+    let q = lines-unique subjectColumns threeRows us old (delegationNames ++ concatMap line es) (test-rows subjectColumns threeRows tt) (h .subjects) (empty-apart 2 _) (names-apart 2 (concatMap line es)) p in
+    let z : _≡_ {A = ℕ} 10 32 = ap (λ (s : List ℕ). getD s 31 0) (q .1) in
+    omega arith
 
-after-end-apart : NoLines (fileWith "0 0 0\n1 4 0\n2 4 0\n" "0 1 9 4 0\n1 2 8 0 0\n\n")
+-- pass-only at weight 0 is well formed
+light-formed : WellFormed (three 4 (granted 0 1 0 4 0 1 ∷ []))
+light-formed = three-formed 4 (omega arith) (granted 0 1 0 4 0 1 ∷ []) (omega arith) ((λ e i. absurd (List·Memᴰ·not-nil i)), tt) one
+  where
+    one : (d : Delegation) → d ∈ (granted 0 1 0 4 0 1 ∷ []) → DelegationFormed 3 d
+    one d (List·Memᴰ·head q) =
+        subst (λ (x : Delegation). DelegationFormed 3 x) (sym q)
+        record { giver = omega arith; receiver = omega arith; differ = λ e. omega arith; notOwner = λ e. omega arith; weight = omega arith; need = omega arith; bar = omega arith; disjoint = refl; kind = omega arith }
+    one d (List·Memᴰ·tail i) = absurd (List·Memᴰ·not-nil i)
+
+-- ── the examples ──
+leading-zero-apart : NoLines (fileWith "0 0 0\n1 4 0\n2 4 0\n" "0 1 9 4 0 1\n1 2 08 0 0 0\n")
 unfolding subjectNames delegationNames digits
-after-end-apart = rest-apart threeRows (first ∷ second 8 ∷ []) tt tt (10 ∷ []) (empty-apart 4 []) (some-bytes 10 [])
+leading-zero-apart = rest-apart threeRows (first ∷ []) tt tt (bytesOf "1 2 08 0 0 0\n") zero-apart (some-bytes 49 _)
+
+after-end-apart : NoLines (fileWith "0 0 0\n1 4 0\n2 4 0\n" "0 1 9 4 0 1\n1 2 8 0 0 0\n\n")
+unfolding subjectNames delegationNames digits
+after-end-apart = rest-apart threeRows (first ∷ second 8 ∷ []) tt tt (10 ∷ []) (empty-apart 5 []) (some-bytes 10 [])
 
 pub examples-hold : Examples
 unfolding subjectNames delegationNames fileText digits
@@ -237,9 +266,9 @@ examples-hold = record {
   sample-text = refl;
   sample-read = filed-right .formed sample (pairs-formed 4 (omega arith));
   leading-zero = leading-zero-apart;
-  leading-zero-read = filed-right .malformed (fileWith "0 0 0\n1 4 0\n2 4 0\n" "0 1 9 4 0\n1 2 08 0 0\n") leading-zero-apart;
+  leading-zero-read = filed-right .malformed (fileWith "0 0 0\n1 4 0\n2 4 0\n" "0 1 9 4 0 1\n1 2 08 0 0 0\n") leading-zero-apart;
   after-end = after-end-apart;
-  after-end-read = filed-right .malformed (fileWith "0 0 0\n1 4 0\n2 4 0\n" "0 1 9 4 0\n1 2 8 0 0\n\n") after-end-apart;
+  after-end-read = filed-right .malformed (fileWith "0 0 0\n1 4 0\n2 4 0\n" "0 1 9 4 0 1\n1 2 8 0 0 0\n\n") after-end-apart;
   skipped = skipped-unmade;
   wide = wide-unmade;
   heavy = heavy-unmade;
@@ -250,5 +279,9 @@ examples-hold = record {
   standing = standing-unmade;
   owner = owner-unmade;
   no-column = λ rest. filed-right .malformed (bytesOf "subject marks\n" ++ rest) (old-apart rest);
+  pass-light = filed-right .formed (three 4 (granted 0 1 0 4 0 1 ∷ [])) light-formed;
+  kind-two = kind-unmade 2 (omega arith) tt;
+  kind-wide = kind-unmade 257 (omega arith) tt;
+  no-pass = λ rest. filed-right .malformed (bytesOf "subject marks retired\n0 0 0\n1 4 0\n2 4 0\n" ++ (bytesOf "\ngiver receiver weight need bar\n" ++ rest)) (old-names-apart rest);
   falling = falling-unmade;
 }

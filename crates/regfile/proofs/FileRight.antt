@@ -103,7 +103,7 @@ abbrev names : List ℕ
 names = bytesOf "subject marks retired"
 
 moreNames : List ℕ
-moreNames = bytesOf "giver receiver weight need bar"
+moreNames = bytesOf "giver receiver weight need bar pass"
 
 names-split : (s : List ℕ) → subjectNames ++ s ≡ names ++ (10 ∷ s)
 unfolding subjectNames
@@ -136,7 +136,7 @@ module _ (ss ds : List (List ℤ)) (a : AreRows subjectColumns ss) (b : AreRows 
   subjects-of = ap rowsBefore file-rows ∙ before-rows 2 ss rest a
 
   lines-rows : rows (concatMap line ds) ≡ ds
-  lines-rows = ap rows (sym (append-nil (concatMap line ds))) ∙ rows-lines 4 ds [] b ∙ ap (λ (x : List (List ℤ)). ds ++ x) rows-none ∙ append-nil ds
+  lines-rows = ap rows (sym (append-nil (concatMap line ds))) ∙ rows-lines 5 ds [] b ∙ ap (λ (x : List (List ℤ)). ds ++ x) rows-none ∙ append-nil ds
 
   delegations-of : delegationsOf (fileOf ss ds) ≡ ds
   unfolding delegationsOf rest
@@ -238,7 +238,7 @@ delegations-formed : (n : ℕ) (ds : List Delegation) → n ≤ 64 → ((d : Del
 delegations-formed n [] l h = tt
 delegations-formed n (d ∷ ds) l h =
     let k = h d (List·Memᴰ·head refl) in
-    (refl, (omega (arith, k .giver), (omega (arith, k .receiver), (omega (arith, k .weight), (omega (arith, k .need), (omega (arith, k .bar), tt))))), delegations-formed n ds l (λ e i. h e (List·Memᴰ·tail i)))
+    (refl, (omega (arith, k .giver), (omega (arith, k .receiver), (omega (arith, k .weight), (omega (arith, k .need), (omega (arith, k .bar), (omega (arith, k .kind), tt)))))), delegations-formed n ds l (λ e i. h e (List·Memᴰ·tail i)))
 
 pub formed-lines : (R : Register) → WellFormed R → FileLines (fileText R) (rowsOf subjectColumns R) (rowsOf delegationColumns R)
 unfolding fileText

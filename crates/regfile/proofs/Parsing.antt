@@ -136,25 +136,25 @@ module _ (text : List ℕ) where
     no-middle b after m e = other-form after (λ ss ds h. m .no e (concatMap line ds) (subjects-known ss ds h .1))
 
     -- ── after the second line of names ──
-    middle-after : (s : List ℕ) → drop (r₁ .next) text ≡ delegationNames ++ s → drop (r₁ .next + 32) text ≡ s
+    middle-after : (s : List ℕ) → drop (r₁ .next) text ≡ delegationNames ++ s → drop (r₁ .next + 37) text ≡ s
     unfolding delegationNames
     middle-after s e =
-        let k : r₁ .next + 32 ≡ 32 + r₁ .next = omega arith in
-        sym (drop-drop 32 (r₁ .next) text) ∙ ap (drop 32) e
+        let k : r₁ .next + 37 ≡ 37 + r₁ .next = omega arith in
+        sym (drop-drop 37 (r₁ .next) text) ∙ ap (drop 37) e
 
     -- what the reading of the delegations' rows is lent
-    pub rows-lent-2 : (n : Bool) → Begins (drop (r₁ .next) text) delegationNames n → n ≡ true → RowsLent text (r₁ .next + 32) (pos 0 ∷ pos 0 ∷ pos 0 ∷ pos 0 ∷ pos 0 ∷ []) b₁ (r₁ .fits)
+    pub rows-lent-2 : (n : Bool) → Begins (drop (r₁ .next) text) delegationNames n → n ≡ true → RowsLent text (r₁ .next + 37) (pos 0 ∷ pos 0 ∷ pos 0 ∷ pos 0 ∷ pos 0 ∷ pos 0 ∷ []) b₁ (r₁ .fits)
     unfolding delegationNames
     rows-lent-2 n m e = record {
-      within = omega (arith, ap length (m .yes e), length-append delegationNames (drop 32 (drop (r₁ .next) text)), length-drop (r₁ .next) text, m₁ .within);
+      within = omega (arith, ap length (m .yes e), length-append delegationNames (drop 37 (drop (r₁ .next) text)), length-drop (r₁ .next) text, m₁ .within);
       columns = inr refl;
       block = λ t. let h = m₁ .held t .1 in subst Fitting (sym (h .bytes)) (encode-fitting (withRows subjectColumns (decode b₀) (m₁ .rows)) (h .fits));
     }
 
-    module _ (b₂ : List ℕ) (r₂ : Rows) (m₂ : RowsRead text (r₁ .next + 32) delegationColumns (decode b₁) (r₁ .fits) r₂ b₂) where
+    module _ (b₂ : List ℕ) (r₂ : Rows) (m₂ : RowsRead text (r₁ .next + 37) delegationColumns (decode b₁) (r₁ .fits) r₂ b₂) where
       delegations-known : (ss ds : List (List ℤ)) → FileLines text ss ds → (m₂ .rows ≡ ds) × (drop (r₂ .next) text ≡ [])
       delegations-known ss ds h =
-          lines-unique delegationColumns (m₂ .rows) ds (drop (r₂ .next) text) [] (m₂ .formed) (h .delegations) (m₂ .last) (end-apart 4)
+          lines-unique delegationColumns (m₂ .rows) ds (drop (r₂ .next) text) [] (m₂ .formed) (h .delegations) (m₂ .last) (end-apart 5)
           (sym (m₂ .front) ∙ middle-after (concatMap line ds) (subjects-known ss ds h .1) ∙ sym (append-nil (concatMap line ds)))
 
       pub more-follows : (after : List ℕ) → r₂ .next < length text → Parsed text 7 after
@@ -166,7 +166,7 @@ module _ (text : List ℕ) where
         unfolding subjectNames
         first = p₁ .yes q₁
 
-        second : drop (r₁ .next) text ≡ delegationNames ++ drop (r₁ .next + 32) text
+        second : drop (r₁ .next) text ≡ delegationNames ++ drop (r₁ .next + 37) text
         second = let s = p₂ .yes q₂ in s ∙ ap (λ (x : List ℕ). delegationNames ++ x) (sym (middle-after (drop (length delegationNames) (drop (r₁ .next) text)) s))
 
         lines : FileLines text (m₁ .rows) (m₂ .rows)

@@ -56,18 +56,19 @@ subjects-short n (m ∷ ms) l e h =
 
 -- ── the delegations ──
 
-delegation-short : (n : ℕ) (d : Delegation) → n ≤ 64 → DelegationFormed n d → length (line (delegationRow d)) ≤ 22
+delegation-short : (n : ℕ) (d : Delegation) → n ≤ 64 → DelegationFormed n d → length (line (delegationRow d)) ≤ 24
 delegation-short n d l f =
     omega (
       arith,
-      line-more 1 (d .giver) (d .receiver ∷ d .weight ∷ d .need ∷ d .bar ∷ []) (omega (arith, f .giver)),
-      line-more 1 (d .receiver) (d .weight ∷ d .need ∷ d .bar ∷ []) (omega (arith, f .receiver)),
-      line-more 2 (d .weight) (d .need ∷ d .bar ∷ []) (omega (arith, f .weight)),
-      line-more 4 (d .need) (d .bar ∷ []) (omega (arith, f .need)),
-      line-more 4 (d .bar) [] (omega (arith, f .bar)),
+      line-more 1 (d .giver) (d .receiver ∷ d .weight ∷ d .need ∷ d .bar ∷ d .kind ∷ []) (omega (arith, f .giver)),
+      line-more 1 (d .receiver) (d .weight ∷ d .need ∷ d .bar ∷ d .kind ∷ []) (omega (arith, f .receiver)),
+      line-more 2 (d .weight) (d .need ∷ d .bar ∷ d .kind ∷ []) (omega (arith, f .weight)),
+      line-more 4 (d .need) (d .bar ∷ d .kind ∷ []) (omega (arith, f .need)),
+      line-more 4 (d .bar) (d .kind ∷ []) (omega (arith, f .bar)),
+      line-more 0 (d .kind) [] (omega (arith, f .kind)),
     )
 
-delegations-short : (n : ℕ) (ds : List Delegation) → n ≤ 64 → ((d : Delegation) → d ∈ ds → DelegationFormed n d) → length (concatMap line (map delegationRow ds)) ≤ 22 * length ds
+delegations-short : (n : ℕ) (ds : List Delegation) → n ≤ 64 → ((d : Delegation) → d ∈ ds → DelegationFormed n d) → length (concatMap line (map delegationRow ds)) ≤ 24 * length ds
 delegations-short n [] l h = omega arith
 delegations-short n (d ∷ ds) l h =
     omega (arith, length-append (line (delegationRow d)) (concatMap line (map delegationRow ds)), delegation-short n d l (h d (List·Memᴰ·head refl)), delegations-short n ds l (λ e i. h e (List·Memᴰ·tail i)))
@@ -78,12 +79,12 @@ names-length : length subjectNames ≡ 22
 unfolding subjectNames
 names-length = refl
 
-more-length : length delegationNames ≡ 32
+more-length : length delegationNames ≡ 37
 unfolding delegationNames
 more-length = refl
 
 module _ (R : Register) where
-  length-file : length (fileText R) ≡ 22 + (length (concatMap line (subjectRows (R .retired) 0 (R .marks))) + (32 + length (concatMap line (map delegationRow (R .delegations)))))
+  length-file : length (fileText R) ≡ 22 + (length (concatMap line (subjectRows (R .retired) 0 (R .marks))) + (37 + length (concatMap line (map delegationRow (R .delegations)))))
   unfolding fileText
   length-file =
       let S = concatMap line (subjectRows (R .retired) 0 (R .marks)) in
@@ -93,6 +94,6 @@ module _ (R : Register) where
   pub file-some : 1 ≤ length (fileText R)
   file-some = omega (arith, length-file)
 
-  pub file-short : WellFormed R → length (fileText R) ≤ 6376
+  pub file-short : WellFormed R → length (fileText R) ≤ 6893
   file-short f =
       omega (arith, length-file, f .few, subjects-short (R .retired) (R .marks) (omega (arith, f .marked, f .most)) (f .owner) (f .marks), delegations-short (R .subjects) (R .delegations) (f .most) (f .each))

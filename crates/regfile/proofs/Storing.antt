@@ -240,42 +240,46 @@ rows-more : (ds : List Delegation) (d : Delegation) → map delegationRow (ds ++
 rows-more [] d = refl
 rows-more (e ∷ ds) d = ap (λ (t : List (List ℤ)). delegationRow e ∷ t) (rows-more ds d)
 
--- a row of five plain numbers is that of a delegation
-pub five-of : (row : List ℤ) (d : Delegation) → length row ≡ 5 → pos (d .giver) ≡ getD row 0 (pos 0) → pos (d .receiver) ≡ getD row 1 (pos 0) → pos (d .weight) ≡ getD row 2 (pos 0) → pos (d .need) ≡ getD row 3 (pos 0) → pos (d .bar) ≡ getD row 4 (pos 0)
+-- a row of six plain numbers is that of a delegation
+pub six-of : (row : List ℤ) (d : Delegation) → length row ≡ 6 → pos (d .giver) ≡ getD row 0 (pos 0) → pos (d .receiver) ≡ getD row 1 (pos 0) → pos (d .weight) ≡ getD row 2 (pos 0) → pos (d .need) ≡ getD row 3 (pos 0) → pos (d .bar) ≡ getD row 4 (pos 0) → pos (d .kind) ≡ getD row 5 (pos 0)
     → row ≡ delegationRow d
-five-of [] d h p q r s t = absurd (omega arith)
-five-of (x ∷ []) d h p q r s t = absurd (omega arith)
-five-of (x ∷ y ∷ []) d h p q r s t = absurd (omega arith)
-five-of (x ∷ y ∷ z ∷ []) d h p q r s t = absurd (omega arith)
-five-of (x ∷ y ∷ z ∷ u ∷ []) d h p q r s t = absurd (omega arith)
-five-of (x ∷ y ∷ z ∷ u ∷ v ∷ []) d h p q r s t = λ i. sym p i ∷ sym q i ∷ sym r i ∷ sym s i ∷ sym t i ∷ []
-five-of (x ∷ y ∷ z ∷ u ∷ v ∷ c ∷ cs) d h p q r s t = absurd (omega arith)
+six-of [] d h p q r s t o = absurd (omega arith)
+six-of (x ∷ []) d h p q r s t o = absurd (omega arith)
+six-of (x ∷ y ∷ []) d h p q r s t o = absurd (omega arith)
+six-of (x ∷ y ∷ z ∷ []) d h p q r s t o = absurd (omega arith)
+six-of (x ∷ y ∷ z ∷ u ∷ []) d h p q r s t o = absurd (omega arith)
+six-of (x ∷ y ∷ z ∷ u ∷ v ∷ []) d h p q r s t o = absurd (omega arith)
+six-of (x ∷ y ∷ z ∷ u ∷ v ∷ w ∷ []) d h p q r s t o = λ i. sym p i ∷ sym q i ∷ sym r i ∷ sym s i ∷ sym t i ∷ sym o i ∷ []
+six-of (x ∷ y ∷ z ∷ u ∷ v ∷ w ∷ c ∷ cs) d h p q r s t o = absurd (omega arith)
 
 pub room-fits : (d : Delegation) → T (hasRoom d) → DelegationFits d
 room-fits d t =
     let w = leb (d .weight) 255 in
     let n = leb (d .need) 65535 in
-    let b = leb (d .bar) 65535 in
+    let b = leb (d .bar) 65535 && leb (d .kind) 255 in
     let t₁ = T-right (leb (d .giver) 255) (leb (d .receiver) 255 && (w && (n && b))) t in
     let t₂ = T-right (leb (d .receiver) 255) (w && (n && b)) t₁ in
     let t₃ = T-right w (n && b) t₂ in
+    let t₄ = T-right n b t₃ in
     record {
       giver = leb→le (d .giver) 255 (T-left (leb (d .giver) 255) (leb (d .receiver) 255 && (w && (n && b))) t);
       receiver = leb→le (d .receiver) 255 (T-left (leb (d .receiver) 255) (w && (n && b)) t₁);
       weight = leb→le (d .weight) 255 (T-left w (n && b) t₂);
       need = leb→le (d .need) 65535 (T-left n b t₃);
-      bar = leb→le (d .bar) 65535 (T-right n b t₃);
+      bar = leb→le (d .bar) 65535 (T-left (leb (d .bar) 65535) (leb (d .kind) 255) t₄);
+      kind = leb→le (d .kind) 255 (T-right (leb (d .bar) 65535) (leb (d .kind) 255) t₄);
     }
 
 fits-room : (d : Delegation) → DelegationFits d → T (hasRoom d)
 fits-room d k =
     let w = leb (d .weight) 255 in
     let n = leb (d .need) 65535 in
-    let b = leb (d .bar) 65535 in
+    let b = leb (d .bar) 65535 && leb (d .kind) 255 in
     T-both (leb (d .giver) 255) (leb (d .receiver) 255 && (w && (n && b))) (le→leb (d .giver) 255 (k .giver))
     (T-both (leb (d .receiver) 255) (w && (n && b)) (le→leb (d .receiver) 255 (k .receiver))
     (T-both w (n && b) (le→leb (d .weight) 255 (k .weight))
-    (T-both n b (le→leb (d .need) 65535 (k .need)) (le→leb (d .bar) 65535 (k .bar)))))
+    (T-both n b (le→leb (d .need) 65535 (k .need))
+    (T-both (leb (d .bar) 65535) (leb (d .kind) 255) (le→leb (d .bar) 65535 (k .bar)) (le→leb (d .kind) 255 (k .kind))))))
 
 module _ (b : List ℕ) (h : Fitting b) (row : List ℤ) where
   standing : (S : Register) (more : List (List ℤ)) → rowsOf delegationColumns S ≡ (rowsOf delegationColumns (decode b) ++ (row ∷ [])) ++ more → Stands (rowsOf delegationColumns (decode b)) row (rowsOf delegationColumns S) more
@@ -291,7 +295,7 @@ module _ (b : List ℕ) (h : Fitting b) (row : List ℤ) where
         let (x, i, q) = map-mem delegationRow (S .delegations) (standing S more e .inside) in
         let k = f .each x i in
         let y : d ≡ x = ap delegationOf (sym same ∙ q) in
-        let t = fits-room x record { giver = omega (arith, k .giver, f .most); receiver = omega (arith, k .receiver, f .most); weight = k .weight; need = k .need; bar = k .bar } in
+        let t = fits-room x record { giver = omega (arith, k .giver, f .most); receiver = omega (arith, k .receiver, f .most); weight = k .weight; need = k .need; bar = k .bar; kind = omega (arith, k .kind) } in
         clash (sym (sym n ∙ ap hasRoom y ∙ T-true (hasRoom x) t)))
 
     module _ (room : countIn b < mostRecords) (t : hasRoom d ≡ true) where

@@ -1,4 +1,4 @@
--- A register as text (document 02, C-13 and C-16): a line of names and a line for each subject from 0 on, an empty line, a line of names and a line for each delegation in block order. Assumes nothing.
+-- A register as text (document 02, C-13, C-16 and C-18): a line of names and a line for each subject from 0 on, an empty line, a line of names and a line for each delegation in block order. Assumes nothing.
 use mathlib.Core.Path.{_≡_}
 use mathlib.Core.Logic.{_≢_}
 use mathlib.Core.Bool.{Bool, true, false, cond, _&&_}
@@ -26,7 +26,7 @@ subjectNames = bytesOf "subject marks retired\n"
 
 -- an empty line stands before these
 unfoldable pub delegationNames : List ℕ
-delegationNames = bytesOf "\ngiver receiver weight need bar\n"
+delegationNames = bytesOf "\ngiver receiver weight need bar pass\n"
 
 -- the values of each line: those of subjects with these marks, from s on, retired by the bits n, and that of a delegation
 abbrev pub subjectRows : ℕ → ℕ → List ℕ → List (List ℤ)
@@ -41,7 +41,7 @@ abbrev pub subjectColumns : ℕ
 subjectColumns = 3
 
 abbrev pub delegationColumns : ℕ
-delegationColumns = 5
+delegationColumns = 6
 
 -- the rows of w columns of a register: its subjects', or its delegations'
 abbrev pub rowsOf : ℕ → Register → List (List ℤ)
@@ -125,7 +125,7 @@ abbrev pub valueAt : List ℤ → ℕ → ℕ
 valueAt row i = plainOf (getD row i (pos 0))
 
 abbrev pub delegationOf : List ℤ → Delegation
-delegationOf row = granted (valueAt row 0) (valueAt row 1) (valueAt row 2) (valueAt row 3) (valueAt row 4)
+delegationOf row = granted (valueAt row 0) (valueAt row 1) (valueAt row 2) (valueAt row 3) (valueAt row 4) (valueAt row 5)
 
 -- the number with these bits, the lowest first
 abbrev pub bitsOf : List ℕ → ℕ

@@ -51,7 +51,7 @@ Unformed w rows = (S : Register) → WellFormed S → (more : List (List ℤ)) �
 
 -- the test of DelegationFits
 abbrev pub hasRoom : Delegation → Bool
-hasRoom d = leb (d .giver) 255 && (leb (d .receiver) 255 && (leb (d .weight) 255 && (leb (d .need) 65535 && leb (d .bar) 65535)))
+hasRoom d = leb (d .giver) 255 && (leb (d .receiver) 255 && (leb (d .weight) 255 && (leb (d .need) 65535 && (leb (d .bar) 65535 && leb (d .kind) 255))))
 
 -- a row stored after those of R, or left out
 pub record RowPut (w : ℕ) (R : Register) (row : List ℤ) (r : Bool) (after : List ℕ) : Type 0 where

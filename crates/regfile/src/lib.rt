@@ -14,4 +14,4 @@ pub struct Rows {
 // The columns of a subject's line and of a delegation's.
 pub const SUBJECT_COLUMNS: usize = 3;
 
-pub const DELEGATION_COLUMNS: usize = 5;
+pub const DELEGATION_COLUMNS: usize = 6;

@@ -26,7 +26,7 @@ const TWO_BYTES_MOST: u32 = 65535;
 // The bytes of the first line, and of the empty line and the names after it.
 const SUBJECT_NAMES_SIZE: usize = 22;
 
-const DELEGATION_NAMES_SIZE: usize = 32;
+const DELEGATION_NAMES_SIZE: usize = 37;
 
 // One more subject, where the line is the next one's and there is room.
 fn put_subject(b: &mut [u8], row: &[i64]) -> bool
@@ -57,8 +57,8 @@ fn put_subject(b: &mut [u8], row: &[i64]) -> bool
 }
 
 // The numbers of a delegation have room in its bytes.
-fn has_room(giver: u32, receiver: u32, weight: u32, need: u32, bar: u32) -> bool
-    ensures { λ r. ⌜ r ≡ hasRoom (granted giver receiver weight need bar) ⌝ }
+fn has_room(giver: u32, receiver: u32, weight: u32, need: u32, bar: u32, kind: u32) -> bool
+    ensures { λ r. ⌜ r ≡ hasRoom (granted giver receiver weight need bar kind) ⌝ }
 {
     if giver > BYTE_MOST {
         return false;
@@ -72,13 +72,16 @@ fn has_room(giver: u32, receiver: u32, weight: u32, need: u32, bar: u32) -> bool
     if need > TWO_BYTES_MOST {
         return false;
     }
-    bar <= TWO_BYTES_MOST
+    if bar > TWO_BYTES_MOST {
+        return false;
+    }
+    kind <= BYTE_MOST
 }
 
 // One more delegation, whose numbers have room.
-fn append(b: &mut [u8], giver: u32, receiver: u32, weight: u32, need: u32, bar: u32)
-    requires { ⌜ Fitting (now b) × (countIn (now b) < mostRecords) × DelegationFits (granted giver receiver weight need bar) ⌝ }
-    ensures { λ _. ⌜ now (b .exit) ≡ encode (withDelegations (decode (now (b .entry))) (decode (now (b .entry)) .delegations ++ (granted giver receiver weight need bar ∷ []))) ⌝ }
+fn append(b: &mut [u8], giver: u32, receiver: u32, weight: u32, need: u32, bar: u32, kind: u32)
+    requires { ⌜ Fitting (now b) × (countIn (now b) < mostRecords) × DelegationFits (granted giver receiver weight need bar kind) ⌝ }
+    ensures { λ _. ⌜ now (b .exit) ≡ encode (withDelegations (decode (now (b .entry))) (decode (now (b .entry)) .delegations ++ (granted giver receiver weight need bar kind ∷ []))) ⌝ }
 {
     change::append(
         b,
@@ -87,6 +90,7 @@ fn append(b: &mut [u8], giver: u32, receiver: u32, weight: u32, need: u32, bar: 
         weight as u8,
         need as u16,
         bar as u16,
+        kind as u8,
     );
 }
 
@@ -103,10 +107,11 @@ fn put_delegation(b: &mut [u8], row: &[i64]) -> bool
     let weight = text::unsigned(row[2]);
     let need = text::unsigned(row[3]);
     let bar = text::unsigned(row[4]);
-    if !has_room(giver, receiver, weight, need, bar) {
+    let kind = text::unsigned(row[5]);
+    if !has_room(giver, receiver, weight, need, bar, kind) {
         return false;
     }
-    append(b, giver, receiver, weight, need, bar);
+    append(b, giver, receiver, weight, need, bar, kind);
     true
 }
 
@@ -153,7 +158,7 @@ pub fn parse(text: &[u8], b: &mut [u8]) -> u32
     let mut subject = [0i64; SUBJECT_COLUMNS];
     let subjects = read_rows(text, SUBJECT_NAMES_SIZE, &mut subject, b, true);
     let middle = subjects.next;
-    if !text::begins_with(&text[middle..], b"\ngiver receiver weight need bar\n") {
+    if !text::begins_with(&text[middle..], b"\ngiver receiver weight need bar pass\n") {
         return refusal::MALFORMED;
     }
     let mut delegation = [0i64; DELEGATION_COLUMNS];

@@ -49,7 +49,8 @@ fn write_delegation(b: &[u8], k: usize, buf: &mut [u8], at: usize) -> usize
     let weight = block::weight(b, k) as i64;
     let need = block::need(b, k) as i64;
     let bar = block::bar(b, k) as i64;
-    let row = [giver, receiver, weight, need, bar];
+    let kind = block::kind(b, k) as i64;
+    let row = [giver, receiver, weight, need, bar, kind];
     text::write_line(buf, at, &row)
 }
 
@@ -86,6 +87,6 @@ pub fn render(b: &[u8], buf: &mut [u8]) -> usize
     let subjects = text::write_bytes(buf, 0, b"subject marks retired\n");
     let enrolled = block::subjects(b) as usize;
     let names = write_rows(b, SUBJECT_COLUMNS, enrolled, buf, subjects);
-    let delegations = text::write_bytes(buf, names, b"\ngiver receiver weight need bar\n");
+    let delegations = text::write_bytes(buf, names, b"\ngiver receiver weight need bar pass\n");
     write_rows(b, DELEGATION_COLUMNS, block::count(b), buf, delegations)
 }

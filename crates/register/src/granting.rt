@@ -29,11 +29,22 @@ pub fn grant_by(
     weight: u32,
     need: u32,
     bar: u32,
+    kind: u32,
 ) -> Answer
     requires { ⌜ TableRule (now table) ⌝ }
-    ensures { λ r. ⌜ Made (lent fault (now (table .entry))) (grant (granted giver receiver weight need bar)) (now (block .entry)) r (now (block .exit)) ⌝ }
+    ensures { λ r. ⌜ Made (lent fault (now (table .entry))) (grant (granted giver receiver weight need bar kind)) (now (block .entry)) r (now (block .exit)) ⌝ }
 {
-    let n = refusals::grant_refusal(block, table, fault, giver, receiver, weight, need, bar);
+    let n = refusals::grant_refusal(
+        block,
+        table,
+        fault,
+        giver,
+        receiver,
+        weight,
+        need,
+        bar,
+        kind,
+    );
     if n != 0 {
         return refused(n);
     }
@@ -44,6 +55,7 @@ pub fn grant_by(
         weight as u8,
         need as u16,
         bar as u16,
+        kind as u8,
     );
     answered(block::count(block) as i32, 0, 0)
 }

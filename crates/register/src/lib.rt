@@ -12,6 +12,7 @@ ghost use Rattle.register.specs.Bring.{BringMade};
 use block::layout;
 pub use cutting::downgrade_by;
 pub use cutting::revoke_by;
+use rules::kind;
 use rules::refusal;
 
 // The refusal number, 0 when accepted, and the three answers, 0 where unused.
@@ -89,7 +90,7 @@ pub fn enrol(block: &mut [u8], marks: u32) -> Answer
     answered(subject as i32, 0, 0)
 }
 
-// Document 01's call use: 1 if the receiver is the owner or some delegation to it stands, else 0.
+// Document 01's call use: 1 if the receiver is the owner or some ordinary delegation to it stands, else 0.
 pub fn use_right(block: &[u8], receiver: u32) -> Answer
     ensures { λ r. ⌜ Made ours (askUse receiver) (now (block .entry)) r (now (block .entry)) ⌝ }
 {
@@ -100,7 +101,7 @@ pub fn use_right(block: &[u8], receiver: u32) -> Answer
     if receiver == 0 {
         return answered(1, 0, 0);
     }
-    if block::receives(block, block::count(block), receiver as u8) {
+    if block::opens(block, block::count(block), receiver as u8) {
         return answered(1, 0, 0);
     }
     answered(0, 0, 0)
@@ -114,7 +115,7 @@ pub fn reach(block: &[u8], giver: u32, receiver: u32) -> Answer
     granting::reach_by(block, &table, 0, giver, receiver)
 }
 
-// Adds a delegation; answers the delegations now standing.
+// Adds an ordinary delegation; answers the delegations now standing.
 pub fn grant(
     block: &mut [u8],
     giver: u32,
@@ -123,10 +124,20 @@ pub fn grant(
     need: u32,
     bar: u32,
 ) -> Answer
-    ensures { λ r. ⌜ Made ours (grant (granted giver receiver weight need bar)) (now (block .entry)) r (now (block .exit)) ⌝ }
+    ensures { λ r. ⌜ Made ours (grant (granted giver receiver weight need bar 0)) (now (block .entry)) r (now (block .exit)) ⌝ }
 {
     let table = rules::steps();
-    granting::grant_by(block, &table, 0, giver, receiver, weight, need, bar)
+    granting::grant_by(
+        block,
+        &table,
+        0,
+        giver,
+        receiver,
+        weight,
+        need,
+        bar,
+        kind::ORDINARY as u32,
+    )
 }
 
 // Removes a delegation, then lowers or removes what it no longer supports; answers dropped, lowered and rounds.
@@ -153,17 +164,18 @@ pub fn reach_table(block: &[u8], giver: u32, receiver: u32, table: &[u8]) -> Ans
     granting::reach_by(block, &g.steps, g.refusal, giver, receiver)
 }
 
-// Grant by such a table.
-pub fn grant_table(
+// Adds a delegation of a kind, by such a table.
+pub fn grant_kind(
     block: &mut [u8],
     giver: u32,
     receiver: u32,
     weight: u32,
     need: u32,
     bar: u32,
+    kind: u32,
     table: &[u8],
 ) -> Answer
-    ensures { λ r. ⌜ Made (given (now (table .entry))) (grant (granted giver receiver weight need bar)) (now (block .entry)) r (now (block .exit)) ⌝ }
+    ensures { λ r. ⌜ Made (given (now (table .entry))) (grant (granted giver receiver weight need bar kind)) (now (block .entry)) r (now (block .exit)) ⌝ }
 {
     let g = steptable::read_table(table);
     granting::grant_by(
@@ -175,6 +187,31 @@ pub fn grant_table(
         weight,
         need,
         bar,
+        kind,
+    )
+}
+
+// Adds an ordinary one.
+pub fn grant_table(
+    block: &mut [u8],
+    giver: u32,
+    receiver: u32,
+    weight: u32,
+    need: u32,
+    bar: u32,
+    table: &[u8],
+) -> Answer
+    ensures { λ r. ⌜ Made (given (now (table .entry))) (grant (granted giver receiver weight need bar 0)) (now (block .entry)) r (now (block .exit)) ⌝ }
+{
+    grant_kind(
+        block,
+        giver,
+        receiver,
+        weight,
+        need,
+        bar,
+        kind::ORDINARY as u32,
+        table,
     )
 }
 

@@ -30,7 +30,7 @@ isCall n = leb n 7
 unfoldable pub callOf : (number by giver receiver weight need bar : ℕ) → Call
 callOf number by giver receiver weight need bar =
     cond (eqb number 0) (enrol need)
-    (cond (eqb number 1) (grant (granted giver receiver weight need bar))
+    (cond (eqb number 1) (grant (granted giver receiver weight need bar 0))
     (cond (eqb number 2) (revoke by giver receiver)
     (cond (eqb number 3) (downgrade by giver receiver weight)
     (cond (eqb number 4) (askReach giver receiver)

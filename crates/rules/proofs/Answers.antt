@@ -1,4 +1,4 @@
--- P1 to P8 and the examples of raises, of marks and of retirements: the definitions make of each what is said of it, computed as one list; so do the refusals where several apply, and a list in which the step table
+-- P1 to P8 and the examples of raises, of marks, of retirements and of pass-only delegations: the definitions make of each what is said of it, computed as one list; so do the refusals where several apply, and a list in which the step table
 -- changes from call to call. Assumes nothing.
 use mathlib.Core.Path.{_≡_, refl}
 use mathlib.Core.List.{[], _∷_, map}

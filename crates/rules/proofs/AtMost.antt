@@ -29,6 +29,9 @@ module _ {d e : Delegation} (a : AtMost d e) where
   pub at-receiver : d .receiver ≡ e .receiver
   at-receiver = ap (λ (x : Delegation). x .receiver) (a .same)
 
+  pub at-kind : d .kind ≡ e .kind
+  at-kind = ap (λ (x : Delegation). x .kind) (a .same)
+
   -- whoever meets the condition of the one meets that of the other
   pub at-meets : (m : ℕ) → T (meets m (d .need) (d .bar)) → T (meets m (e .need) (e .bar))
   at-meets m h = subst (λ (x : Delegation). T (meets m (x .need) (x .bar))) (a .same) h

@@ -62,7 +62,7 @@ abbrev need-ignored : Wrong
 need-ignored = onP2 (grant (needing 0 1 9 1)) (count 5 (P2-left (entry 0 1 9 ∷ others)))
 
 abbrev bar-taken : Wrong
-bar-taken = onP2 (grant (granted 0 1 9 0 1)) (count 5 (P2-left (granted 0 1 9 0 1 ∷ others)))
+bar-taken = onP2 (grant (granted 0 1 9 0 1 0)) (count 5 (P2-left (granted 0 1 9 0 1 0 ∷ others)))
 
 -- 11 where the reach is too low
 abbrev eleven-for-sixteen : Wrong

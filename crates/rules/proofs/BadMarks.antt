@@ -19,14 +19,13 @@ use Rattle.rules.specs.Cut.{marking, changed}
 use Rattle.rules.specs.Remainder.{LiftsNothing, Remainder, Best}
 use Rattle.rules.specs.Call.{Call, setMarks}
 use Rattle.rules.specs.Refusal.{passed, held, refusalOf}
-use Rattle.rules.specs.CallStep.{Outcome, answered, refused, cut, accepted, callStep}
+use Rattle.rules.specs.CallStep.{Outcome, refused, cut, accepted, callStep}
 use Rattle.rules.specs.Trace.{PlaceRight}
 use Rattle.rules.specs.History.{registerAt, CutsRight}
 use Rattle.rules.specs.Examples.{entry, needing, lapse, two, twos}
 use Rattle.rules.proofs.Table.{steps-rule}
 use Rattle.rules.proofs.Support.{carried-allowed}
-use Rattle.rules.proofs.Rounds.{settle-best}
-use Rattle.rules.proofs.Wrong.{Wrong, asDefined, not-right, holds, found}
+use Rattle.rules.proofs.Wrong.{Wrong, asDefined, told, not-right, holds, found, best-holds}
 
 -- ── the example's register, subject 2 and 3 with these marks ──
 abbrev marked : ℕ → ℕ → List Delegation → Register
@@ -76,30 +75,27 @@ not-one-round-of-marks r =
     omega (arith, ap code lighter-2-3)
 
 -- ── a remainder, but not the best ──
-best-holds : (F : Register) (d : Delegation) → d ∈ kept → Best steps (lapsed four) F → T (holds d (F .delegations))
+holds-kept : (F : Register) (d : Delegation) → d ∈ kept → Best steps (lapsed four) F → T (holds d (F .delegations))
 unfolding larger next step steps meets limitFrom goesOn chains reach allowed settle
-best-holds F d m b = let (e, i, a) = b .best (lapsed kept) (settle-best steps steps-rule (lapsed four) .remainder) .held d m in found d i a
+holds-kept F d m b = best-holds steps steps-rule (lapsed four) F d m b
 
 -- everything to or from 2 is dropped
 pub not-all-of-2 : Best steps (lapsed four) (lapsed (needing 0 1 6 1 ∷ [])) → ⊥
-not-all-of-2 b = best-holds (lapsed (needing 0 1 6 1 ∷ [])) (entry 0 2 2) (List·Memᴰ·tail (List·Memᴰ·head refl)) b
+not-all-of-2 b = holds-kept (lapsed (needing 0 1 6 1 ∷ [])) (entry 0 2 2) (List·Memᴰ·tail (List·Memᴰ·head refl)) b
 
 -- everything with a condition is dropped
 pub not-all-conditional : Best steps (lapsed four) (lapsed (entry 0 2 2 ∷ entry 2 3 1 ∷ [])) → ⊥
-not-all-conditional b = best-holds (lapsed (entry 0 2 2 ∷ entry 2 3 1 ∷ [])) (needing 0 1 6 1) (List·Memᴰ·head refl) b
+not-all-conditional b = holds-kept (lapsed (entry 0 2 2 ∷ entry 2 3 1 ∷ [])) (needing 0 1 6 1) (List·Memᴰ·head refl) b
 
 -- 2-3 is dropped, though 0-2 carries it at 1
 pub not-without-2-3 : Best steps (lapsed four) (lapsed (needing 0 1 6 1 ∷ entry 0 2 2 ∷ [])) → ⊥
-not-without-2-3 b = best-holds (lapsed (needing 0 1 6 1 ∷ entry 0 2 2 ∷ [])) (entry 2 3 1) (List·Memᴰ·tail (List·Memᴰ·tail (List·Memᴰ·head refl))) b
+not-without-2-3 b = holds-kept (lapsed (needing 0 1 6 1 ∷ entry 0 2 2 ∷ [])) (entry 2 3 1) (List·Memᴰ·tail (List·Memᴰ·tail (List·Memᴰ·head refl))) b
 
 -- ── 2 has the mark again, and what was dropped is given back ──
 pub not-given-back : LiftsNothing (lapsed kept) before → ⊥
 not-given-back l = let (e, m, a) = l (entry 1 2 5) (List·Memᴰ·tail (List·Memᴰ·tail (List·Memᴰ·head refl))) in found (entry 1 2 5) m a
 
 -- ── wrong outcomes ──
-abbrev told : ℕ → ℕ → ℕ → Register → Outcome
-told a b c R = answered (pos a) (pos b) (pos c) R
-
 abbrev on : Call → Outcome → Wrong
 on c o = record { table = steps; register = before; call = c; outcome = o }
 

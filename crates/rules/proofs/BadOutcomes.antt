@@ -165,7 +165,7 @@ unfolding limitFrom
 not-none r = let h = r .bounds [] (chain-owner steps P6-register 1) in omega arith
 
 -- grant returns 16 before looking for a chain: P6
-pub not-sixteen : PlaceRight (callStep steps) (CutsRight steps) P6-register (grant (granted 0 1 255 0 0)) (refused 16 P6-register) → ⊥
+pub not-sixteen : PlaceRight (callStep steps) (CutsRight steps) P6-register (grant (granted 0 1 255 0 0 0)) (refused 16 P6-register) → ⊥
 unfolding larger next step steps meets limitFrom goesOn chains reach allowed passed held refusalOf accepted callStep
 not-sixteen r = let e : _≡_ {A = ℕ} 16 0 = ap (λ (o : Outcome). o .refusal) (r .outcome) in omega arith
 
@@ -195,7 +195,7 @@ P3-reach = refl
 pub not-first-chain : IsReach steps P3-register 3 4 (pos 1) → ⊥
 not-first-chain r = let e = pos-inj (sym P3-reach ∙ reach-only steps P3-register 3 4 (pos 1) r) in omega arith
 
--- ── support by one table claimed of another: what our table granted is not supported by twos ──
+-- ── support by one table claimed of another: what our table granted is not supported by twos 0 ──
 abbrev pub twos-left : ℕ → Register
 twos-left w = record { subjects = 5; marks = 0 ∷ 0 ∷ 0 ∷ 0 ∷ 0 ∷ []; retired = 0; delegations = entry 0 1 9 ∷ entry 0 4 1 ∷ entry 1 2 8 ∷ entry 2 3 w ∷ [] }
 

@@ -17,16 +17,15 @@ use Rattle.rules.specs.Support.{allowed}
 use Rattle.rules.specs.Round.{settle}
 use Rattle.rules.specs.Cut.{named, retirement, changed}
 use Rattle.rules.specs.Remainder.{Remainder, Best}
-use Rattle.rules.specs.Call.{Call, enrol, grant, revoke, askUse, askReach, setMarks, retire}
+use Rattle.rules.specs.Call.{enrol, grant, revoke, askUse, askReach, setMarks, retire}
 use Rattle.rules.specs.Refusal.{passed, held, refusalOf}
-use Rattle.rules.specs.CallStep.{Outcome, answered, refused, cut, accepted, callStep}
+use Rattle.rules.specs.CallStep.{refused, cut, accepted, callStep}
 use Rattle.rules.specs.Trace.{PlaceRight}
 use Rattle.rules.specs.History.{registerAt, CutsRight}
 use Rattle.rules.specs.Examples.{entry, leaving}
 use Rattle.rules.proofs.Table.{steps-rule}
 use Rattle.rules.proofs.Support.{carried-allowed}
-use Rattle.rules.proofs.Rounds.{settle-best}
-use Rattle.rules.proofs.Wrong.{Wrong, asDefined, not-right, holds, found}
+use Rattle.rules.proofs.Wrong.{Wrong, asDefined, on, told, not-right, holds, found, best-holds}
 
 -- ── the example's register, 1 with these marks, those of the number n retired ──
 abbrev five : ℕ → ℕ → List Delegation → Register
@@ -78,24 +77,18 @@ pub not-with-0-1 : Remainder steps (gone others) (gone (entry 0 1 5 ∷ kept)) �
 not-with-0-1 r = let (e, m, a) = r .within .held (entry 0 1 5) (List·Memᴰ·head refl) in found (entry 0 1 5) m a
 
 -- ── a remainder, but not the best ──
-best-holds : (F : Register) (d : Delegation) → d ∈ kept → Best steps (gone others) F → T (holds d (F .delegations))
+holds-kept : (F : Register) (d : Delegation) → d ∈ kept → Best steps (gone others) F → T (holds d (F .delegations))
 unfolding larger next step steps meets limitFrom goesOn chains reach allowed settle
-best-holds F d m b = let (e, i, a) = b .best (gone kept) (settle-best steps steps-rule (gone others) .remainder) .held d m in found d i a
+holds-kept F d m b = best-holds steps steps-rule (gone others) F d m b
 
 -- 2-4 is dropped, though 3-2 carries it at 0; all that stood on 1 is dropped
 pub not-without-2-4 : Best steps (gone others) (gone (entry 0 3 2 ∷ entry 3 2 1 ∷ [])) → ⊥
-not-without-2-4 b = best-holds (gone (entry 0 3 2 ∷ entry 3 2 1 ∷ [])) (entry 2 4 0) (List·Memᴰ·tail (List·Memᴰ·head refl)) b
+not-without-2-4 b = holds-kept (gone (entry 0 3 2 ∷ entry 3 2 1 ∷ [])) (entry 2 4 0) (List·Memᴰ·tail (List·Memᴰ·head refl)) b
 
 pub not-all-behind-1 : Best steps (gone others) (gone (entry 0 3 2 ∷ [])) → ⊥
-not-all-behind-1 b = best-holds (gone (entry 0 3 2 ∷ [])) (entry 3 2 1) (List·Memᴰ·tail (List·Memᴰ·tail (List·Memᴰ·head refl))) b
+not-all-behind-1 b = holds-kept (gone (entry 0 3 2 ∷ [])) (entry 3 2 1) (List·Memᴰ·tail (List·Memᴰ·tail (List·Memᴰ·head refl))) b
 
 -- ── wrong outcomes ──
-abbrev told : ℕ → ℕ → ℕ → Register → Outcome
-told a b c R = answered (pos a) (pos b) (pos c) R
-
-abbrev on : Register → Call → Outcome → Wrong
-on R c o = record { table = steps; register = R; call = c; outcome = o }
-
 abbrev now : Register
 now = gone kept
 

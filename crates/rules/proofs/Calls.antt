@@ -133,7 +133,7 @@ enrol-formed R m h l f = record {
   owner = List·getD-append (R .marks) (m ∷ []) 0 0 (omega (arith, f .marked, f .some)) ∙ f .owner;
   few = f .few;
   rising = f .rising;
-  each = λ d i. let k = f .each d i in record { giver = omega (arith, k .giver); receiver = omega (arith, k .receiver); differ = k .differ; notOwner = k .notOwner; weight = k .weight; need = k .need; bar = k .bar; disjoint = k .disjoint };
+  each = λ d i. let k = f .each d i in record { giver = omega (arith, k .giver); receiver = omega (arith, k .receiver); differ = k .differ; notOwner = k .notOwner; weight = k .weight; need = k .need; bar = k .bar; disjoint = k .disjoint; kind = k .kind };
   retired = λ s k. let (a, b, c) = f .retired s k in (omega arith, b, List·getD-append (R .marks) (m ∷ []) 0 s (omega (arith, f .marked)) ∙ c);
   apart = f .apart;
 }
@@ -204,6 +204,7 @@ accepted-formed t R (grant d) p f =
       need = nltb→le 65535 n (not-or-left (ltb 65535 n) (ltb 65535 b) masks);
       bar = nltb→le 65535 b (not-or-right (ltb 65535 n) (ltb 65535 b) masks);
       disjoint = eqb→eq (bitAnd n b) 0 (not-not (eqb (bitAnd n b) 0) (not-or-right (ltb 65535 n || ltb 65535 b) (not (eqb (bitAnd n b) 0)) (p 4)));
+      kind = nltb→le 1 (d .kind) (not-or-left (ltb 1 (d .kind)) (eqb (d .kind) 1 && eqb (d .weight) 0) (p 21));
     }
     (not-or-left (isRetired R g) (isRetired R r || false) (p 19), second-not (isRetired R g) (isRetired R r) (p 19))
     (p 11) (p 12) f

@@ -22,12 +22,14 @@ use Rattle.rules.proofs.Pairs.{pair-test, test-pair, pair-one, insert-m
 test-raises : (d e : Delegation) → T (isRaise d e) → Raises d e
 test-raises d e h =
     let terms = T-left (sameTerms d e) (ltb (e .weight) (d .weight)) h in
-    let first = T-left (isPair (d .giver) (d .receiver) e && eqb (e .need) (d .need)) (eqb (e .bar) (d .bar)) terms in
+    let marked = T-left (isPair (d .giver) (d .receiver) e && eqb (e .need) (d .need) && eqb (e .bar) (d .bar)) (eqb (e .kind) (d .kind)) terms in
+    let first = T-left (isPair (d .giver) (d .receiver) e && eqb (e .need) (d .need)) (eqb (e .bar) (d .bar)) marked in
     let (g, r) = test-pair (d .giver) (d .receiver) e (T-left (isPair (d .giver) (d .receiver) e) (eqb (e .need) (d .need)) first) in
     let n = eqb→eq (e .need) (d .need) (T-right (isPair (d .giver) (d .receiver) e) (eqb (e .need) (d .need)) first) in
-    let b = eqb→eq (e .bar) (d .bar) (T-right (isPair (d .giver) (d .receiver) e && eqb (e .need) (d .need)) (eqb (e .bar) (d .bar)) terms) in
+    let b = eqb→eq (e .bar) (d .bar) (T-right (isPair (d .giver) (d .receiver) e && eqb (e .need) (d .need)) (eqb (e .bar) (d .bar)) marked) in
+    let k = eqb→eq (e .kind) (d .kind) (T-right (isPair (d .giver) (d .receiver) e && eqb (e .need) (d .need) && eqb (e .bar) (d .bar)) (eqb (e .kind) (d .kind)) terms) in
     record {
-      same = λ j. record { giver = sym g j; receiver = sym r j; weight = d .weight; need = sym n j; bar = sym b j };
+      same = λ j. record { giver = sym g j; receiver = sym r j; weight = d .weight; need = sym n j; bar = sym b j; kind = sym k j };
       larger = ltb→lt (e .weight) (d .weight) (T-right (sameTerms d e) (ltb (e .weight) (d .weight)) h);
     }
 
@@ -35,9 +37,11 @@ pub raises-test : (d e : Delegation) → Raises d e → T (isRaise d e)
 raises-test d e h =
     let at : (f : Delegation → ℕ) → f (reweigh e (d .weight)) ≡ f d = λ f. ap f (sym (h .same)) in
     T-both (sameTerms d e) (ltb (e .weight) (d .weight))
+    (T-both (isPair (d .giver) (d .receiver) e && eqb (e .need) (d .need) && eqb (e .bar) (d .bar)) (eqb (e .kind) (d .kind))
     (T-both (isPair (d .giver) (d .receiver) e && eqb (e .need) (d .need)) (eqb (e .bar) (d .bar))
     (T-both (isPair (d .giver) (d .receiver) e) (eqb (e .need) (d .need)) (pair-test (d .giver) (d .receiver) e (at (λ x. x .giver), at (λ x. x .receiver))) (eq→eqb (at (λ x. x .need))))
     (eq→eqb (at (λ x. x .bar))))
+    (eq→eqb (at (λ x. x .kind))))
     (lt→ltb (e .weight) (d .weight) (h .larger))
 
 pub raised : (R : Register) (d : Delegation) → T (raises R d) → (e : Delegation) × (e ∈ R .delegations) × Raises d e

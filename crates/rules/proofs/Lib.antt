@@ -25,6 +25,7 @@ pub mod Bound
 pub mod Ranges
 pub mod Trace
 pub mod History
+pub mod Unnoticed
 pub mod Certificate
 pub mod Search
 pub mod Links
@@ -35,4 +36,5 @@ pub mod BadOutcomes
 pub mod BadGrants
 pub mod BadMarks
 pub mod BadRetirements
+pub mod BadKinds
 pub mod BadOrders

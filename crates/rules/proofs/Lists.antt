@@ -2,13 +2,13 @@
 use mathlib.Core.Path.{_≡_, refl, sym, ap, subst, _∙_}
 use mathlib.Core.Logic.{_≢_, _⊎_, inl, inr}
 use mathlib.Core.Bool.{Bool, true, false, not, _&&_, _||_}
-use mathlib.Core.List.{List, [], _∷_, map, List·Memᴰ·head, List·Memᴰ·tail, List·Memᴰ·not-nil, List·Memᴰ·append-cases, Memᴰ·append-left, Memᴰ·append-right}
+use mathlib.Core.List.{List, [], _∷_, _++_, map, map-append, List·Memᴰ·head, List·Memᴰ·tail, List·Memᴰ·not-nil, List·Memᴰ·append-cases, Memᴰ·append-left, Memᴰ·append-right}
 use Prim.Native.Nat.{ℕ, zero, suc, _+_, _≤_, _<_, suc-le-suc}
 use native.Mathlib.Nat.{le-trans, le-refl, add-zero, add-suc, suc-add, le-of-suc-le-suc, not-suc-le-zero}
 use native.Mathlib.Omega.{arith}
 use borrow.Author.Count.{below-more}
 use lib.Dec.{T, eqb, eqb→eq, eqb-refl, T-not}
-use lib.ListN.{length, getD, set}
+use lib.ListN.{length, getD, set, length-map}
 use lib.Seq.{getD-set-same, getD-set-other}
 use Rattle.rules.specs.List.{_∈_, keep, filter, any, tabulate, concatMap}
 
@@ -176,6 +176,44 @@ module _ {A B : Type 0} where
   map-mem f [] m = absurd (List·Memᴰ·not-nil m)
   map-mem f (x ∷ xs) (List·Memᴰ·head e) = (x, List·Memᴰ·head refl, e)
   map-mem f (x ∷ xs) (List·Memᴰ·tail m) = let r = map-mem f xs m in (r .0, List·Memᴰ·tail (r .1), r .2)
+
+  -- where each value of xs is one of ys, a list of elements of ys has the values of xs
+  pub map-onto : (f : A → B) (xs ys : List A) → ((x : A) → x ∈ xs → f x ∈ map f ys) → (zs : List A) × ((z : A) → z ∈ zs → z ∈ ys) × (map f xs ≡ map f zs)
+  map-onto f [] ys h = ([], λ z m. absurd (List·Memᴰ·not-nil m), refl)
+  map-onto f (x ∷ xs) ys h =
+      let (y, i, e) = map-mem f ys (h x (List·Memᴰ·head refl)) in
+      let (zs, at, es) = map-onto f xs ys (λ z m. h z (List·Memᴰ·tail m)) in
+      (y ∷ zs, among y zs i at, λ j. e j ∷ es j)
+    where
+      among : (y : A) (zs : List A) → y ∈ ys → ((z : A) → z ∈ zs → z ∈ ys) → (z : A) → z ∈ (y ∷ zs) → z ∈ ys
+      among y zs i at z (List·Memᴰ·head q) = subst (λ (u : A). u ∈ ys) (sym q) i
+      among y zs i at z (List·Memᴰ·tail m) = at z m
+
+  -- a test of the values of a function
+  keep-map : (f : A → B) (b : Bool) (x : A) (xs : List A) → keep b (f x) (map f xs) ≡ map f (keep b x xs)
+  keep-map f true x xs = refl
+  keep-map f false x xs = refl
+
+  pub filter-map : (p : B → Bool) (f : A → B) (xs : List A) → filter p (map f xs) ≡ map f (filter (λ x. p (f x)) xs)
+  filter-map p f [] = refl
+  filter-map p f (x ∷ xs) = ap (keep (p (f x)) (f x)) (filter-map p f xs) ∙ keep-map f (p (f x)) x (filter (λ y. p (f y)) xs)
+
+  pub any-map : (p : B → Bool) (f : A → B) (xs : List A) → any p (map f xs) ≡ any (λ x. p (f x)) xs
+  any-map p f [] = refl
+  any-map p f (x ∷ xs) = ap (λ (b : Bool). p (f x) || b) (any-map p f xs)
+
+  -- how many pass
+  pub count-map : (p : B → Bool) (f : A → B) (xs : List A) → length (filter p (map f xs)) ≡ length (filter (λ x. p (f x)) xs)
+  count-map p f xs = ap length (filter-map p f xs) ∙ length-map (filter (λ x. p (f x)) xs) f
+
+module _ {A B C : Type 0} where
+  pub concatMap-map : (g : B → List C) (f : A → B) (xs : List A) → concatMap g (map f xs) ≡ concatMap (λ x. g (f x)) xs
+  concatMap-map g f [] = refl
+  concatMap-map g f (x ∷ xs) = ap (λ (l : List C). g (f x) ++ l) (concatMap-map g f xs)
+
+  pub map-concatMap : (f : B → C) (g : A → List B) (xs : List A) → map f (concatMap g xs) ≡ concatMap (λ x. map f (g x)) xs
+  map-concatMap f g [] = refl
+  map-concatMap f g (x ∷ xs) = map-append f (g x) (concatMap g xs) ∙ ap (λ (l : List C). map f (g x) ++ l) (map-concatMap f g xs)
 
 -- ── equal or not, in a list or not ──
 -- an element of a list with one place set

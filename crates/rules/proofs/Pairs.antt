@@ -11,10 +11,10 @@ use lib.IntN.{pos}
 use Rattle.rules.specs.List.{_∈_, keep, filter}
 use Rattle.rules.specs.Limit.{code}
 use Rattle.rules.specs.Register.{Delegation, Register}
-use Rattle.rules.specs.Pair.{isPair, weightAt, stands}
+use Rattle.rules.specs.Pair.{isPair, weightAt, stands, opensTo, opens}
 use Rattle.rules.specs.WellFormed.{Before, Rising}
 use Rattle.rules.specs.CallStep.{before, insert}
-use Rattle.rules.proofs.Lists.{T-true, yes, T-left, T-right, T-both, T-or-left, T-or-right, either, eq→eqb, filter-mem, map-mem, not-or-left, not-or-right, test-ne}
+use Rattle.rules.proofs.Lists.{T-true, yes, T-left, T-right, T-both, T-or-left, T-or-right, either, eq→eqb, filter-mem, any-mem, mem-any, map-mem, not-or-left, not-or-right, test-ne}
 use Rattle.rules.proofs.WellFormed.{Before-trans, Before-pairs, Before-irrefl}
 
 -- ── what a pair's weight says ──
@@ -69,6 +69,15 @@ pub weight-one : {ds : List Delegation} → Rising ds → {d : Delegation} → d
 weight-one {ds} rising {d} m =
     let (e, n, p, q) = pair-found (d .giver) (d .receiver) ds (weight-stands (d .giver) (d .receiver) m (refl, refl)) in
     q ∙ ap (λ (x : Delegation). pos (x .weight)) (sym (pair-one rising m n (test-pair (d .giver) (d .receiver) e p)))
+
+-- some ordinary delegation to r stands exactly where the test says so
+pub opens-right : (r : ℕ) (ds : List Delegation) → let Open = (d : Delegation) × (d ∈ ds) × (d .receiver ≡ r) × (d .kind ≡ 0) in (T (opens r ds) → Open) × (Open → T (opens r ds))
+opens-right r ds = (found, λ (d, m, e, k). any-mem (opensTo r) m (T-both (eqb (d .receiver) r) (eqb (d .kind) 0) (eq→eqb e) (eq→eqb k)))
+  where
+    found : T (opens r ds) → (d : Delegation) × (d ∈ ds) × (d .receiver ≡ r) × (d .kind ≡ 0)
+    found h =
+        let (d, m, p) = mem-any (opensTo r) ds h in
+        (d, m, eqb→eq (d .receiver) r (T-left (eqb (d .receiver) r) (eqb (d .kind) 0) p), eqb→eq (d .kind) 0 (T-right (eqb (d .receiver) r) (eqb (d .kind) 0) p))
 
 -- ── a delegation is added ──
 pub before-Before : (d e : Delegation) → T (before d e) → Before d e

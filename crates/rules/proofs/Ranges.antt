@@ -15,7 +15,7 @@ use Rattle.rules.specs.Table.{TableRule}
 use Rattle.rules.specs.Register.{Delegation, Register}
 use Rattle.rules.specs.Chain.{limit, IsChain}
 use Rattle.rules.specs.Reach.{reach}
-use Rattle.rules.specs.Pair.{weightAt, stands, receives}
+use Rattle.rules.specs.Pair.{weightAt, stands, opens}
 use Rattle.rules.specs.Round.{total, settle, rounds}
 use Rattle.rules.specs.Cut.{cutting, marking, retirement, removal, lowering, named, changed, isDropped, isLowered, dropped, lowered}
 use Rattle.rules.specs.WellFormed.{WellFormed}
@@ -101,7 +101,7 @@ accepted-range t rule R (downgrade y g r w) p f =
     let l = rounds-below t rule R (lowering g r w) f (nleb→lt (code (weightAt (R .delegations) g r)) (suc w) (p 15)) in
     cut-range t (named R (lowering g r w)) 511 (changed-formed t R (downgrade y g r w) (cutting (lowering g r w)) refl p f) (omega arith)
 accepted-range t rule R (askReach g r) p f = let (a, b) = reach-range t rule R g r in (a, b, refl, refl)
-accepted-range t rule R (askUse r) p f = (use-range (eqb r 0 || receives r (R .delegations)), refl, refl)
+accepted-range t rule R (askUse r) p f = (use-range (eqb r 0 || opens r (R .delegations)), refl, refl)
 accepted-range t rule R (setMarks y s m) p f = any-range t rule (changed R (marking s m)) (changed-formed t R (setMarks y s m) (marking s m) refl p f)
 accepted-range t rule R (retire y s) p f = any-range t rule (changed R (retirement s)) (changed-formed t R (retire y s) (retirement s) refl p f)
 

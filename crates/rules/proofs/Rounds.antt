@@ -34,7 +34,7 @@ equal→eq (x ∷ xs) (y ∷ ys) h = λ i. eqb→eq x y (T-left (eqb x y) (equal
 
 -- a delegation from its fields
 abbrev made : List ℕ → Delegation
-made l = granted (getD l 0 0) (getD l 1 0) (getD l 2 0) (getD l 3 0) (getD l 4 0)
+made l = granted (getD l 0 0) (getD l 1 0) (getD l 2 0) (getD l 3 0) (getD l 4 0) (getD l 5 0)
 
 fields-refl : (d : Delegation) → T (equal (fields d) (fields d))
 fields-refl d = equal-refl (fields d)

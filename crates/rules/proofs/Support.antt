@@ -21,6 +21,7 @@ use Rattle.rules.specs.Reach.{reach}
 use Rattle.rules.specs.Support.{allowed, Carried, Supported}
 use Rattle.rules.specs.Remainder.{AtMost, Within}
 use Rattle.rules.specs.Refusal.{tooHeavy}
+use Rattle.rules.specs.Kinds.{ordinary}
 use Rattle.rules.proofs.Lists.{no, unset, either, any-mem, mem-any}
 use Rattle.rules.proofs.AtMost.{at-giver, at-receiver, at-meets}
 use Rattle.rules.proofs.Limits.{next-mono, next-top}
@@ -37,6 +38,16 @@ module _ (t : List ℤ) where
   pub allowed-reweigh : (R : Register) (d : Delegation) (w : ℕ) → allowed t R (reweigh d w) ≡ allowed t R d
   unfolding allowed
   allowed-reweigh R d w = refl
+
+  -- and whatever its kind
+  pub allowed-ordinary : (R : Register) (d : Delegation) → allowed t R (ordinary d) ≡ allowed t R d
+  unfolding allowed
+  allowed-ordinary R d = refl
+
+  -- of the register, its marks and its reaches decide it
+  pub allowed-by : (R S : Register) (d : Delegation) → R .marks ≡ S .marks → ((u v : ℕ) → reach t R u v ≡ reach t S u v) → allowed t R d ≡ allowed t S d
+  unfolding allowed
+  allowed-by R S d m e = e (d .giver) (d .receiver)
 
   pub carried-chain : (R : Register) (d : Delegation) → Carried t R d → (ds : List Delegation) × IsChain t R (d .giver) (d .receiver) ds × (pos (d .weight) ≼ limit t ds)
   unfolding Carried

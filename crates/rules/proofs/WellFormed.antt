@@ -56,7 +56,7 @@ delegations-formed R ds f few rising each = record {
 
 -- ── rounds keep a register well formed ──
 pub formed-reweigh : {n w : ℕ} {d : Delegation} → w ≤ 255 → DelegationFormed n d → DelegationFormed n (reweigh d w)
-formed-reweigh h f = record { giver = f .giver; receiver = f .receiver; differ = f .differ; notOwner = f .notOwner; weight = h; need = f .need; bar = f .bar; disjoint = f .disjoint }
+formed-reweigh h f = record { giver = f .giver; receiver = f .receiver; differ = f .differ; notOwner = f .notOwner; weight = h; need = f .need; bar = f .bar; disjoint = f .disjoint; kind = f .kind }
 
 formed-lighter : {n : ℕ} {d e : Delegation} → AtMost e d → DelegationFormed n d → DelegationFormed n e
 formed-lighter {n} a f = subst (λ (x : Delegation). DelegationFormed n x) (sym (a .same)) (formed-reweigh (le-trans (a .weight) (f .weight)) f)

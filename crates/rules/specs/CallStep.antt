@@ -1,4 +1,4 @@
--- What a call returns and leaves, on a register (document 01, 'Calls'; document 02, C-12, C-15 and C-16). Assumes nothing.
+-- What a call returns and leaves, on a register (document 01, 'Calls'; document 02, C-12, C-15, C-16 and C-18). Assumes nothing.
 use mathlib.Core.Bool.{Bool, true, false, cond, _&&_, _||_}
 use mathlib.Core.List.{List, [], _∷_}
 use Prim.Native.Nat.{ℕ}
@@ -7,7 +7,7 @@ use lib.ListN.{length}
 use lib.IntN.{ℤ, pos}
 use Rattle.rules.specs.Register.{Delegation, Register, withDelegations}
 use Rattle.rules.specs.Reach.{reach}
-use Rattle.rules.specs.Pair.{stands, reweighed, receives}
+use Rattle.rules.specs.Pair.{stands, reweighed, opens}
 use Rattle.rules.specs.Round.{settle, rounds}
 use Rattle.rules.specs.Cut.{removal, lowering, cutting, marking, retirement, changed, dropped, lowered}
 use Rattle.rules.specs.Call.{Call, enrol, grant, revoke, downgrade, askReach, askUse, setMarks, retire, enrolled}
@@ -56,7 +56,7 @@ accepted t R (grant d) =
 accepted t R (revoke y g r) = cut t (changed R (cutting (removal g r)))
 accepted t R (downgrade y g r w) = cut t (changed R (cutting (lowering g r w)))
 accepted t R (askReach g r) = answered (reach t R g r) (pos 0) (pos 0) R
-accepted t R (askUse r) = answered (pos (cond (eqb r 0 || receives r (R .delegations)) 1 0)) (pos 0) (pos 0) R
+accepted t R (askUse r) = answered (pos (cond (eqb r 0 || opens r (R .delegations)) 1 0)) (pos 0) (pos 0) R
 accepted t R (setMarks y s m) = cut t (changed R (marking s m))
 accepted t R (retire y s) = cut t (changed R (retirement s))
 

@@ -1,4 +1,4 @@
--- P1 to P8 of document 01 ('Register examples'), as lists of calls with what document 01 says comes out; those of document 02's C-12, C-15 and C-16; a list in which the step table changes from call to call; and an order of C-14. Assumes nothing.
+-- P1 to P8 of document 01 ('Register examples'), as lists of calls with what document 01 says comes out; those of document 02's C-12, C-15, C-16 and C-18; a list in which the step table changes from call to call; and an order of C-14. Assumes nothing.
 use mathlib.Core.Bool.{cond}
 use mathlib.Core.List.{List, [], _∷_, _++_, map}
 use Prim.Native.Nat.{ℕ, zero, suc}
@@ -62,13 +62,13 @@ said e = record { refusals = replicate (length (e .given)) 0; printed = e .print
 -- ── the examples ──
 
 abbrev pub plain : ℕ → ℕ → ℕ → Call
-plain g r w = grant (granted g r w 0 0)
+plain g r w = grant (granted g r w 0 0 0)
 
 abbrev pub entry : ℕ → ℕ → ℕ → Delegation
-entry g r w = granted g r w 0 0
+entry g r w = granted g r w 0 0 0
 
 abbrev pub needing : ℕ → ℕ → ℕ → ℕ → Delegation
-needing g r w n = granted g r w n 0
+needing g r w n = granted g r w n 0 0
 
 abbrev pub one : ℤ → Line
 one a = line 0 a (pos 0) (pos 0)
@@ -91,7 +91,7 @@ P2 = record {
 
 -- P3 where subject 4 has the marks m
 abbrev pub P3-given : ℕ → List Call
-P3-given m = enrol 0 ∷ enrol 0 ∷ enrol 1 ∷ enrol m ∷ grant (granted 0 1 6 1 0) ∷ plain 0 2 3 ∷ plain 1 3 5 ∷ plain 2 3 2 ∷ []
+P3-given m = enrol 0 ∷ enrol 0 ∷ enrol 1 ∷ enrol m ∷ grant (granted 0 1 6 1 0 0) ∷ plain 0 2 3 ∷ plain 1 3 5 ∷ plain 2 3 2 ∷ []
 
 abbrev pub P3-standing : List Delegation
 P3-standing = needing 0 1 6 1 ∷ entry 0 2 3 ∷ entry 1 3 5 ∷ entry 2 3 2 ∷ []
@@ -107,7 +107,7 @@ P4 = record { given = P3-given 0 ++ (enrol 1 ∷ plain 3 5 4 ∷ []); calls = as
 
 abbrev pub P5 : Example
 P5 = record {
-  given = enrol 0 ∷ enrol 0 ∷ enrol 1 ∷ enrol 1 ∷ enrol 0 ∷ grant (granted 0 1 6 1 0) ∷ plain 1 3 5 ∷ plain 0 2 7 ∷ plain 2 3 6 ∷ plain 3 5 5 ∷ plain 5 4 4 ∷ [];
+  given = enrol 0 ∷ enrol 0 ∷ enrol 1 ∷ enrol 1 ∷ enrol 0 ∷ grant (granted 0 1 6 1 0 0) ∷ plain 1 3 5 ∷ plain 0 2 7 ∷ plain 2 3 6 ∷ plain 3 5 5 ∷ plain 5 4 4 ∷ [];
   calls = downgrade 0 0 2 2 ∷ [];
   printed = line 0 (pos 1) (pos 2) (pos 3) ∷ [];
   standing = needing 0 1 6 1 ∷ entry 0 2 2 ∷ entry 1 3 5 ∷ entry 2 3 1 ∷ entry 3 5 0 ∷ [];
@@ -179,8 +179,30 @@ leaving-idle = record {
   standing = [];
 }
 
+-- document 02, C-18: a pass-only delegation
+abbrev pub passOnly : ℕ → ℕ → ℕ → Delegation
+passOnly g r w = granted g r w 0 0 1
+
+-- 1 passes on and does not use; the other kind gets 11, the same kind raises. Brought to 0 it stays, though nothing can stand on it, and is raised again
+abbrev pub passing : Example
+passing = record {
+  given = enrol 0 ∷ enrol 0 ∷ grant (passOnly 0 1 3) ∷ plain 1 2 2 ∷ [];
+  calls = askUse 1 ∷ askUse 2 ∷ askReach 1 2 ∷ plain 0 1 9 ∷ grant (passOnly 0 1 9) ∷ downgrade 0 0 1 0 ∷ askUse 1 ∷ plain 0 1 0 ∷ grant (passOnly 0 1 4) ∷ [];
+  printed = one (pos 0) ∷ one (pos 1) ∷ one (pos 2) ∷ turned 11 ∷ one (pos 2) ∷ line 0 (pos 1) (pos 0) (pos 2) ∷ one (pos 0) ∷ turned 11 ∷ one (pos 1) ∷ [];
+  standing = passOnly 0 1 4 ∷ [];
+}
+
+-- a round brings 1-2 to 0, and it stays; an ordinary delegation beside it is enough for use
+abbrev pub passing-lowered : Example
+passing-lowered = record {
+  given = enrol 0 ∷ enrol 0 ∷ plain 0 1 5 ∷ grant (passOnly 1 2 3) ∷ [];
+  calls = downgrade 0 0 1 1 ∷ askUse 2 ∷ plain 0 2 0 ∷ askUse 2 ∷ [];
+  printed = line 0 (pos 0) (pos 1) (pos 2) ∷ one (pos 0) ∷ one (pos 3) ∷ one (pos 1) ∷ [];
+  standing = entry 0 1 1 ∷ entry 0 2 0 ∷ passOnly 1 2 0 ∷ [];
+}
+
 abbrev pub examples : List Example
-examples = P1 ∷ P2 ∷ P3-with ∷ P3-without ∷ P4 ∷ P5 ∷ P6 ∷ P7 ∷ P8 ∷ raising ∷ lapse ∷ lapse-alone ∷ leaving ∷ leaving-idle ∷ []
+examples = P1 ∷ P2 ∷ P3-with ∷ P3-without ∷ P4 ∷ P5 ∷ P6 ∷ P7 ∷ P8 ∷ raising ∷ lapse ∷ lapse-alone ∷ leaving ∷ leaving-idle ∷ passing ∷ passing-lowered ∷ []
 
 -- ── several refusals at once: the first in the order of the call's lists is returned ──
 
@@ -189,21 +211,35 @@ abbrev pub orders : List (Call × ℕ)
 orders =
     (plain 100 100 256, 2)
     ∷ (plain 4 4 256, 3)
-    ∷ (grant (granted 0 0 5 0 65536), 4)
-    ∷ (grant (granted 0 0 5 3 1), 4)
+    ∷ (grant (granted 0 0 5 0 65536 0), 4)
+    ∷ (grant (granted 0 0 5 3 1 0), 4)
     ∷ (plain 0 0 5, 5)
     ∷ (plain 7 0 5, 6)
+    ∷ (grant (granted 4 4 256 0 0 2), 3)
+    ∷ (grant (granted 0 0 5 3 1 2), 4)
+    ∷ (grant (granted 0 0 5 0 0 2), 5)
+    ∷ (grant (granted 7 0 5 0 0 2), 6)
+    ∷ (grant (granted 0 7 5 0 0 2), 21)
+    ∷ (grant (granted 0 7 0 0 0 1), 21)
+    ∷ (grant (granted 0 7 5 0 0 1), 9)
     ∷ (plain 0 7 5, 9)
     ∷ (plain 0 1 9, 0)
     ∷ (plain 0 1 5, 11)
     ∷ (plain 0 1 4, 11)
-    ∷ (grant (granted 0 1 9 1 0), 11)
-    ∷ (grant (granted 0 1 9 0 1), 11)
+    ∷ (grant (granted 0 1 9 1 0 0), 11)
+    ∷ (grant (granted 0 1 9 0 1 0), 11)
+    ∷ (grant (granted 0 1 9 0 0 1), 11)
+    ∷ (grant (granted 0 1 0 0 0 1), 21)
+    ∷ (grant (granted 0 1 9 0 0 256), 21)
     ∷ (plain 1 3 5, 16)
     ∷ (plain 1 3 4, 11)
-    ∷ (grant (granted 1 3 5 1 0), 11)
+    ∷ (grant (granted 1 3 5 1 0 0), 11)
     ∷ (plain 4 1 2, 0)
     ∷ (plain 4 1 3, 16)
+    ∷ (grant (granted 4 1 2 0 0 1), 0)
+    ∷ (grant (granted 4 1 3 0 0 1), 16)
+    ∷ (grant (granted 4 1 0 0 0 1), 21)
+    ∷ (plain 4 1 0, 0)
     ∷ (revoke 64 3 3, 2)
     ∷ (revoke 7 2 0, 6)
     ∷ (revoke 7 0 1, 9)
@@ -212,6 +248,7 @@ orders =
     ∷ (downgrade 0 0 1 256, 3)
     ∷ (downgrade 1 0 1 5, 14)
     ∷ (downgrade 0 0 1 5, 15)
+    ∷ (downgrade 0 0 1 0, 0)
     ∷ (askReach 0 0, 5)
     ∷ (askReach 5 5, 5)
     ∷ (askReach 5 0, 6)

@@ -18,6 +18,7 @@ pub mod Call
 pub mod Refusal
 pub mod CallStep
 pub mod Granted
+pub mod Kinds
 pub mod Bound
 pub mod Ranges
 pub mod Trace

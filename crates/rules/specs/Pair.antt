@@ -1,5 +1,5 @@
--- What stands for a pair of giver and receiver (document 01, 'Subjects, marks, weights'; document 02, C-12): at most one delegation in a well-formed register. Assumes nothing.
-use mathlib.Core.Bool.{Bool, false, cond, _&&_, _||_}
+-- What stands for a pair of giver and receiver (document 01, 'Subjects, marks, weights'; document 02, C-12 and C-18): at most one delegation in a well-formed register. Assumes nothing.
+use mathlib.Core.Bool.{Bool, cond, _&&_}
 use mathlib.Core.List.{List, [], _∷_, map}
 use Prim.Native.Nat.{ℕ, zero}
 use lib.Dec.{eqb, ltb}
@@ -21,7 +21,7 @@ stands R g r = ltb zero (code (weightAt (R .delegations) g r))
 
 -- all but the weight is the same
 abbrev pub sameTerms : Delegation → Delegation → Bool
-sameTerms d e = isPair (d .giver) (d .receiver) e && eqb (e .need) (d .need) && eqb (e .bar) (d .bar)
+sameTerms d e = isPair (d .giver) (d .receiver) e && eqb (e .need) (d .need) && eqb (e .bar) (d .bar) && eqb (e .kind) (d .kind)
 
 -- d raises e: the same terms at a larger weight
 abbrev pub isRaise : Delegation → Delegation → Bool
@@ -39,7 +39,10 @@ setFor g r w d = cond (isPair g r d) (reweigh d w) d
 abbrev pub reweighed : Register → ℕ → ℕ → ℕ → Register
 reweighed R g r w = withDelegations R (map (setFor g r w) (R .delegations))
 
--- some delegation to r stands
-abbrev pub receives : ℕ → List Delegation → Bool
-receives r [] = false
-receives r (d ∷ ds) = eqb (d .receiver) r || receives r ds
+-- d is an ordinary delegation to r: it lets r use the right
+abbrev pub opensTo : ℕ → Delegation → Bool
+opensTo r d = eqb (d .receiver) r && eqb (d .kind) 0
+
+-- some ordinary delegation to r stands
+abbrev pub opens : ℕ → List Delegation → Bool
+opens r ds = any (opensTo r) ds

@@ -1,4 +1,4 @@
--- Refusals (document 01, 'Turned back by what was passed' and 'Turned back by what the register holds'; document 02, C-12 to C-17): each number with the test under which it applies, and for each call
+-- Refusals (document 01, 'Turned back by what was passed' and 'Turned back by what the register holds'; document 02, C-12 to C-18): each number with the test under which it applies, and for each call
 -- two ordered lists of them. The refusal is the first that applies of 1, `passed`, 8 and `held`; 1 and 8 speak of bytes and have no place in a register. Assumes nothing.
 use mathlib.Core.Bool.{Bool, cond, not, _&&_, _||_}
 use mathlib.Core.List.{List, [], _∷_, _++_}
@@ -44,6 +44,10 @@ equalPair g r = (5, eqb g r)
 -- 6: the receiver, or the subject whose marks are set or who is retired, is the owner
 abbrev pub toOwner : ℕ → ℕ × Bool
 toOwner r = (6, eqb r 0)
+
+-- 21: a kind above 1, or pass-only of weight 0
+abbrev pub noKind : ℕ → ℕ → ℕ × Bool
+noKind w k = (21, ltb 1 k || (eqb k 1 && eqb w 0))
 
 -- ── by what the register holds ──
 
@@ -103,7 +107,7 @@ unsupported t R = (18, tooHeavy t R (R .delegations))
 unfoldable pub passed : Call → List (ℕ × Bool)
 passed (enrol m) = noMarks m ∷ []
 passed (grant d) =
-    noSubject (d .giver ∷ d .receiver ∷ []) ∷ noWeight (d .weight) ∷ noCondition (d .need) (d .bar) ∷ equalPair (d .giver) (d .receiver) ∷ toOwner (d .receiver) ∷ []
+    noSubject (d .giver ∷ d .receiver ∷ []) ∷ noWeight (d .weight) ∷ noCondition (d .need) (d .bar) ∷ equalPair (d .giver) (d .receiver) ∷ toOwner (d .receiver) ∷ noKind (d .weight) (d .kind) ∷ []
 passed (revoke y g r) = noSubject (y ∷ g ∷ r ∷ []) ∷ equalPair g r ∷ toOwner r ∷ []
 passed (downgrade y g r w) = noSubject (y ∷ g ∷ r ∷ []) ∷ noWeight w ∷ equalPair g r ∷ toOwner r ∷ []
 passed (askReach g r) = noSubject (g ∷ r ∷ []) ∷ equalPair g r ∷ toOwner r ∷ []

@@ -1,4 +1,4 @@
--- Remainders, and the best one (document 01, 'Calls'; both are its terms; document 02, C-15 and C-16). C is the register after the change that rounds follow: competitors have its marks and its retired subjects. Assumes nothing.
+-- Remainders, and the best one (document 01, 'Calls'; both are its terms; document 02, C-15, C-16 and C-18). C is the register after the change that rounds follow: competitors have its marks and its retired subjects. Assumes nothing.
 use mathlib.Core.Path.{_≡_}
 use mathlib.Core.List.{List}
 use Prim.Native.Nat.{_≤_}
@@ -7,12 +7,12 @@ use Rattle.rules.specs.List.{_∈_}
 use Rattle.rules.specs.Register.{Delegation, Register, reweigh}
 use Rattle.rules.specs.Support.{Carried}
 
--- d is e but for the weight, which is at most as there
+-- d is e, of the same kind, but for the weight, which is at most as there
 pub record AtMost (d e : Delegation) : Type 0 where
   pub same : d ≡ reweigh e (d .weight)
   pub weight : d .weight ≤ e .weight
 
--- G holds each delegation of F, at least as heavy: from G to F nothing is added, no condition changes and nothing is lifted
+-- G holds each delegation of F, at least as heavy: from G to F nothing is added, no condition and no kind changes, and nothing is lifted
 abbrev pub LiftsNothing : Register → Register → Type 0
 LiftsNothing G F = (d : Delegation) → d ∈ F .delegations → (e : Delegation) × (e ∈ G .delegations) × AtMost d e
 

@@ -1,4 +1,4 @@
--- Well-formed registers: those that a block can hold (document 01, 'The block'; document 02, C-16). Assumes nothing.
+-- Well-formed registers: those that a block can hold (document 01, 'The block'; document 02, C-16 and C-18). Assumes nothing.
 use mathlib.Core.Path.{_≡_}
 use mathlib.Core.Logic.{_≢_, _⊎_}
 use mathlib.Core.Bool.{not}
@@ -29,6 +29,7 @@ pub record DelegationFormed (n : ℕ) (d : Delegation) : Type 0 where
   pub need : d .need ≤ 65535
   pub bar : d .bar ≤ 65535
   pub disjoint : bitAnd (d .need) (d .bar) ≡ 0
+  pub kind : d .kind ≤ 1
 
 -- a retired subject is enrolled, is not the owner and has no marks; no delegation is to or from it
 abbrev pub RetiredFormed : Register → ℕ → Type 0

@@ -3,6 +3,7 @@ ghost use lib.ListN.{length};
 ghost use Rattle.rules.specs.Table.{next, steps};
 ghost use Rattle.rules.specs.Condition.{meets};
 
+pub mod kind;
 pub mod most;
 pub mod refusal;
 

@@ -11,6 +11,8 @@ pub const EQUAL_PAIR: u32 = 5;
 
 pub const TO_OWNER: u32 = 6;
 
+pub const NO_KIND: u32 = 21;
+
 pub const MALFORMED: u32 = 7;
 
 pub const BAD_TABLE: u32 = 17;

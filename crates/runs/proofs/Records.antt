@@ -11,7 +11,7 @@ use Rattle.rules.specs.List.{_∈_}
 use Rattle.rules.specs.Register.{Delegation, noDelegation}
 use Rattle.rules.specs.WellFormed.{Before, Rising}
 use Rattle.rules.proofs.Lists.{getD-tabulate}
-use Rattle.block.specs.Layout.{recordSize, giverByte, receiverByte, weightByte, needByte, barByte}
+use Rattle.block.specs.Layout.{recordSize, giverByte, receiverByte, weightByte, kindByte, needByte, barByte}
 use Rattle.block.specs.Block.{delegationIn}
 use Rattle.block.proofs.Bytes.{length-tabulate, tabulate-mem, getD-mem, mem-tabulate}
 use Rattle.runs.specs.Lent.{recordAt, delegationsOf}
@@ -24,6 +24,7 @@ delegation-same r s h = λ q. record {
   weight = h weightByte (omega arith) q;
   need = h needByte (omega arith) q + h (needByte + 1) (omega arith) q * 256;
   bar = h barByte (omega arith) q + h (barByte + 1) (omega arith) q * 256;
+  kind = h kindByte (omega arith) q;
 }
 
 -- the giver is the first byte, the receiver the one after it

@@ -44,7 +44,7 @@ pub extern "C" fn seatreg_enrol(block: &mut [u8], marks: u32, answers: &mut [u8]
     answers::hand_out(o, answers)
 }
 
-// Adds a delegation; answers the delegations now standing.
+// Adds an ordinary delegation; answers the delegations now standing.
 #[no_mangle]
 pub extern "C" fn seatreg_grant(
     block: &mut [u8],
@@ -55,7 +55,7 @@ pub extern "C" fn seatreg_grant(
     bar: u32,
     answers: &mut [u8],
 ) -> u32
-    ensures { λ r. ⌜ EntryMade ours (grant (granted giver receiver weight need bar)) (now (block .entry)) (now (answers .entry)) r (now (block .exit)) (now (answers .exit)) ⌝ }
+    ensures { λ r. ⌜ EntryMade ours (grant (granted giver receiver weight need bar 0)) (now (block .entry)) (now (answers .entry)) r (now (block .exit)) (now (answers .exit)) ⌝ }
 {
     if answers.len() != answers::ANSWERS_SIZE {
         return refusal::WRONG_LENGTH;
@@ -137,12 +137,34 @@ pub extern "C" fn seatreg_grant_table(
     table: &[u8],
     answers: &mut [u8],
 ) -> u32
-    ensures { λ r. ⌜ EntryMade (given (now (table .entry))) (grant (granted giver receiver weight need bar)) (now (block .entry)) (now (answers .entry)) r (now (block .exit)) (now (answers .exit)) ⌝ }
+    ensures { λ r. ⌜ EntryMade (given (now (table .entry))) (grant (granted giver receiver weight need bar 0)) (now (block .entry)) (now (answers .entry)) r (now (block .exit)) (now (answers .exit)) ⌝ }
 {
     if answers.len() != answers::ANSWERS_SIZE {
         return refusal::WRONG_LENGTH;
     }
     let o = register::grant_table(block, giver, receiver, weight, need, bar, table);
+    answers::hand_out(o, answers)
+}
+
+// Adds a delegation of a kind, by such a table.
+#[no_mangle]
+pub extern "C" fn seatreg_grant_kind(
+    block: &mut [u8],
+    giver: u32,
+    receiver: u32,
+    weight: u32,
+    need: u32,
+    bar: u32,
+    kind: u32,
+    table: &[u8],
+    answers: &mut [u8],
+) -> u32
+    ensures { λ r. ⌜ EntryMade (given (now (table .entry))) (grant (granted giver receiver weight need bar kind)) (now (block .entry)) (now (answers .entry)) r (now (block .exit)) (now (answers .exit)) ⌝ }
+{
+    if answers.len() != answers::ANSWERS_SIZE {
+        return refusal::WRONG_LENGTH;
+    }
+    let o = register::grant_kind(block, giver, receiver, weight, need, bar, kind, table);
     answers::hand_out(o, answers)
 }
 

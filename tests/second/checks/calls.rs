@@ -173,9 +173,9 @@ fn any_input_is_answered() {
                 block[place] = random.next() as u8;
             }
         }
-        let numbers = [(); 6].map(|_| any_number(&mut random));
-        let [by, giver, receiver, weight, need, bar] = numbers;
-        let n = Passed { call: random.pick(&ALL_CALLS), by, giver, receiver, weight, need, bar };
+        let numbers = [(); 7].map(|_| any_number(&mut random));
+        let [by, giver, receiver, weight, need, bar, kind] = numbers;
+        let n = Passed { call: random.pick(&ALL_CALLS), by, giver, receiver, weight, need, bar, kind };
         let text = any_text(&mut random, &refused);
         let outcome = checked(&FAST, &n, &text, &mut block).unwrap();
         assert!(length == BLOCK_LEN || outcome.refusal == 1);

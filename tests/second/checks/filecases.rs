@@ -3,58 +3,38 @@
 
 use crate::faults::{TEXT_LEFT_OUT, VISITED_ONCE};
 use crate::generated::is_small;
+use crate::lentcases::{compared, keep_the_form, read_back};
 use crate::pairs::Realised;
 use crate::relaxed::RELAXED;
 use generate::registerfiles::BUFFERS;
-use generate::{file_files, limits, registerfiles};
+use generate::{limits, registerfiles};
 use second::block::{decode, encode, well_formed, Register, BLOCK_LEN};
-use second::callfile::{lines, used_columns, values_of, MOST_INPUT};
-use second::casefile::MOST_BYTES;
-use second::engine::{Engine, FAST, LITERAL};
-use second::filecase::{case_line, expected_text, read_case, Asked, Bytes, FileCase, MOST_FILE};
+use second::callfile::lines;
+use second::engine::{FAST, LITERAL};
+use second::lentcase::{Asked, Bytes, LentCase};
 use second::refusal::{takes_table, Call};
 use second::regfile::{applying_to_read, applying_to_write, file_text, read, write, Rows};
 use second::table::Table;
 use std::collections::BTreeSet;
 use std::sync::OnceLock;
 
-fn cases() -> &'static [FileCase] {
-    static CASES: OnceLock<Vec<FileCase>> = OnceLock::new();
+pub fn cases() -> &'static [LentCase] {
+    static CASES: OnceLock<Vec<LentCase>> = OnceLock::new();
     CASES.get_or_init(registerfiles::cases)
 }
 
 #[test]
 fn files_are_small_and_read_back() {
-    let (cases, mut lines, mut bytes) = (cases(), 0, 0);
-    for file in file_files(cases) {
-        assert!(file.cases.len() <= MOST_INPUT && file.expected.len() <= MOST_INPUT);
-        assert_eq!(expected_text(&FAST, file.cases.as_bytes()), Ok(file.expected.clone()));
-        assert!(file.cases.lines().next().is_some_and(|line| !line.contains('=')));
-        lines += file.cases.lines().count();
-        bytes += file.cases.len() + file.expected.len();
-    }
-    assert_eq!(lines, cases.len());
+    let bytes = read_back(cases());
     assert!(bytes < 1_000_000, "{bytes}");
 }
 
-/// Columns that a call does not use are 0, a call that takes no table has an empty
-/// one, and lengths are within those of the program.
+/// A call that takes no table has an empty one.
 #[test]
 fn lines_keep_the_form() {
-    for case in cases() {
-        let on = &case.on;
-        assert!(on.file.len() <= MOST_FILE && on.table.len() <= MOST_BYTES && on.block.len() <= MOST_BYTES);
-        if let Asked::Call(n) = case.asked {
-            let used = used_columns(n.call);
-            assert!(values_of(&n)[1..].iter().zip(used).all(|(&value, used)| used || value == 0));
-            assert!(takes_table(n.call) || on.table.is_empty());
-        }
-        for before in [None, Some(on)] {
-            let line = case_line(case, before);
-            assert_eq!(line.contains('='), before.is_some());
-            assert_eq!(read_case(line.trim_end().as_bytes(), on).as_ref(), Some(case));
-        }
-    }
+    keep_the_form(cases());
+    let takes_none = |case: &&LentCase| case.passed().is_some_and(|n| !takes_table(n.call));
+    assert!(cases().iter().filter(takes_none).all(|case| case.on.table.is_empty()));
 }
 
 fn reads() -> impl Iterator<Item = &'static Bytes> {
@@ -70,9 +50,9 @@ fn refusals_apply_at_once() {
         let returned = case.made(&FAST).0.refusal;
         let on = &case.on;
         let (realised, numbers) = match case.asked {
-            Asked::Read => (&mut reading, applying_to_read(&FAST, &on.block, &on.file, &on.table)),
+            Asked::Read => (&mut reading, applying_to_read(&FAST, &on.block, &on.lent, &on.table)),
             Asked::Write(buffer) => (&mut writing, applying_to_write(&on.block, buffer as usize)),
-            Asked::Call(_) => continue,
+            _ => continue,
         };
         assert_eq!(returned, numbers.first().copied().unwrap_or(0));
         realised.add(&numbers, returned);
@@ -89,7 +69,7 @@ fn refusals_apply_at_once() {
 #[test]
 fn lengths_are_covered() {
     let (mut lengths, mut buffers) = (BTreeSet::new(), BTreeSet::new());
-    for FileCase { asked, on } in cases() {
+    for LentCase { asked, on } in cases() {
         lengths.insert((*asked == Asked::Read, on.block.len()));
         if let Asked::Write(buffer) = asked {
             buffers.insert((*buffer, well_formed(&on.block)));
@@ -101,34 +81,23 @@ fn lengths_are_covered() {
     }
 }
 
-/// How many cases were run with an engine too, and how many had another result.
-fn compared(engine: &Engine, of: fn(&Bytes) -> bool) -> (u32, u32) {
-    let (mut all, mut differing) = (0, 0);
-    let is_chain = |case: &FileCase| matches!(case.asked, Asked::Call(n) if n.call == Call::Chain);
-    for case in cases().iter().filter(|case| !is_chain(case) && of(&case.on)) {
-        all += 1;
-        differing += (case.made(&FAST) != case.made(engine)) as u32;
-    }
-    (all, differing)
-}
-
 fn both_small(on: &Bytes) -> bool {
-    is_small(&on.block) && Rows::read(&on.file).is_none_or(|rows| rows.delegations.len() <= 16)
+    is_small(&on.block) && Rows::read(&on.lent).is_none_or(|rows| rows.delegations.len() <= 16)
 }
 
 /// Small registers are run with the literal search, all with the relaxed one.
 #[test]
 fn expected_lines_follow_from_the_definition() {
-    let (small, differing) = compared(&LITERAL, both_small);
+    let (small, differing) = compared(cases(), &LITERAL, both_small);
     assert!(small > 1000 && differing == 0, "{small}");
-    assert_eq!(compared(&RELAXED, |_| true).1, 0);
-    assert!(compared(&VISITED_ONCE, both_small).1 > 2);
-    assert!(compared(&TEXT_LEFT_OUT, |_| true).1 > 10);
+    assert_eq!(compared(cases(), &RELAXED, |_| true).1, 0);
+    assert!(compared(cases(), &VISITED_ONCE, both_small).1 > 2);
+    assert!(compared(cases(), &TEXT_LEFT_OUT, |_| true).1 > 10);
 }
 
 /// Cases that are made on what the one before left, from open on.
-fn sequences() -> Vec<Vec<FileCase>> {
-    let mut sequences: Vec<Vec<FileCase>> = Vec::new();
+fn sequences() -> Vec<Vec<LentCase>> {
+    let mut sequences: Vec<Vec<LentCase>> = Vec::new();
     let mut left = Bytes::default();
     for case in cases() {
         let opens = matches!(case.asked, Asked::Call(n) if n.call == Call::Open);
@@ -151,7 +120,7 @@ fn reads_stand_among_other_calls() {
     let (mut accepted, mut refused, mut after) = (0, 0, 0);
     for sequence in &sequences {
         for two in sequence.windows(2) {
-            let made = |case: &FileCase| case.made(&FAST).0.refusal == 0;
+            let made = |case: &LentCase| case.made(&FAST).0.refusal == 0;
             let is_read = two[0].asked == Asked::Read;
             accepted += (is_read && made(&two[0])) as u32;
             refused += (is_read && !made(&two[0])) as u32;
@@ -191,20 +160,20 @@ fn right(block: &[u8], file: &[u8], table: &[u8]) -> Left {
 
 /// The right program, on a file whose numbers were changed.
 fn on_rows(on: &Bytes, change: fn(&mut Rows)) -> Left {
-    let Some(mut rows) = Rows::read(&on.file) else { return right(&on.block, &on.file, &on.table) };
+    let Some(mut rows) = Rows::read(&on.lent) else { return right(&on.block, &on.lent, &on.table) };
     change(&mut rows);
     right(&on.block, &rows.text(), &on.table)
 }
 
 /// The right program, on a file each of whose lines was changed.
 fn on_lines(on: &Bytes, change: fn(&[u8]) -> Vec<u8>) -> Left {
-    let file: Vec<u8> = lines(&on.file).flat_map(change).collect();
+    let file: Vec<u8> = lines(&on.lent).flat_map(change).collect();
     right(&on.block, &file, &on.table)
 }
 
 /// The right program, but another number in the place of one that it returns.
 fn instead(on: &Bytes, returned: u32, other: fn(&Bytes) -> u32) -> Left {
-    let left = right(&on.block, &on.file, &on.table);
+    let left = right(&on.block, &on.lent, &on.table);
     if left.0 == returned { (other(on), left.1) } else { left }
 }
 
@@ -238,18 +207,18 @@ fn formed_fronts(file: &[u8]) -> impl Iterator<Item = &[u8]> {
 /// 8 if what is before a malformed line is no register's.
 fn unformed_before(on: &Bytes) -> u32 {
     let unformed = |front| Rows::read(front).is_some_and(|rows| rows.register().is_none());
-    if formed_fronts(&on.file).any(unformed) { 8 } else { 7 }
+    if formed_fronts(&on.lent).any(unformed) { 8 } else { 7 }
 }
 
 /// The last refusal that applies.
 fn last_applying(on: &Bytes) -> u32 {
-    applying_to_read(&FAST, &on.block, &on.file, &on.table).last().copied().unwrap_or(0)
+    applying_to_read(&FAST, &on.block, &on.lent, &on.table).last().copied().unwrap_or(0)
 }
 
 /// What a refused read leaves where it was the register that was refused.
 fn left_half(on: &Bytes) -> Left {
-    let left = right(&on.block, &on.file, &on.table);
-    let read = Rows::read(&on.file).and_then(|rows| rows.register());
+    let left = right(&on.block, &on.lent, &on.table);
+    let read = Rows::read(&on.lent).and_then(|rows| rows.register());
     match read.filter(|_| left.0 == 18) {
         Some(register) => (18, encode(&register)),
         None => left,
@@ -258,14 +227,14 @@ fn left_half(on: &Bytes) -> Left {
 
 /// Only bytes that are not zero are put into the block.
 fn zeros_left_out(on: &Bytes) -> Left {
-    let (number, left) = right(&on.block, &on.file, &on.table);
+    let (number, left) = right(&on.block, &on.lent, &on.table);
     let bytes = left.iter().zip(&on.block).map(|(&after, &before)| if after == 0 { before } else { after });
     (number, bytes.collect())
 }
 
 /// The right program, on a file whose subjects' numbers were changed.
 fn of_retired(on: &Bytes, change: fn(&mut [u32; 3])) -> Left {
-    let Some(mut rows) = Rows::read(&on.file) else { return right(&on.block, &on.file, &on.table) };
+    let Some(mut rows) = Rows::read(&on.lent) else { return right(&on.block, &on.lent, &on.table) };
     rows.subjects.iter_mut().for_each(change);
     right(&on.block, &rows.text(), &on.table)
 }
@@ -287,14 +256,14 @@ type Wrong = (&'static str, fn(&Bytes) -> Left);
 const WRONG_READERS: [Wrong; 42] = [
     ("an empty file is a fresh register", |on| {
         let fresh = file_text(&Register::fresh());
-        right(&on.block, if on.file.is_empty() { &fresh } else { &on.file }, &on.table)
+        right(&on.block, if on.lent.is_empty() { &fresh } else { &on.lent }, &on.table)
     }),
-    ("the last byte 10 may be missing", |on| match on.file.last() {
-        Some(b'\n') | None => right(&on.block, &on.file, &on.table),
-        _ => right(&on.block, &[&on.file[..], b"\n"].concat(), &on.table),
+    ("the last byte 10 may be missing", |on| match on.lent.last() {
+        Some(b'\n') | None => right(&on.block, &on.lent, &on.table),
+        _ => right(&on.block, &[&on.lent[..], b"\n"].concat(), &on.table),
     }),
     ("what follows is left out", |on| {
-        right(&on.block, formed_fronts(&on.file).next().unwrap_or(&on.file), &on.table)
+        right(&on.block, formed_fronts(&on.lent).next().unwrap_or(&on.lent), &on.table)
     }),
     ("leading zeros are left out", |on| on_lines(on, without_leading_zeros)),
     ("several spaces are one", |on| on_lines(on, with_single_spaces)),
@@ -321,7 +290,7 @@ const WRONG_READERS: [Wrong; 42] = [
     }),
     ("weights keep 8 bits", |on| on_rows(on, |rows| rows.delegations.iter_mut().for_each(|row| row[2] &= 0xFF))),
     ("need and bar keep 16 bits", |on| {
-        on_rows(on, |rows| rows.delegations.iter_mut().for_each(|row| row[3..].iter_mut().for_each(|n| *n &= 0xFFFF)))
+        on_rows(on, |rows| rows.delegations.iter_mut().for_each(|row| row[3..5].iter_mut().for_each(|n| *n &= 0xFFFF)))
     }),
     ("a shared mark is taken from bar", |on| {
         on_rows(on, |rows| rows.delegations.iter_mut().for_each(|row| row[4] &= !row[3]))
@@ -332,17 +301,17 @@ const WRONG_READERS: [Wrong; 42] = [
     ("8 before 17", |on| instead(on, 17, last_applying)),
     ("8 for what the block held", |on| {
         let spoiled = on.block.len() == BLOCK_LEN && !well_formed(&on.block);
-        if spoiled { (8, on.block.clone()) } else { right(&on.block, &on.file, &on.table) }
+        if spoiled { (8, on.block.clone()) } else { right(&on.block, &on.lent, &on.table) }
     }),
     ("18 by our table", |on| {
         let judged = if Table::read(&on.table).is_ok() { &b""[..] } else { &on.table };
-        right(&on.block, &on.file, judged)
+        right(&on.block, &on.lent, judged)
     }),
     ("a refused register is left in the block", left_half),
     ("zeros are not put into the block", zeros_left_out),
-    ("the column may be missing", |on| match Rows::read(&on.file) {
-        None => right(&on.block, &with_zeros(&on.file), &on.table),
-        Some(_) => right(&on.block, &on.file, &on.table),
+    ("the column may be missing", |on| match Rows::read(&on.lent) {
+        None => right(&on.block, &with_zeros(&on.lent), &on.table),
+        Some(_) => right(&on.block, &on.lent, &on.table),
     }),
     ("retired keeps one bit", |on| of_retired(on, |row| row[2] &= 1)),
     ("retired keeps 8 bits", |on| of_retired(on, |row| row[2] &= 0xFF)),
@@ -362,14 +331,14 @@ const WRONG_READERS: [Wrong; 42] = [
     }),
     ("7 for another number than 0 and 1", |on| {
         let above = |rows: Rows| rows.subjects.iter().any(|row| row[2] > 1);
-        instead(on, 8, if Rows::read(&on.file).is_some_and(above) { |_| 7 } else { |_| 8 })
+        instead(on, 8, if Rows::read(&on.lent).is_some_and(above) { |_| 7 } else { |_| 8 })
     }),
 ];
 
 #[test]
 fn wrong_readers_are_noticed() {
     for (shows, wrong) in WRONG_READERS {
-        let differing = reads().filter(|on| wrong(on) != right(&on.block, &on.file, &on.table)).count();
+        let differing = reads().filter(|on| wrong(on) != right(&on.block, &on.lent, &on.table)).count();
         assert!(differing > 0, "{shows}");
     }
 }
@@ -378,7 +347,7 @@ fn wrong_readers_are_noticed() {
 #[test]
 fn wrong_support_is_noticed() {
     let (mut refused, mut accepted) = (0, 0);
-    for (number, block) in reads().map(|on| right(&on.block, &on.file, &on.table)) {
+    for (number, block) in reads().map(|on| right(&on.block, &on.lent, &on.table)) {
         refused += (number == 18) as u32;
         let with_delegations = |register: Register| !register.delegations.is_empty();
         accepted += (number == 0 && decode(&block).is_some_and(with_delegations)) as u32;
@@ -392,7 +361,7 @@ fn wrong_support_is_noticed() {
 #[test]
 fn wrong_writers_are_noticed() {
     let mut noticed = [0; 5];
-    for FileCase { asked, on } in cases() {
+    for LentCase { asked, on } in cases() {
         let Asked::Write(buffer) = *asked else { continue };
         let mut space = vec![0; buffer as usize];
         let written = write(&on.block, &mut space);

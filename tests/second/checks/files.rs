@@ -3,9 +3,10 @@
 use super::{lent, ours, same, Draw};
 use crate::faults::{TEXT_LEFT_OUT, VISITED_ONCE};
 use generate::filetexts::{
-    example, longest, longest_supported, malformed, numbers, unformed, unformed_and_malformed, with_column,
-    retired, with_delegations, with_line, with_subjects, wrapped, DELEGATION, LAST, LAST_SUBJECT, OWNER, SUBJECT,
+    example, longest, longest_supported, malformed, numbers, passes, retired, unformed, unformed_and_malformed,
+    with_column, with_delegations, with_line, with_subjects, wrapped, DELEGATION, LAST, LAST_SUBJECT, OWNER, SUBJECT,
 };
+use generate::drawnpasses::with_drawn_kinds;
 use generate::registerfiles::{changed, registers_of_other_kinds, small};
 use generate::{broken, full, listfiles, retireregisters, texts, unsupported};
 use second::block::{decode, encode, well_formed, Delegation, Register, BLOCK_LEN};
@@ -49,7 +50,7 @@ fn written(block: &[u8]) -> Vec<u8> {
 }
 
 const EXAMPLE: &[u8] =
-    b"subject marks retired\n0 0 0\n1 4 0\n2 4 0\n\ngiver receiver weight need bar\n0 1 9 4 0\n1 2 8 0 0\n";
+    b"subject marks retired\n0 0 0\n1 4 0\n2 4 0\n\ngiver receiver weight need bar pass\n0 1 9 4 0 0\n1 2 8 0 0 0\n";
 
 /// Without the mark, subject 2 doesn't meet 0-1, so that 1-2 has no chain.
 #[test]
@@ -60,37 +61,38 @@ fn the_example_is_read() {
         assert_eq!(read_by(engine, &with_line(EXAMPLE, LAST_SUBJECT, b"2 0 0\n"), b""), Err(18));
     }
     assert_eq!(refusal(&with_line(EXAMPLE, LAST_SUBJECT, b"3 4 0\n")), 8);
-    assert_eq!(refusal(&with_line(EXAMPLE, LAST, b"1 2 08 0 0\n")), 7);
+    assert_eq!(refusal(&with_line(EXAMPLE, LAST, b"1 2 08 0 0 0\n")), 7);
     let none = with_line(&with_line(EXAMPLE, LAST, b""), DELEGATION, b"");
     assert_eq!(read_by(&FAST, &none, b""), Ok(Register { delegations: vec![], ..example() }));
 }
 
 #[test]
-fn a_fresh_register_has_60_bytes() {
-    let text = b"subject marks retired\n0 0 0\n\ngiver receiver weight need bar\n";
-    assert_eq!(text.len(), 60);
+fn a_fresh_register_has_65_bytes() {
+    let text = b"subject marks retired\n0 0 0\n\ngiver receiver weight need bar pass\n";
+    assert_eq!(text.len(), 65);
     assert_eq!(written(&encode(&Register::fresh())), text);
     assert_eq!(read_by(&FAST, text, b""), Ok(Register::fresh()));
 }
 
-/// 6,376 bytes; where all is supported the owner gives, which takes a digit less.
+/// 6,893 bytes; where all is supported the owner gives, which takes a digit less.
 #[test]
-fn the_longest_file_has_6376_bytes() {
-    assert_eq!((file_text(&longest()).len(), file_text(&longest_supported()).len()), (6376, 6375));
+fn the_longest_file_has_6893_bytes() {
+    assert_eq!((file_text(&longest()).len(), file_text(&longest_supported()).len()), (6893, 6892));
     assert_eq!(refusal(&file_text(&longest())), 18);
     assert_eq!(read_by(&FAST, &file_text(&longest_supported()), b""), Ok(longest_supported()));
     let mut random = Random::new(0x10E6);
-    assert!((0..2000).all(|_| file_text(&any_register(&mut random)).len() < 6376));
+    assert!((0..2000).all(|_| file_text(&any_register(&mut random)).len() < 6893));
 }
 
-/// A small register; in some a subject has retired.
+/// A small register of any kinds; in some a subject has retired.
 fn any_small(random: &mut Random) -> Register {
     let register = small(random);
     some_gone(random, register)
 }
 
-/// The register, in one of three without a subject.
+/// The register with drawn kinds, in one of three without a subject.
 fn some_gone(random: &mut Random, register: Register) -> Register {
+    let register = with_drawn_kinds(random, &register);
     let subject = random.range(1, register.marks.len() as u32 - 1);
     if random.chance(33) { retireregisters::without(register, &[subject]) } else { register }
 }
@@ -192,12 +194,12 @@ fn registers_of_other_kinds_are_read_back() {
 /// Texts far longer than any register's file.
 #[test]
 fn long_texts_are_judged_by_their_lines() {
-    let (first, second) = ("subject marks retired\n0 0 0\n", "\ngiver receiver weight need bar\n");
+    let (first, second) = ("subject marks retired\n0 0 0\n", "\ngiver receiver weight need bar pass\n");
     let long = |line: &str| format!("{first}{}{second}", line.repeat(200_000));
     assert_eq!(["0 0 0\n", "1 65536 0\n", "4294967295 0 2\n"].map(|line| refusal(long(line).as_bytes())), [8; 3]);
     assert_eq!(["0  0 0\n", "1 65536 0 \n", "4294967296 0 0\n"].map(|line| refusal(long(line).as_bytes())), [7; 3]);
-    assert_eq!(refusal(&[EXAMPLE, &b"1 2 8 0 0\n".repeat(100_000)].concat()), 8);
-    assert_eq!(refusal(&[EXAMPLE, &b"1 2 8 0 0\n".repeat(100_000), b"1"].concat()), 7);
+    assert_eq!(refusal(&[EXAMPLE, &b"1 2 8 0 0 0\n".repeat(100_000)].concat()), 8);
+    assert_eq!(refusal(&[EXAMPLE, &b"1 2 8 0 0 0\n".repeat(100_000), b"1"].concat()), 7);
 }
 
 /// What is due for a text before its table is looked at, by other means than the
@@ -212,8 +214,10 @@ fn due(text: &[u8]) -> Result<Register, u32> {
         let named = delegations.iter().any(|row| row[..2].contains(&number));
         retired == 0 || retired == 1 && number != 0 && marks == 0 && !named
     };
-    let apart = |&[giver, receiver, ..]: &[u32; 5]| giver != receiver && receiver != 0;
-    let fits = |&[_, _, weight, need, bar]: &[u32; 5]| weight <= 255 && need.max(bar) <= 65_535 && need & bar == 0;
+    let apart = |&[giver, receiver, ..]: &[u32; 6]| giver != receiver && receiver != 0;
+    let fits = |&[_, _, weight, need, bar, pass]: &[u32; 6]| {
+        weight <= 255 && need.max(bar) <= 65_535 && need & bar == 0 && pass <= 1
+    };
     let well_formed = (1..=64).contains(&subjects.len())
         && delegations.len() <= 256
         && subjects.iter().enumerate().all(right)
@@ -223,9 +227,9 @@ fn due(text: &[u8]) -> Result<Register, u32> {
     if !well_formed {
         return Err(8);
     }
-    let delegation = |&[giver, receiver, weight, need, bar]: &[u32; 5]| {
-        let [giver, receiver, weight] = [giver, receiver, weight].map(|number| number as u8);
-        Delegation { giver, receiver, weight, need: need as u16, bar: bar as u16 }
+    let delegation = |&[giver, receiver, weight, need, bar, pass]: &[u32; 6]| {
+        let [giver, receiver, weight, kind] = [giver, receiver, weight, pass].map(|number| number as u8);
+        Delegation { giver, receiver, weight, kind, need: need as u16, bar: bar as u16 }
     };
     let marks = subjects.iter().map(|row| row[1] as u16).collect();
     let retired = subjects.iter().map(|row| (row[2] as u64) << row[0]).sum();
@@ -266,7 +270,7 @@ fn every_other_form_is_refused_with_7() {
 #[test]
 fn fronts_of_a_file_are_refused() {
     let read: Vec<usize> = (0..=EXAMPLE.len()).filter(|&length| refusal(&EXAMPLE[..length]) == 0).collect();
-    assert_eq!(read, [72, 82, 92]);
+    assert_eq!(read, [77, 89, 101]);
     let malformed = malformed();
     assert!((0..EXAMPLE.len()).all(|length| read.contains(&length) || malformed.contains(&EXAMPLE[..length].to_vec())));
 }
@@ -299,6 +303,8 @@ fn numbers_are_judged_by_their_column() {
     assert_eq!(["0", "8", "9", "255", "264"].map(|number| with(LAST, 2, number)), [0, 0, 18, 18, 8]);
     assert_eq!(["4", "65535", "65536", "65540", "4294967300"].map(|number| with(LAST, 3, number)), [0, 0, 8, 8, 7]);
     assert_eq!(["0", "3", "4", "65531", "65536"].map(|number| with(DELEGATION, 4, number)), [0, 0, 8, 0, 8]);
+    assert_eq!(["0", "1", "2", "256", "4294967295"].map(|number| with(LAST, 5, number)), [0, 0, 8, 8, 8]);
+    assert_eq!(["", "01", "-1", "4294967296", "1 "].map(|number| with(LAST, 5, number)), [7; 5]);
 }
 
 /// A text is of a register exactly if it is the rendering of its numbers.
@@ -318,7 +324,7 @@ fn texts_are_read_exactly_as_rendered() {
         }] += 1;
     }
     assert!(found.iter().all(|&count| count > 1000), "{found:?}");
-    for text in numbers().iter().chain(&wrapped()).chain(&retired()) {
+    for text in numbers().iter().chain(&wrapped()).chain(&retired()).chain(&passes()) {
         assert_eq!(filed(text), due(text));
     }
 }
@@ -328,7 +334,7 @@ fn texts_are_read_exactly_as_rendered() {
 fn an_accepted_text_is_what_its_block_writes() {
     let mut random = Random::new(0xACC);
     let mut accepted = 0;
-    for _ in 0..6000 {
+    for _ in 0..8000 {
         let table = random.chance(40).then(|| random_table(&mut random)).unwrap_or(OURS);
         let register = any_small(&mut random);
         let text = changed(&mut random, &file_text(&register));
@@ -442,9 +448,9 @@ fn hosts_write_and_read() {
     assert_eq!(host_write(&broken::all()[0].block, &mut text, &mut answers), 8);
     assert_eq!((answers, text.iter().all(|&byte| byte == BEFORE)), ([9; 12], true));
     assert_eq!(host_write(&encode(&longest()), &mut text, &mut answers), 0);
-    assert_eq!(answers, [0xE8, 0x18, 0, 0, 0, 0, 0, 0, 0, 0, 0, 0]);
+    assert_eq!(answers, [0xED, 0x1A, 0, 0, 0, 0, 0, 0, 0, 0, 0, 0]);
     let (mut block, mut answers) = (vec![BEFORE; BLOCK_LEN], [9; 12]);
-    assert_eq!(host_read(&FAST, &mut block, &text[..6376], b"", &mut answers), 18);
+    assert_eq!(host_read(&FAST, &mut block, &text[..6893], b"", &mut answers), 18);
     assert_eq!(host_read(&FAST, &mut block, EXAMPLE, b"\n", &mut answers), 7);
     assert_eq!(host_read(&FAST, &mut block, EXAMPLE, b"", &mut answers[1..]), 1);
     assert_eq!((answers, block.iter().all(|&byte| byte == BEFORE)), ([9; 12], true));

@@ -1,5 +1,5 @@
-//! The old rules, document 01's, on 2,180 bytes: what is brought over keeps them, and the calls
-//! on it answer as on the register that they describe.
+//! The old rules, document 01's, on 2,180 bytes, with document 02's kinds: what is brought over
+//! keeps them, and the calls on it answer as on the register that they describe.
 
 use generate::{broken, brought, enrol, full, grant, lists, reach, retire, revoke, unsupported, use_right};
 use second::block::{decode, encode, Delegation, Register, BLOCK_LEN};
@@ -8,7 +8,7 @@ use second::engine::FAST;
 use second::host::{host_bring_over, ANSWERS_LEN};
 use second::random::{random_register, Random, Shape};
 
-/// The register of an old block by document 01's sentences, or nothing if they don't hold. It
+/// The register of an old block by those sentences, or nothing if they don't hold. It
 /// shares no code with the block of 2,188 bytes.
 fn old_register(block: &[u8]) -> Option<Register> {
     let number = |at: usize| block[at] as usize + 256 * block[at + 1] as usize;
@@ -21,7 +21,7 @@ fn old_register(block: &[u8]) -> Option<Register> {
     let right = |record: &&[u8]| {
         let (giver, receiver) = (record[0] as usize, record[1] as usize);
         let apart = giver != receiver && receiver != 0 && giver < subjects && receiver < subjects;
-        apart && record[3] == 0 && record[4] & record[6] == 0 && record[5] & record[7] == 0
+        apart && record[3] < 2 && record[4] & record[6] == 0 && record[5] & record[7] == 0
     };
     let rising = records[..count].windows(2).all(|two| two[0][..2] < two[1][..2]);
     let unused = records[count..].iter().all(|record| record.iter().all(|&byte| byte == 0));
@@ -36,7 +36,8 @@ fn old_register(block: &[u8]) -> Option<Register> {
 
 fn delegation(record: &[u8]) -> Delegation {
     let both = |at: usize| record[at] as u16 + 256 * record[at + 1] as u16;
-    Delegation { giver: record[0], receiver: record[1], weight: record[2], need: both(4), bar: both(6) }
+    let [giver, receiver, weight, kind] = [record[0], record[1], record[2], record[3]];
+    Delegation { giver, receiver, weight, kind, need: both(4), bar: both(6) }
 }
 
 /// Bytes that a new block holds before.

@@ -12,7 +12,6 @@ use second::casefile::{order_line, Case, UNWRITTEN};
 use second::chain::meets;
 use second::cut::settle;
 use second::engine::FAST;
-use second::filecase::{self, Bytes};
 use second::listfile::{lengths, List};
 use second::order::popped;
 use second::refusal::{admit, Call, Passed};
@@ -50,19 +49,17 @@ fn lines_keep_the_form() {
     }
 }
 
-/// Call files, lists and the kind `file` know no order, nor do any bring a block over. Lists set
-/// marks as call 6 and retire subjects as call 7, call files do neither.
+/// Call files and lists know no order, and neither brings a block over or grants with a kind.
+/// Lists set marks as call 6 and retire subjects as call 7, call files do neither.
 #[test]
 fn other_files_have_no_orders() {
-    let of_file = |call: u32| filecase::read_case(format!("{call} 0 0 0 0 0 0 0: 0: 0:").as_bytes(), &Bytes::default());
-    assert_eq!([9, 10, 11, 12, 13].map(|call| of_file(call).is_some()), [true, false, true, true, false]);
     let of_calls = |call: u32| read_call(format!("{call} 0 0 1 0 0 0\n").as_bytes());
-    assert!(of_calls(5).is_some() && [6, 7, 10, 11, 12, 13].map(of_calls).iter().all(Option::is_none));
+    assert!(of_calls(5).is_some() && [6, 7, 10, 11, 12, 13, 17].map(of_calls).iter().all(Option::is_none));
     let of_list = |call: u32| {
         let numbers = vec![call, 0, 0, 1, 0, 0, 0, 0, 0];
         List { lengths: lengths(1), texts: Vec::new(), numbers }.refusal()
     };
-    assert_eq!([5, 6, 7, 8, 10, 11, 12, 13].map(of_list), [0, 0, 0, 7, 7, 7, 7, 7]);
+    assert_eq!([5, 6, 7, 8, 10, 11, 12, 13, 17].map(of_list), [0, 0, 0, 7, 7, 7, 7, 7, 7]);
 }
 
 /// The front is shown at its full length, a refusal with nothing.

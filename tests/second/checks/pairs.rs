@@ -1,9 +1,11 @@
 //! The generated cases realise every refusal of every call, and every two
 //! that can apply at once.
 
+use crate::passcases;
 use generate::{cases, marks, orders, retires, KINDS};
 use second::casefile::answer_table;
 use second::engine::FAST;
+use second::lentcase::{Asked, LentCase};
 use second::refusal::{applying, tests, Call, ALL_CALLS};
 use std::collections::{BTreeMap, BTreeSet};
 
@@ -15,6 +17,7 @@ pub fn refusals(call: Call) -> &'static [u32] {
         Call::Open => &[1],
         Call::Enrol => &[1, 4, 8, 10],
         Call::Grant => &[1, 2, 3, 4, 5, 6, 7, 17, 8, 9, 19, 11, 12, 16],
+        Call::GrantKind => &[1, 2, 3, 4, 5, 6, 21, 7, 17, 8, 9, 19, 11, 12, 16],
         Call::Reach => &[1, 2, 5, 6, 7, 17, 8, 9, 19],
         Call::Use => &[1, 2, 8, 9, 19],
         Call::Revoke => &[1, 2, 5, 6, 7, 17, 8, 9, 19, 13, 14],
@@ -32,10 +35,10 @@ pub fn impossible(call: Call) -> Vec<Pair> {
     // The entries of a text are judged if it has the form, and the reach is
     // reckoned by a table that passes.
     let mut pairs = vec![(7, 17), (7, 16), (17, 16)];
-    let of_register = refusals(call).iter().copied().filter(|&number| number > 8 && number != 14 && number != 17);
+    let of_register = refusals(call).iter().copied().filter(|number| ![14, 17, 21].contains(number) && *number > 8);
     for held in of_register {
         // What a register holds is not judged on a block that is not well
-        // formed. 14 looks at the numbers only.
+        // formed. 14 and 21 look at the numbers only.
         pairs.push((8, held));
         // Nor on a block of another length; chain and order can have 1 from their buffer.
         if !matches!(call, Call::Chain | Call::Order) {
@@ -51,7 +54,7 @@ pub fn impossible(call: Call) -> Vec<Pair> {
         // A standing pair names two enrolled subjects that differ, the
         // receiver not the owner, and neither retired. 12 is for a pair that
         // doesn't stand.
-        Call::Grant => vec![(2, 11), (5, 11), (6, 11), (9, 11), (19, 11), (11, 12)],
+        Call::Grant | Call::GrantKind => vec![(2, 11), (5, 11), (6, 11), (9, 11), (19, 11), (11, 12)],
         // One subject is named.
         Call::Use => vec![(2, 19), (9, 19)],
         // 15 compares with a standing pair. The subject above 63 or not
@@ -72,7 +75,7 @@ fn never_alone(call: Call) -> &'static [u32] {
         Call::Open | Call::Enrol | Call::BringOver => &[],
         // 2 with 9: a subject above 63 is never enrolled; or with 1 or 8.
         // 3 with 16: no reach is above 255.
-        Call::Grant => &[2, 3],
+        Call::Grant | Call::GrantKind => &[2, 3],
         Call::Reach | Call::Use | Call::Order | Call::SetMarks | Call::Retire => &[2],
         // 5, 6 with 13: such a pair never stands. 9 with 13, or with 14 if it
         // is by that isn't enrolled; and so 19.
@@ -106,6 +109,12 @@ impl Realised {
 
 fn realised() -> BTreeMap<Call, Realised> {
     let mut all: BTreeMap<Call, Realised> = BTreeMap::new();
+    for LentCase { asked, on } in passcases::cases() {
+        let Asked::Call(n) = asked else { continue };
+        let numbers = applying(&FAST, n, &on.table, &on.block, n.weight as usize);
+        let returned = answer_table(&FAST, n, &on.table, &mut on.block.clone()).refusal;
+        all.entry(n.call).or_default().add(&numbers, returned);
+    }
     for kind in KINDS.iter().chain([&orders::KIND, &marks::KIND, &retires::KIND]) {
         let mut block = Vec::new();
         for case in cases(kind) {

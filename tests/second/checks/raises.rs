@@ -79,7 +79,8 @@ fn cuts_take_raises_back() {
 /// What is due for a grant for a standing pair whose numbers are within their limits.
 fn due(table: &Table, register: &Register, n: &Passed) -> Option<u32> {
     let d = register.standing(n.giver, n.receiver)?;
-    let raise = (n.need, n.bar) == (d.need as u32, d.bar as u32) && n.weight > d.weight as u32;
+    let same = [n.need, n.bar, n.kind] == [d.need as u32, d.bar as u32, d.kind as u32];
+    let raise = same && n.weight > d.weight as u32;
     let allowed = literal_reach(table, register, n.giver, n.receiver) >= n.weight as i16;
     Some(match (raise, allowed) {
         (false, _) => 11,

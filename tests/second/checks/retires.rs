@@ -391,7 +391,7 @@ fn names(n: &Passed) -> Vec<u32> {
     match n.call {
         Call::Open | Call::Enrol | Call::BringOver => vec![],
         Call::Use | Call::Order => vec![n.receiver],
-        Call::Grant | Call::Reach | Call::Chain => vec![n.giver, n.receiver],
+        Call::Grant | Call::GrantKind | Call::Reach | Call::Chain => vec![n.giver, n.receiver],
         Call::SetMarks | Call::Retire => vec![n.by, n.receiver],
         Call::Revoke | Call::Downgrade => vec![n.by, n.giver, n.receiver],
     }

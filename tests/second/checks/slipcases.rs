@@ -2,76 +2,44 @@
 
 use crate::faults::{ONE_ROUND, TEXT_LEFT_OUT, VISITED_ONCE};
 use crate::generated::is_small;
+use crate::lentcases::{compared, keep_the_form, read_back};
 use crate::pairs::{impossible, refusals, Pair, Realised};
 use crate::relaxed::RELAXED;
 use generate::sliprefusals::{applying_to_cut, applying_to_take_back};
 use generate::slips::{BYTES, SLIP_LENGTHS};
-use generate::{limits, slip_files, slips};
+use generate::{limits, slips};
 use second::block::{broken_rules, decode, well_formed, Register, BLOCK_LEN, RULES};
 use second::call::Outcome;
-use second::callfile::{used_columns, values_of, MOST_INPUT};
-use second::casefile::MOST_BYTES;
-use second::engine::{Engine, FAST, LITERAL};
+use second::engine::{FAST, LITERAL};
+use second::lentcase::{read_case, Asked, Bytes, LentCase};
 use second::refusal::{Call, Passed};
 use second::remainder::is_supported;
 use second::slip::*;
-use second::slipcase::{case_line, expected_text, read_case, Asked, Bytes, SlipCase, MOST_SLIP};
 use second::table::{Table, OURS};
 use std::collections::{BTreeMap, BTreeSet};
 use std::sync::OnceLock;
 
-pub fn cases() -> &'static [SlipCase] {
-    static CASES: OnceLock<Vec<SlipCase>> = OnceLock::new();
+pub fn cases() -> &'static [LentCase] {
+    static CASES: OnceLock<Vec<LentCase>> = OnceLock::new();
     CASES.get_or_init(slips::cases)
 }
 
 #[test]
 fn files_are_small_and_read_back() {
-    let (cases, mut lines, mut bytes) = (cases(), 0, 0);
-    for file in slip_files(cases) {
-        assert!(file.cases.len() <= MOST_INPUT && file.expected.len() <= MOST_INPUT);
-        assert_eq!(expected_text(&FAST, file.cases.as_bytes()), Ok(file.expected.clone()));
-        assert!(file.cases.lines().next().is_some_and(|line| !line.contains('=')));
-        lines += file.cases.lines().count();
-        bytes += file.cases.len() + file.expected.len();
-    }
-    assert_eq!(lines, cases.len());
+    let (lines, bytes) = (cases().len(), read_back(cases()));
     assert!((1500..2500).contains(&lines) && bytes < 600_000, "{lines} {bytes}");
 }
 
-/// What a case passes; nothing if it takes a cut back.
-fn passed_of(case: &SlipCase) -> Option<Passed> {
-    match case.asked {
-        Asked::Call(n) | Asked::Cut(n) => Some(n),
-        Asked::TakeBack(_) => None,
-    }
-}
-
-/// Columns that a call does not use are 0, lengths are within those of the program, and the
-/// line reads back, after any bytes.
 #[test]
 fn lines_keep_the_form() {
-    let mut before = Bytes { slip: vec![7; SLIP_LEN], ..Bytes::default() };
-    for case in cases() {
-        let on = &case.on;
-        assert!(on.slip.len() <= MOST_SLIP && on.table.len() <= MOST_BYTES && on.block.len() <= MOST_BYTES);
-        if let Some(n) = passed_of(case) {
-            let used = used_columns(n.call);
-            assert!(values_of(&n)[1..].iter().zip(used).all(|(&value, used)| used || value == 0));
-        }
-        for (before, line) in [(on, case_line(case, None)), (&before, case_line(case, Some(&before)))] {
-            assert_eq!(read_case(line.trim_end().as_bytes(), before).as_ref(), Some(case));
-        }
-        assert!(case_line(case, Some(on)).ends_with(" = = =\n"));
-        before = on.clone();
-    }
+    keep_the_form(cases());
 }
 
-/// Bytes are put into a slip from a place on; a text that puts them outside of it is no case.
+/// Bytes are put into those that are lent from a place on; a text that puts them outside is no case.
 #[test]
 fn lines_have_the_form() {
-    let left = Bytes { slip: vec![1, 2, 3, 0, 5], table: vec![], block: vec![9] };
-    let read = |slip: &str| read_case(format!("16 1 0 0 0 0 0 {slip} = =").as_bytes(), &left).map(|case| case.on.slip);
+    let left = Bytes { lent: vec![1, 2, 3, 0, 5], table: vec![], block: vec![9] };
+    let read = |slip: &str| read_case(format!("16 1 0 0 0 0 0 {slip} = =").as_bytes(), &left).map(|case| case.on.lent);
     assert_eq!(read("=").as_deref(), Some(&[1, 2, 3, 0, 5][..]));
     assert_eq!(read("=+1:.ff+4:07").as_deref(), Some(&[1, 0, 255, 0, 7][..]));
     assert_eq!(read("3:0a+2:0b").as_deref(), Some(&[10, 0, 11][..]));
@@ -83,7 +51,11 @@ fn lines_have_the_form() {
     assert_eq!(asked("14 1 2 3 0 0 0 = = ="), Some(Asked::Cut(generate::revoke(1, 2, 3))));
     assert_eq!(asked("15 1 2 3 4 0 0 = = ="), Some(Asked::Cut(generate::downgrade(1, 2, 3, 4))));
     assert_eq!(asked("2 1 2 3 0 0 0 = = ="), Some(Asked::Call(generate::revoke(1, 2, 3))));
-    for other in ["16 1 1 0 0 0 0 = = =", "17 1 0 0 0 0 0 = = =", "10 0 0 1 128 0 0 = = =", "8 0 0 0 1 0 0 = = ="] {
+    assert_eq!(asked("8 0 0 0 9 0 0 = = ="), Some(Asked::Write(9)));
+    assert_eq!(asked("9 0 0 0 0 0 0 = = ="), Some(Asked::Read));
+    let granted = generate::grant_kind(generate::grant(2, 3, 4, 5, 6), 1);
+    assert_eq!(asked("17 1 2 3 4 5 6 = = ="), Some(Asked::Call(granted)));
+    for other in ["16 1 1 0 0 0 0 = = =", "18 1 0 0 0 0 0 = = =", "9 0 0 0 1 0 0 = = =", "8 1 0 0 0 0 0 = = ="] {
         assert_eq!(asked(other), None, "{other}");
     }
 }
@@ -97,14 +69,14 @@ fn expected_lines_have_the_form() {
     sequence.back(2);
     sequence.back(1);
     sequence.call(generate::reach(3, 4));
-    let line = |case: &SlipCase| second::slipcase::expected_line(&FAST, case).0;
+    let line = |case: &LentCase| second::lentcase::expected_line(&FAST, case).0;
     let lines: Vec<String> = sequence.cases.iter().map(line).collect();
     assert!(lines[0].starts_with("0 0 1 2 2188:05.05") && lines[0].ends_with(" =/5:0301010301/=\n"), "{}", lines[0]);
     assert_eq!(lines[1], "14 0 0 0 = =\n");
     assert!(lines[2].starts_with("0 0 0 0 2188:05.05") && lines[2].ends_with(" =\n"));
     assert_eq!(lines[3], "0 3 0 0 =\n");
     let (cut, outcome) = (&sequence.cases[0], Outcome { refusal: 0, answers: [0, 0, 0] });
-    let of = |slip: Vec<u8>| cut.line(&outcome, &Bytes { slip, ..cut.on.clone() });
+    let of = |slip: Vec<u8>| cut.line(&outcome, &Bytes { lent: slip, ..cut.on.clone() });
     assert!(of(vec![1; 3]).ends_with(" = 3:010101/0:/0:\n"));
     let other = [&vec![0; 2192][..], &[7], &cut.on.block].concat();
     assert!(of(other).ends_with(" = 2188:/5:....07/=\n"));
@@ -115,9 +87,9 @@ fn realised() -> BTreeMap<u32, Realised> {
     let mut all: BTreeMap<u32, Realised> = BTreeMap::new();
     for case in cases() {
         let (call, numbers) = match case.asked {
-            Asked::Call(_) => continue,
             Asked::Cut(n) => (n.call as u32, applying_to_cut(&n, &case.on)),
             Asked::TakeBack(by) => (0, applying_to_take_back(by, &case.on)),
+            _ => continue,
         };
         let returned = case.made(&FAST).0.refusal;
         assert_eq!(returned, numbers.first().copied().unwrap_or(0));
@@ -169,16 +141,16 @@ fn bytes_and_lengths_are_covered() {
     let (mut bytes, mut lengths, mut rules) = (BTreeSet::new(), BTreeSet::new(), BTreeSet::new());
     for case in cases() {
         let (call, by) = match case.asked {
-            Asked::Call(_) => continue,
             Asked::Cut(n) => (n.call as u32, n.by),
             Asked::TakeBack(by) => (0, by),
+            _ => continue,
         };
-        lengths.extend([(call, 0, case.on.slip.len()), (call, 1, case.on.block.len())]);
-        if call != 0 || case.on.slip.len() != SLIP_LEN || case.on.block.len() != BLOCK_LEN {
+        lengths.extend([(call, 0, case.on.lent.len()), (call, 1, case.on.block.len())]);
+        if call != 0 || case.on.lent.len() != SLIP_LEN || case.on.block.len() != BLOCK_LEN {
             continue;
         }
-        bytes.extend((CALL_AT..AFTER_AT).map(|at| (by, at, case.on.slip[at])));
-        rules.insert((false, broken_rules(&case.on.slip[..BLOCK_LEN])));
+        bytes.extend((CALL_AT..AFTER_AT).map(|at| (by, at, case.on.lent[at])));
+        rules.insert((false, broken_rules(&case.on.lent[..BLOCK_LEN])));
         rules.insert((true, broken_rules(&case.on.block)));
     }
     for (by, at) in [0, 1].into_iter().flat_map(|by| (CALL_AT..AFTER_AT).map(move |at| (by, at))) {
@@ -191,30 +163,19 @@ fn bytes_and_lengths_are_covered() {
     assert!((0..RULES.len()).all(|rule| [false, true].iter().all(|&of| rules.contains(&(of, vec![rule])))));
 }
 
-/// How many cases were run with an engine too, and how many had another result.
-fn compared(engine: &Engine, of: fn(&Bytes) -> bool) -> (u32, u32) {
-    let (mut all, mut differing) = (0, 0);
-    let is_chain = |case: &SlipCase| matches!(case.asked, Asked::Call(n) if n.call == Call::Chain);
-    for case in cases().iter().filter(|case| !is_chain(case) && of(&case.on)) {
-        all += 1;
-        differing += (case.made(&FAST) != case.made(engine)) as u32;
-    }
-    (all, differing)
-}
-
 fn both_small(on: &Bytes) -> bool {
-    is_small(&on.block) && is_small(&on.slip[..BLOCK_LEN.min(on.slip.len())])
+    is_small(&on.block) && is_small(&on.lent[..BLOCK_LEN.min(on.lent.len())])
 }
 
 /// Small registers are run with the literal search, all with the relaxed one.
 #[test]
 fn expected_lines_follow_from_the_definition() {
-    let (small, differing) = compared(&LITERAL, both_small);
+    let (small, differing) = compared(cases(), &LITERAL, both_small);
     assert!(small > 1500 && differing == 0, "{small} {differing}");
-    assert_eq!(compared(&RELAXED, |_| true).1, 0);
-    assert!(compared(&ONE_ROUND, |_| true).1 > 30);
-    assert!(compared(&VISITED_ONCE, both_small).1 > 10);
-    assert!(compared(&TEXT_LEFT_OUT, |_| true).1 > 10);
+    assert_eq!(compared(cases(), &RELAXED, |_| true).1, 0);
+    assert!(compared(cases(), &ONE_ROUND, |_| true).1 > 30);
+    assert!(compared(cases(), &VISITED_ONCE, both_small).1 > 10);
+    assert!(compared(cases(), &TEXT_LEFT_OUT, |_| true).1 > 10);
 }
 
 /// An accepted take-back: the caller, the cut on the slip, the registers on it and the table.
@@ -234,14 +195,14 @@ fn seen() -> Vec<Seen> {
     for case in cases() {
         let (outcome, left) = case.made(&FAST);
         match case.asked {
-            Asked::Cut(_) if outcome.refusal == 0 => drop(written.insert(left.slip)),
+            Asked::Cut(_) if outcome.refusal == 0 => drop(written.insert(left.lent)),
             Asked::TakeBack(by) if outcome.refusal == 0 => all.push(Seen {
                 by,
-                n: cut_on(&case.on.slip).expect("a cut"),
+                n: cut_on(&case.on.lent).expect("a cut"),
                 before: decode(&left.block).expect("well formed"),
                 after: decode(&case.on.block).expect("well formed"),
                 table: Table::read(&case.on.table).expect("a table"),
-                written: written.contains(&case.on.slip),
+                written: written.contains(&case.on.lent),
                 text: !case.on.table.is_empty(),
             }),
             _ => {}
@@ -318,12 +279,12 @@ fn buffers_hold_other_bytes() {
     let (mut last, mut kept) = (BTreeSet::new(), BTreeSet::new());
     for case in cases() {
         let Asked::Cut(_) = case.asked else { continue };
-        if case.on.slip.len() != SLIP_LEN {
+        if case.on.lent.len() != SLIP_LEN {
             continue;
         }
         let refused = case.made(&FAST).0.refusal != 0;
-        last.insert((refused, case.on.slip[SLIP_LEN - 1]));
-        kept.insert((refused, well_formed(&case.on.slip[..BLOCK_LEN])));
+        last.insert((refused, case.on.lent[SLIP_LEN - 1]));
+        kept.insert((refused, well_formed(&case.on.lent[..BLOCK_LEN])));
     }
     assert!([0, 0xA5].iter().all(|&byte| last.contains(&(true, byte)) && last.contains(&(false, byte))));
     assert_eq!(kept.len(), 4);

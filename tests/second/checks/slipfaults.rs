@@ -2,6 +2,7 @@
 //! other judgements of them, other orders of the refusals, other restores.
 
 use super::ours;
+use crate::lentcases::{noticed_in, recorded, Recorded};
 use crate::slipcases::cases;
 use crate::slips::{slips_hold_the_cut, taken_back_directly, Program, RIGHT};
 use generate::sliprefusals::applying_to_take_back;
@@ -11,30 +12,19 @@ use second::cut::settle;
 use second::engine::FAST;
 use second::random::random_table;
 use second::refusal::{Call, Passed};
+use second::lentcase::{Asked, Bytes, LentCase};
 use second::slip::*;
-use second::slipcase::{Asked, Bytes, SlipCase};
 use second::table::{Table, OURS};
 use std::collections::BTreeSet;
 use std::sync::OnceLock;
 
-/// The cases on slips and blocks that take little time, and their lines.
-fn lines() -> &'static [(&'static SlipCase, String)] {
-    static LINES: OnceLock<Vec<(&'static SlipCase, String)>> = OnceLock::new();
-    let few = |case: &&SlipCase| decode(&case.on.block).is_none_or(|register| register.delegations.len() <= 100);
-    let line = |case: &'static SlipCase| {
-        let (outcome, left) = case.made(&FAST);
-        (case, case.line(&outcome, &left))
-    };
-    LINES.get_or_init(|| cases().iter().filter(few).map(line).collect())
+fn lines() -> &'static [Recorded] {
+    static LINES: OnceLock<Vec<Recorded>> = OnceLock::new();
+    LINES.get_or_init(|| recorded(cases()))
 }
 
-/// How many cases have another line than the recorded one.
-fn noticed(program: impl Fn(&SlipCase) -> (Outcome, Bytes)) -> usize {
-    let other = |case: &SlipCase, line: &String| {
-        let (outcome, left) = program(case);
-        case.line(&outcome, &left) != *line
-    };
-    lines().iter().filter(|(case, line)| other(case, line)).count()
+fn noticed(program: impl Fn(&LentCase) -> (Outcome, Bytes)) -> usize {
+    noticed_in(lines(), program)
 }
 
 #[test]
@@ -77,17 +67,17 @@ impl Cut<'_> {
 }
 
 /// The right program, but for the slip that an accepted cut writes.
-fn writing(case: &SlipCase, slip: impl Fn(&Cut) -> Vec<u8>) -> (Outcome, Bytes) {
+fn writing(case: &LentCase, slip: impl Fn(&Cut) -> Vec<u8>) -> (Outcome, Bytes) {
     let (outcome, mut left) = case.made(&FAST);
     if let (Asked::Cut(n), 0) = (case.asked, outcome.refusal) {
-        left.slip = slip(&Cut { n: &n, on: &case.on, left: &left.block });
+        left.lent = slip(&Cut { n: &n, on: &case.on, left: &left.block });
     }
     (outcome, left)
 }
 
 /// Programs that write another slip.
 const WRONG_SLIPS: [(&str, Program); 24] = [
-    ("nothing is written", |case| writing(case, |cut| cut.on.slip.clone())),
+    ("nothing is written", |case| writing(case, |cut| cut.on.lent.clone())),
     ("the before is taken after the named change", |case| {
         writing(case, |cut| slip_of(cut.n, &cut.named(), cut.left))
     }),
@@ -123,11 +113,11 @@ const WRONG_SLIPS: [(&str, Program); 24] = [
         })
     }),
     ("the last byte is not written", |case| {
-        writing(case, |cut| cut.with(SLIP_LEN - 1, cut.on.slip[SLIP_LEN - 1] as u32))
+        writing(case, |cut| cut.with(SLIP_LEN - 1, cut.on.lent[SLIP_LEN - 1] as u32))
     }),
-    ("the first byte is not written", |case| writing(case, |cut| cut.with(0, cut.on.slip[0] as u32))),
+    ("the first byte is not written", |case| writing(case, |cut| cut.with(0, cut.on.lent[0] as u32))),
     ("the weight is not written for a revoke", |case| {
-        let byte = |cut: &Cut| if cut.n.call == Call::Revoke { cut.on.slip[WEIGHT_AT] as u32 } else { cut.n.weight };
+        let byte = |cut: &Cut| if cut.n.call == Call::Revoke { cut.on.lent[WEIGHT_AT] as u32 } else { cut.n.weight };
         writing(case, |cut| cut.with(WEIGHT_AT, byte(cut)))
     }),
     ("the five bytes come first", |case| {
@@ -140,22 +130,22 @@ const WRONG_SLIPS: [(&str, Program); 24] = [
         writing(case, |cut| {
             let mut slip = slip_of(cut.n, &cut.on.block, cut.left);
             let used = slip.iter().rposition(|&byte| byte != 0).map_or(0, |last| last + 1);
-            slip[used..].copy_from_slice(&cut.on.slip[used..]);
+            slip[used..].copy_from_slice(&cut.on.lent[used..]);
             slip
         })
     }),
     ("written on a refusal too", |case| {
         let (outcome, mut left) = case.made(&FAST);
-        let sized = left.slip.len() == SLIP_LEN && left.block.len() == BLOCK_LEN;
+        let sized = left.lent.len() == SLIP_LEN && left.block.len() == BLOCK_LEN;
         if let (Asked::Cut(n), true) = (case.asked, sized && outcome.refusal != 0) {
-            left.slip = slip_of(&n, &left.block, &left.block);
+            left.lent = slip_of(&n, &left.block, &left.block);
         }
         (outcome, left)
     }),
     ("cleared on a refusal", |case| {
         let (outcome, mut left) = case.made(&FAST);
         if let (Asked::Cut(_), true) = (case.asked, outcome.refusal != 0) {
-            left.slip.fill(0);
+            left.lent.fill(0);
         }
         (outcome, left)
     }),
@@ -171,16 +161,16 @@ fn wrong_slips_are_noticed() {
 }
 
 /// A cut on a slip's buffer that may have another length: what is made of it, and the buffer.
-fn of_length(case: &SlipCase, ready: fn(usize) -> bool) -> (Outcome, Bytes) {
+fn of_length(case: &LentCase, ready: fn(usize) -> bool) -> (Outcome, Bytes) {
     let Asked::Cut(n) = case.asked else { return case.made(&FAST) };
-    if !ready(case.on.slip.len()) {
+    if !ready(case.on.lent.len()) {
         return (refused(1), case.on.clone());
     }
     let mut left = case.on.clone();
     let outcome = run_table(&FAST, &n, &left.table, &mut left.block);
     if outcome.refusal == 0 {
         let slip = slip_of(&n, &case.on.block, &left.block);
-        left.slip.iter_mut().zip(slip).for_each(|(place, byte)| *place = byte);
+        left.lent.iter_mut().zip(slip).for_each(|(place, byte)| *place = byte);
     }
     (outcome, left)
 }
@@ -217,10 +207,10 @@ fn wrong_cuts_are_noticed() {
 }
 
 /// The program of taking back with these tests, which restores what a function says.
-fn by_tests(case: &SlipCase, tests: &[Test], restored: impl Fn(&HandedIn) -> Vec<u8>) -> (Outcome, Bytes) {
+fn by_tests(case: &LentCase, tests: &[Test], restored: impl Fn(&HandedIn) -> Vec<u8>) -> (Outcome, Bytes) {
     let Asked::TakeBack(by) = case.asked else { return case.made(&FAST) };
     let on = &case.on;
-    let handed = HandedIn { engine: &FAST, block: &on.block, by, text: &on.table, slip: &on.slip };
+    let handed = HandedIn { engine: &FAST, block: &on.block, by, text: &on.table, slip: &on.lent };
     if let Some((number, _)) = tests.iter().find(|(_, applies)| applies(&handed)) {
         return (refused(*number), on.clone());
     }
@@ -232,7 +222,7 @@ fn before_of(handed: &HandedIn) -> Vec<u8> {
 }
 
 /// The right program with another test for one number.
-fn judging(case: &SlipCase, number: u32, test: fn(&HandedIn) -> bool) -> (Outcome, Bytes) {
+fn judging(case: &LentCase, number: u32, test: fn(&HandedIn) -> bool) -> (Outcome, Bytes) {
     let tests = TESTS.map(|(other, right)| (other, if other == number { test } else { right }));
     by_tests(case, &tests, before_of)
 }
@@ -351,11 +341,11 @@ fn is_settled(h: &HandedIn) -> bool {
 }
 
 /// The right program, but that a byte of the slip counts as named for a number.
-fn naming(case: &SlipCase, number: u32, at: usize) -> (Outcome, Bytes) {
+fn naming(case: &LentCase, number: u32, at: usize) -> (Outcome, Bytes) {
     let Asked::TakeBack(by) = case.asked else { return case.made(&FAST) };
     let on = &case.on;
-    let also = on.slip.get(at).map_or(0, |&byte| byte as u32);
-    let handed = |by: u32| HandedIn { engine: &FAST, block: &on.block, by, text: &on.table, slip: &on.slip };
+    let also = on.lent.get(at).map_or(0, |&byte| byte as u32);
+    let handed = |by: u32| HandedIn { engine: &FAST, block: &on.block, by, text: &on.table, slip: &on.lent };
     let applies = |(other, test): &&Test| test(&handed(by)) || *other == number && test(&handed(also));
     match TESTS.iter().find(applies) {
         Some((number, _)) => (refused(*number), on.clone()),
@@ -431,28 +421,28 @@ const WRONG_RESTORES: [(&str, Program); 10] = [
     ("the slip is cleared", |case| {
         let (outcome, mut left) = case.made(&FAST);
         if outcome.refusal == 0 && matches!(case.asked, Asked::TakeBack(_)) {
-            left.slip.fill(0);
+            left.lent.fill(0);
         }
         (outcome, left)
     }),
     ("the five bytes are cleared", |case| {
         let (outcome, mut left) = case.made(&FAST);
         if outcome.refusal == 0 && matches!(case.asked, Asked::TakeBack(_)) {
-            left.slip[CALL_AT..AFTER_AT].fill(0);
+            left.lent[CALL_AT..AFTER_AT].fill(0);
         }
         (outcome, left)
     }),
     ("before and after are exchanged on the slip", |case| {
         let (outcome, mut left) = case.made(&FAST);
         if outcome.refusal == 0 && matches!(case.asked, Asked::TakeBack(_)) {
-            left.slip = [&left.slip[AFTER_AT..], &left.slip[CALL_AT..AFTER_AT], &left.slip[..CALL_AT]].concat();
+            left.lent = [&left.lent[AFTER_AT..], &left.lent[CALL_AT..AFTER_AT], &left.lent[..CALL_AT]].concat();
         }
         (outcome, left)
     }),
     ("the cut's answers", |case| {
         let (outcome, left) = case.made(&FAST);
         let (0, Asked::TakeBack(_)) = (outcome.refusal, case.asked) else { return (outcome, left) };
-        let n = cut_on(&case.on.slip).expect("a cut");
+        let n = cut_on(&case.on.lent).expect("a cut");
         (run_table(&FAST, &n, &case.on.table, &mut left.block.clone()), left)
     }),
     ("what stands is answered", |case| {

@@ -13,15 +13,15 @@ use second::casefile::answer;
 use second::cut::settle;
 use second::engine::{Engine, FAST, LITERAL};
 use second::host::{host_cut_slip, host_take_back};
+use second::lentcase::{Asked, Bytes, LentCase};
 use second::random::{random_table, Random};
 use second::refusal::{Call, Passed};
 use second::remainder::is_supported;
 use second::slip::*;
-use second::slipcase::{Asked, Bytes, SlipCase};
 use second::table::{Table, OURS};
 
 /// What a program answers to a call and the bytes that it leaves.
-pub type Program = fn(&SlipCase) -> (Outcome, Bytes);
+pub type Program = fn(&LentCase) -> (Outcome, Bytes);
 
 pub const RIGHT: Program = |case| case.made(&FAST);
 
@@ -126,10 +126,10 @@ pub fn slips_hold_the_cut(program: Program, draw: Draw) -> Result<[u32; 2], Stri
         let odd = lists::likely(&mut random, n.call, &OURS, &register);
         let n = random.pick(&[n, odd]);
         let fill = random.next() as u8;
-        let on = Bytes { slip: vec![fill; SLIP_LEN], table, block: encode(&register) };
+        let on = Bytes { lent: vec![fill; SLIP_LEN], table, block: encode(&register) };
         let mut block = on.block.clone();
         let outcome = run_table(&FAST, &n, &on.table, &mut block);
-        let (found_outcome, left) = program(&SlipCase { asked: Asked::Cut(n), on: on.clone() });
+        let (found_outcome, left) = program(&LentCase { asked: Asked::Cut(n), on: on.clone() });
         same("outcome", found_outcome, outcome)?;
         same("block", &left.block, &block)?;
         let is_revoke = n.call == Call::Revoke;
@@ -137,7 +137,7 @@ pub fn slips_hold_the_cut(program: Program, draw: Draw) -> Result<[u32; 2], Stri
         let weight = if is_revoke { 0 } else { n.weight };
         let five = [first, n.by, n.giver, n.receiver, weight].map(|number| number as u8);
         let written = [&on.block[..], &five, &block].concat();
-        same("slip", &left.slip, if outcome.refusal == 0 { &written } else { &on.slip })?;
+        same("slip", &left.lent, if outcome.refusal == 0 { &written } else { &on.lent })?;
         found[(outcome.refusal != 0) as usize] += 1;
     }
     Ok(found)
@@ -162,13 +162,13 @@ pub fn taken_back_directly(program: Program, draw: Draw) -> Result<u32, String> 
         let supported = (FAST.reaches)(&Table::read(&table).unwrap_or(OURS), &register);
         let is_supported = register.delegations.iter().zip(supported).all(|(d, reach)| d.weight as i16 <= reach);
         not_supported += !is_supported as u32;
-        let before = Bytes { slip: vec![0; SLIP_LEN], table, block: encode(&register) };
-        let (outcome, cut) = program(&SlipCase { asked: Asked::Cut(n), on: before.clone() });
+        let before = Bytes { lent: vec![0; SLIP_LEN], table, block: encode(&register) };
+        let (outcome, cut) = program(&LentCase { asked: Asked::Cut(n), on: before.clone() });
         same("cut", outcome.refusal, 0)?;
-        let (outcome, left) = program(&SlipCase { asked: Asked::TakeBack(n.by), on: cut.clone() });
+        let (outcome, left) = program(&LentCase { asked: Asked::TakeBack(n.by), on: cut.clone() });
         same("taken back", outcome, RESTORED)?;
         same("block", &left.block, &before.block)?;
-        same("slip", &left.slip, &cut.slip)?;
+        same("slip", &left.lent, &cut.lent)?;
     }
     Ok(not_supported)
 }
@@ -205,8 +205,8 @@ fn every_cut_of_small_registers_is_taken_back() {
 /// and the caller can be named: the five bytes are read by what they mean, and the cut is made
 /// without a slip.
 fn literally(engine: &Engine, on: &Bytes, by: u32) -> u32 {
-    let (before, after) = (&on.slip[..2188], &on.slip[2193..]);
-    let [call, by_on_it, giver, receiver, weight] = [0, 1, 2, 3, 4].map(|at| on.slip[2188 + at] as u32);
+    let (before, after) = (&on.lent[..2188], &on.lent[2193..]);
+    let [call, by_on_it, giver, receiver, weight] = [0, 1, 2, 3, 4].map(|at| on.lent[2188 + at] as u32);
     if by != 0 && by != giver {
         return 14;
     }
@@ -225,16 +225,16 @@ fn literally(engine: &Engine, on: &Bytes, by: u32) -> u32 {
 fn spoilt(random: &mut Random, draw: Draw) -> (Bytes, u32) {
     let (register, n, table) = drawn(random, draw);
     let (block, slip) = after_cut(&register, &n, &table);
-    let mut on = Bytes { slip, table, block };
+    let mut on = Bytes { lent: slip, table, block };
     for _ in 0..random.pick(&[0, 1, 1, 1, 2]) {
         let place = changed_place(random, &register);
         let byte = random.pick(&[0, 1, 2, 3, 9, 255]);
-        on.slip[place] = byte;
+        on.lent[place] = byte;
         if place >= AFTER_AT && random.chance(60) {
             on.block[place - AFTER_AT] = byte;
         }
     }
-    let (giver, any) = (on.slip[GIVER_AT] as u32, random.below(5));
+    let (giver, any) = (on.lent[GIVER_AT] as u32, random.below(5));
     (on, random.pick(&[0, giver, n.by, any]))
 }
 
@@ -245,12 +245,12 @@ fn same_as_literally(engine: &Engine, draw: Draw) -> Result<[u32; 3], String> {
     for _ in 0..2500 {
         let (on, by) = spoilt(&mut random, draw);
         let can_be_named = decode(&on.block).is_some_and(|r| r.enrolled(by) && !r.is_retired(by));
-        if !can_be_named || !is_small(&on.slip[..BLOCK_LEN]) {
+        if !can_be_named || !is_small(&on.lent[..BLOCK_LEN]) {
             continue;
         }
         let due = literally(&LITERAL, &on, by);
-        let left = if due == 0 { on.slip[..BLOCK_LEN].to_vec() } else { on.block.clone() };
-        same("taken back", handed_in(engine, &on.block, by, &on.table, &on.slip), (due, left))?;
+        let left = if due == 0 { on.lent[..BLOCK_LEN].to_vec() } else { on.block.clone() };
+        same("taken back", handed_in(engine, &on.block, by, &on.table, &on.lent), (due, left))?;
         found[[0, 14, 20].iter().position(|&number| number == due).unwrap_or(2)] += 1;
     }
     Ok(found)
@@ -299,11 +299,11 @@ fn every_byte_counts() {
     let (block, slip) = after_cut(&example(), &EXAMPLE_CUT, b"");
     let mut found = [0; 4];
     for (at, more) in (0..SLIP_LEN + BLOCK_LEN).flat_map(|at| [1, 128].map(|more| (at, more))) {
-        let mut on = Bytes { slip: slip.clone(), table: Vec::new(), block: block.clone() };
-        let place = if at < SLIP_LEN { &mut on.slip[at] } else { &mut on.block[at - SLIP_LEN] };
+        let mut on = Bytes { lent: slip.clone(), table: Vec::new(), block: block.clone() };
+        let place = if at < SLIP_LEN { &mut on.lent[at] } else { &mut on.block[at - SLIP_LEN] };
         *place ^= more;
         let due = if decode(&on.block).is_some() { literally(&FAST, &on, 1) } else { 8 };
-        assert_eq!(refusal(&on.block, 1, &on.slip), due, "{at} {more}");
+        assert_eq!(refusal(&on.block, 1, &on.lent), due, "{at} {more}");
         found[[0, 8, 14, 20].iter().position(|&number| number == due).unwrap_or(3)] += 1;
     }
     // Accepted are the owner's by, and two other weights of each of 1-3, 2-3 and 3-4 in the
@@ -383,7 +383,7 @@ fn accepted_slips_keep_what_stands() {
     let mut accepted = 0;
     for _ in 0..4000 {
         let (on, by) = spoilt(&mut random, ours);
-        let (refusal, left) = handed_in(&FAST, &on.block, by, &on.table, &on.slip);
+        let (refusal, left) = handed_in(&FAST, &on.block, by, &on.table, &on.lent);
         if refusal == 0 {
             nothing_is_lost(&on.block, &left);
             accepted += 1;

@@ -200,7 +200,7 @@ fn calls_are_accepted_under_every_table() {
 #[test]
 fn other_calls_take_no_table() {
     let taking: Vec<Call> = ALL_CALLS.into_iter().filter(|&call| takes_table(call)).collect();
-    let due = orders::CALLS.iter().chain(&marks::CALLS).chain(&[Call::Retire]);
+    let due = orders::CALLS.iter().chain(&marks::CALLS).chain(&[Call::Retire, Call::GrantKind]);
     assert_eq!(taking.iter().collect::<BTreeSet<_>>(), due.collect());
     for (n, text) in [open(), enrol(3), use_right(2)].iter().zip([&b"\n"[..], b"0", &[0; 4096]]) {
         let (mut with, mut without) = (encode(&broken::valid()), encode(&broken::valid()));

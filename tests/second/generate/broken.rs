@@ -43,6 +43,7 @@ pub fn calls(call: Call) -> Vec<Passed> {
         Call::Retire => vec![retire(0, 2)],
         // It is handed no register.
         Call::BringOver => vec![],
+        Call::GrantKind => vec![grant_kind(grant(1, 4, 98, 2, 1), 1)],
     }
 }
 
@@ -134,8 +135,8 @@ fn subjects() -> Vec<Broken> {
 
 fn inner() -> Vec<Broken> {
     vec![
-        changed(&valid(), &[10], &[(at(0, RECORD_ZERO), 1)]),
-        changed(&valid(), &[10], &[(at(4, RECORD_ZERO), 255)]),
+        changed(&valid(), &[10], &[(at(0, KIND), 2)]),
+        changed(&valid(), &[10], &[(at(4, KIND), 255)]),
         changed(&valid(), &[11], &[(at(1, BAR), 3)]),
         changed(&valid(), &[11], &[(at(2, NEED + 1), 128), (at(2, BAR + 1), 128)]),
         changed(&valid(), &[11], &[(at(4, NEED), 4)]),

@@ -5,12 +5,12 @@ use super::*;
 use second::block::{decode, encode};
 use second::cut::settle;
 use second::engine::FAST;
+use second::lentcase::LentCase;
 use second::random::{random_table, Random};
 use second::slip::{AFTER_AT, BY_AT, CALL_AT, SLIP_LEN};
-use second::slipcase::SlipCase;
 use second::table::{Table, OURS};
 
-pub fn cases() -> Vec<SlipCase> {
+pub fn cases() -> Vec<LentCase> {
     let mut random = Random::new(0x511B);
     let mut cases = on_small(&mut random);
     cases.extend((0..4).flat_map(|_| list(&mut random, b"", 44)).collect::<Vec<_>>());
@@ -33,7 +33,7 @@ pub fn drawn_cut(random: &mut Random, register: &Register) -> Passed {
 
 /// Registers that are not supported, and what the rounds leave of some: a cut, and its being
 /// taken back, some with a byte of the slip changed before.
-fn on_small(random: &mut Random) -> Vec<SlipCase> {
+fn on_small(random: &mut Random) -> Vec<LentCase> {
     let mut sequence = Sequence::new(&Register::fresh());
     for at in 0..40 {
         let mut register = unsupported::random_unsupported(random);
@@ -47,7 +47,7 @@ fn on_small(random: &mut Random) -> Vec<SlipCase> {
         let n = drawn_cut(random, &register);
         sequence.cut(n);
         let (place, more) = (changed_place(random, &register), random.pick(&[1, 2, 255]));
-        let byte = sequence.now.slip[place] ^ more;
+        let byte = sequence.now.lent[place] ^ more;
         sequence.back_with(n.by, &[(place, byte)]);
         sequence.back(n.by);
     }
@@ -69,7 +69,7 @@ const DRAWN: [Call; 8] = [
 
 /// A list under one table: grants, then cuts that write slips, slips that are handed in, and
 /// other calls.
-fn list(random: &mut Random, text: &[u8], calls: usize) -> Vec<SlipCase> {
+fn list(random: &mut Random, text: &[u8], calls: usize) -> Vec<LentCase> {
     let mut sequence = Sequence::new(&Register::fresh());
     sequence.now.block = lists::without_delegations(random);
     sequence.now.table = text.to_vec();
@@ -82,7 +82,7 @@ fn list(random: &mut Random, text: &[u8], calls: usize) -> Vec<SlipCase> {
             0..=2 if !register.delegations.is_empty() => {
                 let n = drawn_cut(random, &register);
                 sequence.cut(n);
-                slips.push(sequence.now.slip.clone());
+                slips.push(sequence.now.lent.clone());
             }
             3..=5 => hand_in(random, &mut sequence, &mut slips),
             _ => {

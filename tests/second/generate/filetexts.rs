@@ -2,9 +2,11 @@
 //! are no well-formed register's.
 
 use super::*;
+use second::casefile::split_last;
 use second::regfile::{file_text, Rows, DELEGATION_NAMES, SUBJECT_NAMES};
 use second::table::OURS;
 use std::collections::BTreeSet;
+use std::ops::Range;
 
 /// 1-2 stands on 0-1, whose condition subject 2 meets.
 pub fn example() -> Register {
@@ -17,16 +19,36 @@ pub fn gone() -> Register {
     retireregisters::without(register(&[0, 4, 4, 0, 1, 0, 0], &grants), &[3, 5])
 }
 
-/// A register's file as it was before document 02's C-16, without the column `retired`.
+/// A register's file as it was before document 02's C-18, without the column `pass`.
+pub fn without_pass(text: &[u8]) -> Vec<u8> {
+    let [subjects, delegations] = parts(text);
+    [subjects, &without_last(delegations)].concat()
+}
+
+/// The same without the column `retired`.
+pub fn without_retired(text: &[u8]) -> Vec<u8> {
+    let [subjects, delegations] = parts(text);
+    [&without_last(subjects), delegations].concat()
+}
+
+/// The same as it was before C-16, without either.
 pub fn old_form(text: &[u8]) -> Vec<u8> {
-    let mut lines: Vec<Vec<u8>> = second::callfile::lines(text).map(|line| line.to_vec()).collect();
-    let subjects = lines.iter().position(|line| line == b"\n").unwrap_or(lines.len());
-    for line in &mut lines[..subjects] {
-        let space = line.iter().rposition(|&byte| byte == b' ').unwrap_or(line.len());
-        line.truncate(space);
-        line.push(b'\n');
-    }
-    lines.concat()
+    without_retired(&without_pass(text))
+}
+
+/// What is before the empty line, and that line and what is after it.
+fn parts(text: &[u8]) -> [&[u8]; 2] {
+    let empty = text.windows(2).position(|two| two == b"\n\n").map_or(text.len(), |at| at + 1);
+    [&text[..empty], &text[empty..]]
+}
+
+/// Lines without their last columns.
+fn without_last(text: &[u8]) -> Vec<u8> {
+    let shorter = |line| match split_last(line) {
+        Some((front, _)) => [front, b"\n"].concat(),
+        None => line.to_vec(),
+    };
+    second::callfile::lines(text).flat_map(shorter).collect()
 }
 
 // Places of lines in the example's file.
@@ -62,23 +84,25 @@ const OTHER_FIRST: [&[u8]; 13] = [
 ];
 
 /// In the place of the names of the delegations.
-const OTHER_SECOND: [&[u8]; 9] = [
-    b"", b"Giver receiver weight need bar\n", b"giver receiver weight need\n", b"receiver giver weight need bar\n",
-    b"giver receiver weight bar need\n", b"giver receiver weight need bar mark\n", b"0 0 0 0 0\n",
-    b"call by giver receiver weight need bar\n", SUBJECT_NAMES,
+const OTHER_SECOND: [&[u8]; 13] = [
+    b"", b"Giver receiver weight need bar pass\n", b"giver receiver weight need bar\n",
+    b"receiver giver weight need bar pass\n", b"giver receiver weight bar need pass\n",
+    b"giver receiver weight need bar mark\n", b"giver receiver weight need bar pass mark\n", b"0 0 0 0 0 0\n",
+    b"call by giver receiver weight need bar\n", SUBJECT_NAMES, b"giver receiver weight need pass bar\n",
+    b"giver receiver weight need bar Pass\n", b"giver receiver weight need bar kind\n",
 ];
 
 /// After the whole file.
 const AFTER: [&[u8]; 12] = [
     b" ", b"\0", b"a", b"\xff", b"\r", b"\n", b"\n\n", b"0", b"2 1 0\n", SUBJECT_NAMES, DELEGATION_NAMES,
-    b"\n0 2 0 0 0\n",
+    b"\n0 2 0 0 0 0\n",
 ];
 
 /// Whole texts.
 const WHOLE: [&[u8]; 9] = [
     b"\n", b" ", b"\0", b"subject marks retired\n\n", b"subject marks retired\n0 0 0\n\n",
-    b"giver receiver weight need bar\n", b"subject marks retired\n0 0 0\ngiver receiver weight need bar\n",
-    b"giver receiver weight need bar\n\nsubject marks retired\n0 0 0\n",
+    DELEGATION_NAMES, b"subject marks retired\n0 0 0\ngiver receiver weight need bar pass\n",
+    b"giver receiver weight need bar pass\n\nsubject marks retired\n0 0 0\n",
     b"call by giver receiver weight need bar\n0 0 0 0 0 0 0\n",
 ];
 
@@ -106,18 +130,25 @@ pub fn malformed() -> Vec<Vec<u8>> {
     all
 }
 
-/// Whole files without the column; and each line of a file without it alone, the line of names
-/// or a subject's, and with it alone.
+/// Whole files without one of the two columns and without both; and each line of a file without
+/// a column alone, a line of names or of numbers, and with it alone.
 fn old_forms() -> Vec<Vec<u8>> {
-    let registers = [Register::fresh(), example(), gone(), full::all_enrolled()];
-    let mut all: Vec<Vec<u8>> = registers.iter().map(|register| old_form(&file_text(register))).collect();
-    let (text, old) = (file_text(&gone()), old_form(&file_text(&gone())));
-    for place in 0..=gone().marks.len() {
-        all.push(with_line(&text, place, line_of(&old, place)));
-        all.push(with_line(&old, place, line_of(&text, place)));
+    let files = [Register::fresh(), example(), gone(), full::all_enrolled()].map(|register| file_text(&register));
+    let forms = [old_form, without_pass, without_retired];
+    let mut all: Vec<Vec<u8>> = files.iter().flat_map(|text| forms.map(|form| form(text))).collect();
+    let text = file_text(&gone());
+    let delegations = EMPTY_OF_GONE + 1..EMPTY_OF_GONE + 5;
+    for (old, places) in [(without_retired(&text), 0..EMPTY_OF_GONE), (without_pass(&text), delegations)] {
+        for place in places {
+            all.push(with_line(&text, place, line_of(&old, place)));
+            all.push(with_line(&old, place, line_of(&text, place)));
+        }
     }
     all
 }
+
+/// The place of the empty line in the file of that register.
+const EMPTY_OF_GONE: usize = 8;
 
 /// A line, spoiled in every way that any line can be.
 fn spoiled(line: &[u8]) -> Vec<Vec<u8>> {
@@ -217,8 +248,8 @@ pub fn wrapped() -> Vec<Vec<u8>> {
     all
 }
 
-/// In the place of a subject's 0 or 1 in the column `retired`; the last ones are malformed.
-const RETIRED: [&str; 16] = [
+/// In the place of a 0 or 1 in the columns `retired` and `pass`; the last ones are malformed.
+const BITS: [&str; 16] = [
     "0", "1", "2", "3", "254", "255", "256", "257", "65536", "65537", "4294967295", "4294967296", "4294967297", "01",
     "-1", "",
 ];
@@ -226,14 +257,21 @@ const RETIRED: [&str; 16] = [
 /// Every subject's column `retired` with each of these: the owner's, of those who have marks and
 /// records or one of these, and of those who have none.
 pub fn retired() -> Vec<Vec<u8>> {
-    let text = file_text(&gone());
-    let places = OWNER..=gone().marks.len();
-    let with = |place: usize| RETIRED.map(|number| with_column(&text, place, 2, number.as_bytes()));
-    places.flat_map(with).collect()
+    with_bits(&file_text(&gone()), OWNER..EMPTY_OF_GONE, 2)
+}
+
+/// Every delegation's column `pass` with each of these: of pass-only ones, one of which has
+/// weight 0, and of ordinary ones.
+pub fn passes() -> Vec<Vec<u8>> {
+    with_bits(&file_text(&passregisters::three_of_each()), 7..13, 5)
+}
+
+fn with_bits(text: &[u8], places: Range<usize>, column: usize) -> Vec<Vec<u8>> {
+    places.flat_map(|place| BITS.map(|number| with_column(text, place, column, number.as_bytes()))).collect()
 }
 
 /// The example's numbers changed so that they make no well-formed block.
-const UNFORMED: [(&str, fn(&mut Rows)); 41] = [
+const UNFORMED: [(&str, fn(&mut Rows)); 45] = [
     ("no subject", |rows| rows.subjects.clear()),
     ("no subject and no delegation", |rows| *rows = Rows { subjects: vec![], delegations: vec![] }),
     ("subjects from 1 on", |rows| rows.subjects.retain(|row| row[0] != 0)),
@@ -252,14 +290,14 @@ const UNFORMED: [(&str, fn(&mut Rows)); 41] = [
     ("the receiver is the owner", |rows| rows.delegations[1][1] = 0),
     ("the owner gives to itself", |rows| rows.delegations[0][1] = 0),
     ("need and bar are equal", |rows| rows.delegations[0][4] = 4),
-    ("need and bar share the highest mark", |rows| rows.delegations[1] = [1, 2, 8, 32_768, 49_152]),
-    ("need and bar share one mark of many", |rows| rows.delegations[1] = [1, 2, 8, 65_535, 1]),
+    ("need and bar share the highest mark", |rows| rows.delegations[1] = [1, 2, 8, 32_768, 49_152, 0]),
+    ("need and bar share one mark of many", |rows| rows.delegations[1] = [1, 2, 8, 65_535, 1, 0]),
     ("two delegations exchanged", |rows| rows.delegations.swap(0, 1)),
-    ("a delegation twice", |rows| rows.delegations.push([1, 2, 8, 0, 0])),
-    ("a pair twice, lighter", |rows| rows.delegations.insert(1, [0, 1, 8, 4, 0])),
-    ("a pair twice, under another need", |rows| rows.delegations.insert(1, [0, 1, 9, 0, 0])),
-    ("receivers fall", |rows| rows.delegations.insert(0, [0, 2, 1, 0, 0])),
-    ("givers fall", |rows| rows.delegations.push([0, 2, 1, 0, 0])),
+    ("a delegation twice", |rows| rows.delegations.push([1, 2, 8, 0, 0, 0])),
+    ("a pair twice, lighter", |rows| rows.delegations.insert(1, [0, 1, 8, 4, 0, 0])),
+    ("a pair twice, under another need", |rows| rows.delegations.insert(1, [0, 1, 9, 0, 0, 0])),
+    ("receivers fall", |rows| rows.delegations.insert(0, [0, 2, 1, 0, 0, 0])),
+    ("givers fall", |rows| rows.delegations.push([0, 2, 1, 0, 0, 0])),
     ("65 subjects", |rows| enrolled(rows, 65)),
     ("256 subjects", |rows| enrolled(rows, 256)),
     ("257 subjects", |rows| enrolled(rows, 257)),
@@ -271,13 +309,17 @@ const UNFORMED: [(&str, fn(&mut Rows)); 41] = [
     ("one who receives has retired", |rows| rows.subjects[2] = [2, 0, 1]),
     ("one who gives has retired", |rows| {
         rows.subjects.push([3, 0, 1]);
-        rows.delegations.push([3, 2, 1, 0, 0]);
+        rows.delegations.push([3, 2, 1, 0, 0, 0]);
     }),
     ("one who has a mark has retired", |rows| rows.subjects.push([3, 1, 1])),
     ("one who has the highest mark has retired", |rows| rows.subjects.push([3, 32_768, 1])),
     ("retired is 2", |rows| rows.subjects.push([3, 0, 2])),
     ("retired is 256", |rows| rows.subjects.push([3, 0, 256])),
     ("retired is 4,294,967,295", |rows| rows.subjects.push([3, 0, 4_294_967_295])),
+    ("pass is 2", |rows| rows.delegations[0][5] = 2),
+    ("pass is 255", |rows| rows.delegations[1][5] = 255),
+    ("pass is 256", |rows| rows.delegations[1][5] = 256),
+    ("pass is 4,294,967,295", |rows| rows.delegations[1][5] = 4_294_967_295),
 ];
 
 fn enrolled(rows: &mut Rows, subjects: u32) {
@@ -312,7 +354,7 @@ pub fn unformed() -> Vec<(&'static str, Vec<u8>)> {
 /// The first so many of the pairs of 64 subjects, the owner's among them, all
 /// unlimited; read if they are at most 256.
 pub fn with_delegations(delegations: usize) -> Vec<u8> {
-    let pairs = (0..64).flat_map(|giver| (1..64).map(move |receiver| [giver, receiver, 255, 0, 0]));
+    let pairs = (0..64).flat_map(|giver| (1..64).map(move |receiver| [giver, receiver, 255, 0, 0, 0]));
     let rows = Rows {
         subjects: (0..64).map(|number| [number, 0, 0]).collect(),
         delegations: pairs.filter(|row| row[0] != row[1]).take(delegations).collect(),
@@ -328,13 +370,13 @@ pub fn unformed_and_malformed() -> Vec<Vec<u8>> {
     let order = with_column(&text, SUBJECT, 0, b"2");
     let many = with_delegations(257);
     vec![
-        with_line(&high, LAST, b"1 2  8 0 0\n"),
+        with_line(&high, LAST, b"1 2  8 0 0 0\n"),
         with_line(&high, LAST_SUBJECT, b"2 04 0\n"),
         with_line(&high, EMPTY, b" \n"),
-        with_line(&heavy, LAST, b"1 2 8 0 0"),
+        with_line(&heavy, LAST, b"1 2 8 0 0 0"),
         with_line(&heavy, OWNER, b"0 00 0\n"),
-        with_line(&order, OTHER_NAMES, b"giver receiver weight need\n"),
-        with_line(&order, LAST, b"1 2 8 0 0\r\n"),
+        with_line(&order, OTHER_NAMES, b"giver receiver weight need bar\n"),
+        with_line(&order, LAST, b"1 2 8 0 0 0\r\n"),
         with_column(&order, LAST, 4, b"4294967296"),
         [&many[..], b"\n"].concat(),
         many[..many.len() - 1].to_vec(),

@@ -1,6 +1,6 @@
 //! The cases that every implementation is compared on: block-level ones in
-//! five kinds, those of register files, orders, marks, retirements, slips, lists of calls,
-//! and call files.
+//! five kinds, those of register files, orders, marks, retirements, slips, pass-only
+//! delegations, lists of calls, and call files.
 
 pub mod bits;
 pub mod broken;
@@ -8,6 +8,7 @@ pub mod brought;
 pub mod callfiles;
 pub mod deep;
 pub mod drawnmarks;
+pub mod drawnpasses;
 pub mod drawnretires;
 pub mod drawnslips;
 pub mod examples;
@@ -23,6 +24,10 @@ pub mod marks;
 pub mod named;
 pub mod orderregisters;
 pub mod orders;
+pub mod passes;
+pub mod passfiles;
+pub mod passregisters;
+pub mod passslips;
 pub mod raises;
 pub mod refusals;
 pub mod registerfiles;
@@ -40,9 +45,9 @@ pub mod texts;
 pub mod unsupported;
 mod write;
 
-pub use write::{file_files, files, list_files, slip_files, write_all};
+pub use write::{files, lent_files, list_files, write_all};
 
-use second::block::{Delegation, Register};
+use second::block::{Delegation, Register, ORDINARY};
 use second::call::blank;
 use second::casefile::Case;
 use second::refusal::{Call, Passed};
@@ -107,7 +112,7 @@ pub fn register(marks: &[u16], grants: &[Grant]) -> Register {
     let mut register = Register { marks: marks.to_vec(), retired: 0, delegations: Vec::new() };
     for &(giver, receiver, weight, need, bar) in grants {
         if let Err(at) = register.place(giver as u32, receiver as u32) {
-            register.delegations.insert(at, Delegation { giver, receiver, weight, need, bar });
+            register.delegations.insert(at, Delegation { giver, receiver, weight, kind: ORDINARY, need, bar });
         }
     }
     register
@@ -133,6 +138,11 @@ pub fn enrol(marks: u32) -> Passed {
 
 pub fn grant(giver: u32, receiver: u32, weight: u32, need: u32, bar: u32) -> Passed {
     Passed { giver, receiver, weight, need, bar, ..blank(Call::Grant) }
+}
+
+/// A grant with a kind.
+pub fn grant_kind(of: Passed, kind: u32) -> Passed {
+    Passed { call: Call::GrantKind, kind, ..of }
 }
 
 pub fn revoke(by: u32, giver: u32, receiver: u32) -> Passed {

@@ -92,7 +92,7 @@ pub fn likely(random: &mut Random, call: Call, table: &Table, register: &Registe
 fn plausible(random: &mut Random, call: Call, table: &Table, register: &Register) -> Passed {
     let count = register.marks.len() as u32;
     let (giver, receiver) = match call {
-        Call::Grant => open_pair(random, table, register),
+        Call::Grant | Call::GrantKind => open_pair(random, table, register),
         _ => pair(random, register, call == Call::Reach),
     };
     let by = random.pick(&[0, giver, giver, another_subject(count, giver)]);
@@ -100,6 +100,10 @@ fn plausible(random: &mut Random, call: Call, table: &Table, register: &Register
         Call::Open => open(),
         Call::Enrol => enrol(random.pick(&[0, 1, 2, 3, 4, 5, 6, 7, 65_535])),
         Call::Grant => plausible_grant(random, table, register, giver, receiver),
+        Call::GrantKind => {
+            let of = plausible_grant(random, table, register, giver, receiver);
+            grant_kind(of, random.pick(&[0, 0, 0, 1, 1, 1, 1, 1, 1, 2]))
+        }
         Call::Revoke => revoke(by, giver, receiver),
         Call::Downgrade => {
             let present = register.standing(giver, receiver).map_or(3, |d| d.weight as u32);

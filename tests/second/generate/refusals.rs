@@ -65,6 +65,7 @@ const SUBJECTS: [u32; 7] = [1, 2, 3, 0, 9, 63, 64];
 const WEIGHTS: [u32; 4] = [1, 0, 255, 256];
 const MASKS: [(u32, u32); 4] = [(0, 0), (1, 3), (65_536, 0), (0, 4_294_967_295)];
 const BUFFERS: [u32; 2] = [126, 125];
+const KINDS: [u32; 3] = [0, 1, 2];
 const ORDER_BUFFERS: [u32; 3] = [128, 127, 129];
 
 pub fn candidates(call: Call) -> Vec<Passed> {
@@ -79,6 +80,7 @@ pub fn candidates(call: Call) -> Vec<Passed> {
         Call::BringOver => vec![],
         Call::SetMarks => pairs().flat_map(|(by, s)| [5, 65_536].map(|marks| set_marks(by, s, marks))).collect(),
         Call::Grant => pairs().flat_map(|(g, r)| grants(g, r)).collect(),
+        Call::GrantKind => pairs().flat_map(|(g, r)| grants(g, r)).flat_map(with_kinds).collect(),
         Call::Revoke => pairs().flat_map(|(g, r)| SUBJECTS.map(|by| revoke(by, g, r))).collect(),
         Call::Downgrade => pairs().flat_map(|(g, r)| SUBJECTS.map(|by| downgrades(by, g, r)).concat()).collect(),
     }
@@ -91,6 +93,10 @@ fn pairs() -> impl Iterator<Item = (u32, u32)> {
 fn grants(giver: u32, receiver: u32) -> Vec<Passed> {
     let with = |weight| MASKS.map(|(need, bar)| grant(giver, receiver, weight, need, bar));
     WEIGHTS.map(with).concat()
+}
+
+fn with_kinds(of: Passed) -> Vec<Passed> {
+    KINDS.map(|kind| grant_kind(of, kind)).to_vec()
 }
 
 fn downgrades(by: u32, giver: u32, receiver: u32) -> Vec<Passed> {

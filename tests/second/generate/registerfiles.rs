@@ -5,7 +5,7 @@ use super::*;
 use second::block::{decode, encode, BLOCK_LEN};
 use second::cut::settle;
 use second::engine::FAST;
-use second::filecase::{Asked, Bytes, FileCase};
+use second::lentcase::{Asked, Bytes, LentCase};
 use second::random::{random_register, random_table, Random, Shape};
 use second::refusal::takes_table;
 use second::regfile::{applying_to_read, file_text, LEAST_TEXT};
@@ -14,12 +14,12 @@ use second::table::{Table, OURS};
 use std::collections::BTreeSet;
 
 /// The length of a write's buffer, if nothing else is shown.
-const BUFFER: u32 = LEAST_TEXT as u32;
+pub const BUFFER: u32 = LEAST_TEXT as u32;
 
 /// Lengths of a write's buffer, too short and long enough.
 pub const BUFFERS: [u32; 6] = [0, 1, 8191, 8192, 8193, 16_384];
 
-pub fn cases() -> Vec<FileCase> {
+pub fn cases() -> Vec<LentCase> {
     let mut cases = Vec::new();
     cases.extend(round_trip(&Register::fresh()));
     cases.extend(round_trip(&example()));
@@ -40,12 +40,12 @@ pub fn cases() -> Vec<FileCase> {
 
 /// Files of registers in which some have retired, with every number in the column; and calls
 /// with retirements among them.
-fn retired() -> Vec<FileCase> {
+fn retired() -> Vec<LentCase> {
     let ends = retireregisters::without(retireregisters::wide(), &[1, 7, 8, 15, 16, 31, 32, 55, 56, 63]);
     let all = retireregisters::without(register(&[0, 1, 2, 3], &[]), &[1, 2, 3]);
     let full = [retireregisters::full_without_two(), retireregisters::some_without_one()];
     let registers = [vec![filetexts::gone(), ends, all], full.to_vec()].concat();
-    let mut cases: Vec<FileCase> = registers.iter().flat_map(round_trip).collect();
+    let mut cases: Vec<LentCase> = registers.iter().flat_map(round_trip).collect();
     cases.extend(filetexts::retired().iter().map(|text| read(&other_block(), text, b"")));
     let mut random = Random::new(0x5E9D);
     (0..6).for_each(|_| cases.extend(sequence(&mut random, 28, &RETIRING)));
@@ -59,31 +59,31 @@ const RETIRING: [Call; 12] = [
 ];
 
 /// A read of a file into a block, lent a table's text.
-fn read(block: &[u8], file: &[u8], table: &[u8]) -> FileCase {
-    let on = Bytes { file: file.to_vec(), table: table.to_vec(), block: block.to_vec() };
-    FileCase { asked: Asked::Read, on }
+pub fn read(block: &[u8], file: &[u8], table: &[u8]) -> LentCase {
+    let on = Bytes { lent: file.to_vec(), table: table.to_vec(), block: block.to_vec() };
+    LentCase { asked: Asked::Read, on }
 }
 
 /// A write of a block, where no file is left before.
-fn write(block: &[u8], buffer: u32) -> FileCase {
+fn write(block: &[u8], buffer: u32) -> LentCase {
     let on = Bytes { block: block.to_vec(), ..Bytes::default() };
-    FileCase { asked: Asked::Write(buffer), on }
+    LentCase { asked: Asked::Write(buffer), on }
 }
 
 /// A block that is not well formed, for reads to replace.
-fn other_block() -> Vec<u8> {
+pub fn other_block() -> Vec<u8> {
     let mut block = encode(&Register::fresh());
     block[..4].copy_from_slice(&[9, 7, 255, 255]);
     block
 }
 
 /// The register's file is written and read back into another block.
-fn round_trip(register: &Register) -> [FileCase; 2] {
+pub fn round_trip(register: &Register) -> [LentCase; 2] {
     [write(&encode(register), BUFFER), read(&other_block(), &file_text(register), b"")]
 }
 
 /// Files of another form, files that are no well-formed register's, and both at once.
-fn refused_texts() -> Vec<FileCase> {
+fn refused_texts() -> Vec<LentCase> {
     let block = encode(&register(&[0, 1], &[(0, 1, 3, 0, 0)]));
     let mut texts = filetexts::malformed();
     texts.extend(filetexts::unformed().into_iter().map(|(_, text)| text));
@@ -93,7 +93,7 @@ fn refused_texts() -> Vec<FileCase> {
 
 /// Numbers at and over every limit, and as many subjects and delegations as there
 /// can be.
-fn numbers() -> Vec<FileCase> {
+fn numbers() -> Vec<LentCase> {
     let mut texts = filetexts::numbers();
     texts.extend(filetexts::wrapped());
     texts.extend([63, 64].map(filetexts::with_subjects));
@@ -116,7 +116,7 @@ fn candidates() -> Vec<Vec<u8>> {
 
 /// Every file with every kind of table, and with each a block of another length for
 /// every set of refusals that apply at once.
-fn at_once() -> Vec<FileCase> {
+fn at_once() -> Vec<LentCase> {
     let [malformed, broken] = texts::refused_at_the_end();
     let tables = [Vec::new(), texts::by_two().text(), malformed, broken, b"\n".to_vec()];
     let mut cases = Vec::new();
@@ -144,7 +144,7 @@ fn sized(length: usize) -> Vec<u8> {
 }
 
 /// Reads into blocks of any content, accepted and refused.
-fn any_content() -> Vec<FileCase> {
+fn any_content() -> Vec<LentCase> {
     let mut random = Random::new(0xA4B1);
     let drawn: Vec<u8> = (0..BLOCK_LEN).map(|_| random.next() as u8).collect();
     let mut last = vec![0; BLOCK_LEN];
@@ -159,7 +159,7 @@ fn any_content() -> Vec<FileCase> {
 
 /// Every length of the buffer, blocks that are not well formed and blocks of another
 /// length, also where the buffer is too short.
-fn writes() -> Vec<FileCase> {
+fn writes() -> Vec<LentCase> {
     let mut cases = Vec::new();
     for block in [encode(&example()), encode(&longest()), other_block()] {
         cases.extend(BUFFERS.map(|buffer| write(&block, buffer)));
@@ -169,25 +169,25 @@ fn writes() -> Vec<FileCase> {
     }
     cases.extend(broken::all().iter().map(|broken| write(&broken.block, BUFFER)));
     let mut again = write(&encode(&example()), BUFFER);
-    again.on.file = file_text(&example());
+    again.on.lent = file_text(&example());
     cases.push(again);
     cases
 }
 
 /// Full registers, the longest files, and these with a line too many.
-fn full() -> Vec<FileCase> {
+fn full() -> Vec<LentCase> {
     let mut cases = Vec::new();
     for register in [full::all_enrolled(), full::some_enrolled(), longest(), longest_supported()] {
         cases.extend(round_trip(&register));
     }
     let text = file_text(&longest_supported());
-    let more = [&text[..], b"63 62 255 32768 16384\n"].concat();
+    let more = [&text[..], b"63 62 255 32768 16384 0\n"].concat();
     cases.extend([&more[..], &text[..text.len() - 1]].map(|text| read(&other_block(), text, b"")));
     cases
 }
 
 /// The registers of the tables' cases and long chains under every table that passes.
-fn under_tables() -> Vec<FileCase> {
+fn under_tables() -> Vec<LentCase> {
     let mut registers = vec![example(), register(&[0; 5], &tables::EXAMPLE), tables::ends()];
     registers.extend([0, 4, 252].map(tables::two_ways));
     registers.push(register(&[0; 3], &[(0, 1, 9, 0, 0), (1, 2, 7, 0, 0)]));
@@ -207,7 +207,7 @@ fn under_tables() -> Vec<FileCase> {
 
 /// Registers whose delegations stand at their reach, each with one of them a weight
 /// heavier or a subject without its marks.
-fn at_the_reach() -> Vec<FileCase> {
+fn at_the_reach() -> Vec<LentCase> {
     let mut registers = vec![raises::with_room(), raises::above_reach(), example()];
     registers.extend(examples::proved().iter().map(of_example));
     let mut cases = Vec::new();
@@ -254,7 +254,7 @@ fn registers_without_marks() -> Vec<Register> {
 }
 
 /// Files of drawn registers with one byte changed, taken out or put in.
-fn spoiled() -> Vec<FileCase> {
+fn spoiled() -> Vec<LentCase> {
     let mut random = Random::new(0x5B01);
     let one = |_| {
         let register = small(&mut random);
@@ -295,7 +295,7 @@ pub fn small(random: &mut Random) -> Register {
 
 /// Calls from a fresh register on, with writes and reads among them: each is made on
 /// what the one before left.
-fn sequences() -> Vec<FileCase> {
+fn sequences() -> Vec<LentCase> {
     let mut random = Random::new(0x5E9C);
     let mut cases = Vec::new();
     for _ in 0..6 {
@@ -304,9 +304,9 @@ fn sequences() -> Vec<FileCase> {
     cases
 }
 
-fn sequence(random: &mut Random, length: usize, calls: &[Call]) -> Vec<FileCase> {
+fn sequence(random: &mut Random, length: usize, calls: &[Call]) -> Vec<LentCase> {
     let fresh = Bytes { block: encode(&Register::fresh()), ..Bytes::default() };
-    let mut cases = vec![FileCase { asked: Asked::Call(open()), on: fresh.clone() }];
+    let mut cases = vec![LentCase { asked: Asked::Call(open()), on: fresh.clone() }];
     let mut left = fresh;
     let table = random_table(random).text();
     for at in 0..length {
@@ -317,20 +317,20 @@ fn sequence(random: &mut Random, length: usize, calls: &[Call]) -> Vec<FileCase>
     cases
 }
 
-fn enrolment(random: &mut Random, left: &Bytes) -> FileCase {
+fn enrolment(random: &mut Random, left: &Bytes) -> LentCase {
     called(enrol(random.below(8)), b"", left)
 }
 
-fn called(n: Passed, table: &[u8], left: &Bytes) -> FileCase {
-    FileCase { asked: Asked::Call(n), on: Bytes { table: table.to_vec(), ..left.clone() } }
+fn called(n: Passed, table: &[u8], left: &Bytes) -> LentCase {
+    LentCase { asked: Asked::Call(n), on: Bytes { table: table.to_vec(), ..left.clone() } }
 }
 
 /// A write, a read of what was written before or of another file, or another call.
-fn drawn(random: &mut Random, calls: &[Call], table: &[u8], left: &Bytes) -> FileCase {
+fn drawn(random: &mut Random, calls: &[Call], table: &[u8], left: &Bytes) -> LentCase {
     let lent = if random.chance(20) { table } else { b"" };
     match random.below(12) {
-        0 | 1 => FileCase { asked: Asked::Write(BUFFER), on: left.clone() },
-        2 => read(&left.block, &left.file, lent),
+        0 | 1 => LentCase { asked: Asked::Write(BUFFER), on: left.clone() },
+        2 => read(&left.block, &left.lent, lent),
         3 | 4 => {
             let file = file_text(&small(random));
             let spoilt = random.chance(40);
@@ -341,7 +341,7 @@ fn drawn(random: &mut Random, calls: &[Call], table: &[u8], left: &Bytes) -> Fil
 }
 
 /// Another call; one that takes no table is lent none.
-fn likely(random: &mut Random, calls: &[Call], table: &[u8], left: &Bytes) -> FileCase {
+fn likely(random: &mut Random, calls: &[Call], table: &[u8], left: &Bytes) -> LentCase {
     let call = random.pick(calls);
     let lent = if takes_table(call) { table } else { b"" };
     let register = decode(&left.block).unwrap_or(Register::fresh());
@@ -354,13 +354,13 @@ fn likely(random: &mut Random, calls: &[Call], table: &[u8], left: &Bytes) -> Fi
 const MOST_RECORDS: usize = 24;
 const PASSED_OVER: usize = 28;
 
-fn of_other_kinds() -> Vec<FileCase> {
+fn of_other_kinds() -> Vec<LentCase> {
     let registers = registers_of_other_kinds();
     let small = registers.iter().filter(|register| register.delegations.len() <= MOST_RECORDS);
     small.step_by(PASSED_OVER).flat_map(round_trip).collect()
 }
 
-/// Every register of the kinds of cases before this one, once.
+/// Every register of the kinds of cases before this one, once, if all it holds is ordinary.
 pub fn registers_of_other_kinds() -> Vec<Register> {
     let kinds = KINDS.iter().filter(|kind| ["base", "reach", "cut", "table", "raise"].contains(&kind.name));
     let mut seen = BTreeSet::new();
@@ -368,7 +368,7 @@ pub fn registers_of_other_kinds() -> Vec<Register> {
     let cases = kinds.flat_map(|kind| write::with_blocks(&super::cases(kind)));
     for block in cases.filter_map(|case| case.block) {
         if seen.insert(block.clone()) {
-            registers.extend(decode(&block));
+            registers.extend(decode(&block).filter(|register| register.delegations.iter().all(|d| d.kind == ORDINARY)));
         }
     }
     registers

@@ -32,14 +32,12 @@ const START: u16 = 128;
 const LAST: u16 = 256;
 
 /// Revoking the first link.
-pub const FIRST_CUT: Passed =
-    Passed { call: Call::Revoke, by: 0, giver: 1, receiver: 12, weight: 0, need: 0, bar: 0 };
+pub const FIRST_CUT: Passed = Passed { giver: 1, receiver: 12, ..blank(Call::Revoke) };
 
 /// Subject 12 loses the mark START, so that the first link has no chain: round 1 drops
 /// it, and all else goes a round later than after the first cut.
-pub const FIRST_MARKS: Passed = Passed {
-    call: Call::SetMarks, by: 0, giver: 0, receiver: 12, weight: 0, need: 12 | SECOND_SIDE as u32, bar: 0,
-};
+pub const FIRST_MARKS: Passed =
+    Passed { receiver: 12, need: 12 | SECOND_SIDE as u32, ..blank(Call::SetMarks) };
 
 /// The marks of subjects 1 to 23.
 pub fn marks() -> Vec<u16> {

@@ -5,11 +5,11 @@ use super::slipregisters::*;
 use super::*;
 use second::block::{encode, ZERO_AT};
 use second::engine::FAST;
+use second::lentcase::{Asked, Bytes, LentCase};
 use second::slip::{applying, HandedIn, BY_AT, GIVER_AT, SLIP_LEN};
-use second::slipcase::{Asked, Bytes, SlipCase};
 use std::collections::BTreeSet;
 
-pub fn cases() -> Vec<SlipCase> {
+pub fn cases() -> Vec<LentCase> {
     let [malformed, broken] = texts::refused_at_the_end();
     let mut cases = Vec::new();
     for text in [Vec::new(), malformed, broken] {
@@ -23,7 +23,7 @@ pub fn cases() -> Vec<SlipCase> {
 /// more, the first.
 pub fn applying_to_cut(n: &Passed, on: &Bytes) -> Vec<u32> {
     let mut numbers = second::refusal::applying(&FAST, n, &on.table, &on.block, 0);
-    if on.slip.len() != SLIP_LEN && numbers.first() != Some(&1) {
+    if on.lent.len() != SLIP_LEN && numbers.first() != Some(&1) {
         numbers.insert(0, 1);
     }
     numbers
@@ -31,11 +31,11 @@ pub fn applying_to_cut(n: &Passed, on: &Bytes) -> Vec<u32> {
 
 /// The same of taking back.
 pub fn applying_to_take_back(by: u32, on: &Bytes) -> Vec<u32> {
-    applying(&HandedIn { engine: &FAST, block: &on.block, by, text: &on.table, slip: &on.slip })
+    applying(&HandedIn { engine: &FAST, block: &on.block, by, text: &on.table, slip: &on.lent })
 }
 
 /// Whether a set of refusals that apply at once has one, with the first, that is new.
-fn is_new(seen: &mut BTreeSet<(u32, u32)>, numbers: &[u32]) -> bool {
+pub fn is_new(seen: &mut BTreeSet<(u32, u32)>, numbers: &[u32]) -> bool {
     let first = numbers.first().copied().unwrap_or(0);
     let others = if numbers.len() > 1 { &numbers[1..] } else { numbers };
     let new: Vec<bool> = others.iter().map(|&other| seen.insert((first, other))).collect();
@@ -43,15 +43,15 @@ fn is_new(seen: &mut BTreeSet<(u32, u32)>, numbers: &[u32]) -> bool {
 }
 
 /// The slip holds another cut.
-fn cuts(call: Call, text: &[u8]) -> Vec<SlipCase> {
+fn cuts(call: Call, text: &[u8]) -> Vec<LentCase> {
     let mut sequence = Sequence::new(&example());
     sequence.cut(EXAMPLE_CUT);
     sequence.now.table = text.to_vec();
-    let kept = sequence.now.slip.clone();
+    let kept = sequence.now.lent.clone();
     let mut seen = BTreeSet::new();
     for (block, shorter) in blocks().into_iter().flat_map(|block| [(block.clone(), 0), (block, 1)]) {
         sequence.now.block = block;
-        sequence.now.slip = kept[..SLIP_LEN - shorter].to_vec();
+        sequence.now.lent = kept[..SLIP_LEN - shorter].to_vec();
         for n in refusals::candidates(call) {
             if is_new(&mut seen, &applying_to_cut(&n, &sequence.now)) {
                 sequence.cut(n);
@@ -73,7 +73,7 @@ const CALLERS: [u32; 8] = [0, 1, 2, 3, 9, 63, 64, 4_294_967_295];
 
 /// On registers in which 3 has retired; a slip that names 3, 9, 63 or 64 as its giver is among
 /// the candidates.
-fn taken_back(text: &[u8]) -> Vec<SlipCase> {
+fn taken_back(text: &[u8]) -> Vec<LentCase> {
     let mut sequence = Sequence::new(&named::few());
     sequence.cut(revoke(1, 1, 2));
     let made = sequence.now.clone();
@@ -85,8 +85,8 @@ fn taken_back(text: &[u8]) -> Vec<SlipCase> {
     let blocks = [made.block.clone(), unformed, others, other, made.block[..2180].to_vec()];
     for block in blocks {
         let mut seen = BTreeSet::new();
-        for (slip, &by) in slips(&made.slip).iter().flat_map(|slip| CALLERS.iter().map(move |by| (slip, by))) {
-            let on = Bytes { slip: slip.clone(), table: text.to_vec(), block: block.clone() };
+        for (slip, &by) in slips(&made.lent).iter().flat_map(|slip| CALLERS.iter().map(move |by| (slip, by))) {
+            let on = Bytes { lent: slip.clone(), table: text.to_vec(), block: block.clone() };
             if is_new(&mut seen, &applying_to_take_back(by, &on)) {
                 sequence.now = on;
                 sequence.ask(Asked::TakeBack(by));

@@ -1,10 +1,10 @@
 //! Registers in which cuts are taken back, and cases that follow one another.
 
 use super::*;
-use second::block::encode;
+use second::block::{encode, ORDINARY};
 use second::engine::FAST;
+use second::lentcase::{Asked, Bytes, LentCase};
 use second::slip::{slip_of, SLIP_LEN};
-use second::slipcase::{Asked, Bytes, SlipCase};
 
 /// P2's register.
 pub fn example() -> Register {
@@ -13,8 +13,7 @@ pub fn example() -> Register {
 }
 
 /// The cut of the example: 3-4 falls to 1 with it.
-pub const EXAMPLE_CUT: Passed =
-    Passed { call: Call::Downgrade, by: 1, giver: 1, receiver: 3, weight: 1, need: 0, bar: 0 };
+pub const EXAMPLE_CUT: Passed = Passed { by: 1, giver: 1, receiver: 3, weight: 1, ..blank(Call::Downgrade) };
 
 /// The registers of which every delegation is cut: supported ones and others, some with a
 /// subject that has retired.
@@ -30,7 +29,7 @@ pub fn small() -> Vec<Register> {
 /// A register with one delegation more, or one that is heavier.
 pub fn with(register: &Register, (giver, receiver, weight, need, bar): Grant) -> Register {
     let mut changed = register.clone();
-    let new = Delegation { giver, receiver, weight, need, bar };
+    let new = Delegation { giver, receiver, weight, kind: ORDINARY, need, bar };
     match changed.place(giver as u32, receiver as u32) {
         Ok(at) => changed.delegations[at] = new,
         Err(at) => changed.delegations.insert(at, new),
@@ -45,20 +44,20 @@ pub fn unwritten(n: &Passed, before: &Register, after: &Register) -> Vec<u8> {
 
 /// Cases, each on the bytes that the one before left unless they are changed.
 pub struct Sequence {
-    pub cases: Vec<SlipCase>,
+    pub cases: Vec<LentCase>,
     pub now: Bytes,
 }
 
 impl Sequence {
     /// On a register, with a slip of zeros.
     pub fn new(register: &Register) -> Sequence {
-        let now = Bytes { slip: vec![0; SLIP_LEN], table: Vec::new(), block: encode(register) };
+        let now = Bytes { lent: vec![0; SLIP_LEN], table: Vec::new(), block: encode(register) };
         Sequence { cases: Vec::new(), now }
     }
 
     /// Makes a call on the bytes that are there.
     pub fn ask(&mut self, asked: Asked) {
-        let case = SlipCase { asked, on: self.now.clone() };
+        let case = LentCase { asked, on: self.now.clone() };
         self.now = case.made(&FAST).1;
         self.cases.push(case);
     }
@@ -79,14 +78,14 @@ impl Sequence {
     /// are then as they were.
     pub fn back_with(&mut self, by: u32, bytes: &[(usize, u8)]) {
         let kept = self.now.clone();
-        bytes.iter().for_each(|&(at, byte)| self.now.slip[at] = byte);
+        bytes.iter().for_each(|&(at, byte)| self.now.lent[at] = byte);
         self.back(by);
         self.now = kept;
     }
 
     /// Hands in another slip.
     pub fn back_by_slip(&mut self, by: u32, slip: &[u8]) {
-        self.now.slip = slip.to_vec();
+        self.now.lent = slip.to_vec();
         self.back(by);
     }
 }

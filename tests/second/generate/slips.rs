@@ -4,8 +4,8 @@ use super::slipregisters::*;
 use super::*;
 use second::block::{encode, BLOCK_LEN, MARKS_AT, RECORDS_AT, RECORD_LEN, RETIRED_AT};
 use second::casefile::UNWRITTEN;
+use second::lentcase::{Asked, LentCase};
 use second::slip::{slip_of, AFTER_AT, BY_AT, CALL_AT, GIVER_AT, RECEIVER_AT, SLIP_LEN, WEIGHT_AT};
-use second::slipcase::{Asked, SlipCase};
 use second::table::OURS;
 
 /// Other lengths of a slip.
@@ -14,7 +14,7 @@ pub const SLIP_LENGTHS: [usize; 9] = [0, 1, 5, 2188, 2193, 4376, 4380, 4382, 876
 /// What each of the five bytes is set to.
 pub const BYTES: [u8; 14] = [0, 1, 2, 3, 4, 5, 7, 9, 63, 64, 65, 128, 254, 255];
 
-pub fn cases() -> Vec<SlipCase> {
+pub fn cases() -> Vec<LentCase> {
     let mut cases = example_cases();
     cases.extend(any_content());
     cases.extend(five_bytes(&example(), EXAMPLE_CUT));
@@ -37,7 +37,7 @@ pub fn cases() -> Vec<SlipCase> {
 }
 
 /// The example, and its slip with another by and another giver.
-fn example_cases() -> Vec<SlipCase> {
+fn example_cases() -> Vec<LentCase> {
     let mut sequence = Sequence::new(&example());
     sequence.cut(EXAMPLE_CUT);
     (0..6).for_each(|by| sequence.back_with(by, &[]));
@@ -51,16 +51,16 @@ fn example_cases() -> Vec<SlipCase> {
 }
 
 /// Whatever the slip's buffer held: all 4,381 bytes are written, and by a refused cut none.
-fn any_content() -> Vec<SlipCase> {
+fn any_content() -> Vec<LentCase> {
     let mut sequence = Sequence::new(&example());
-    sequence.now.slip = vec![UNWRITTEN; SLIP_LEN];
+    sequence.now.lent = vec![UNWRITTEN; SLIP_LEN];
     let refused = [revoke(64, 1, 3), revoke(0, 1, 1), revoke(0, 3, 1), revoke(2, 1, 3), downgrade(1, 1, 3, 4)];
     refused.iter().for_each(|&n| sequence.cut(n));
     sequence.cut(EXAMPLE_CUT);
     refused.iter().for_each(|&n| sequence.cut(n));
     sequence.cut(revoke(0, 0, 2));
     sequence.back(0);
-    sequence.now.slip = vec![255; SLIP_LEN];
+    sequence.now.lent = vec![255; SLIP_LEN];
     sequence.back(0);
     sequence.cut(revoke(3, 3, 4));
     sequence.back(3);
@@ -69,7 +69,7 @@ fn any_content() -> Vec<SlipCase> {
 
 /// Every delegation is revoked and downgraded, and the cut is taken back by the same caller;
 /// once by another one before.
-fn every_cut((place, register): (usize, &Register)) -> Vec<SlipCase> {
+pub fn every_cut((place, register): (usize, &Register)) -> Vec<LentCase> {
     let mut sequence = Sequence::new(register);
     for (at, d) in register.delegations.iter().enumerate() {
         let (giver, receiver) = (d.giver as u32, d.receiver as u32);
@@ -85,7 +85,7 @@ fn every_cut((place, register): (usize, &Register)) -> Vec<SlipCase> {
 }
 
 /// Each of the five bytes with many values, by the owner and by the giver.
-fn five_bytes(register: &Register, n: Passed) -> Vec<SlipCase> {
+fn five_bytes(register: &Register, n: Passed) -> Vec<LentCase> {
     let mut sequence = Sequence::new(register);
     sequence.cut(n);
     for (at, byte) in (CALL_AT..AFTER_AT).flat_map(|at| BYTES.map(|byte| (at, byte))) {
@@ -106,14 +106,14 @@ fn places(register: &Register) -> Vec<usize> {
 }
 
 /// One byte is another in the slip's before, in its after, in the register, or in the last two.
-fn one_byte() -> Vec<SlipCase> {
+fn one_byte() -> Vec<LentCase> {
     let mut sequence = Sequence::new(&example());
     sequence.cut(EXAMPLE_CUT);
     let made = sequence.now.clone();
     for (place, at) in places(&example()).into_iter().enumerate() {
         let (by, more) = (place as u32 % 2, [1, 2, 4][place % 3]);
         let byte = |of: &[u8]| of[at] ^ more;
-        sequence.back_with(by, &[(at, byte(&made.slip))]);
+        sequence.back_with(by, &[(at, byte(&made.lent))]);
         sequence.back_with(by, &[(AFTER_AT + at, byte(&made.block))]);
         sequence.now.block[at] = byte(&made.block);
         sequence.back_with(by, &[]);
@@ -125,14 +125,14 @@ fn one_byte() -> Vec<SlipCase> {
 }
 
 /// A slip, and a block, of another length, with each of the three calls.
-fn lengths() -> Vec<SlipCase> {
+fn lengths() -> Vec<LentCase> {
     let mut sequence = Sequence::new(&example());
     sequence.cut(EXAMPLE_CUT);
     let made = sequence.now.clone();
     let asked = [Asked::Cut(revoke(0, 0, 1)), Asked::Cut(downgrade(0, 0, 1, 4)), Asked::TakeBack(1)];
     for (length, asked) in SLIP_LENGTHS.iter().flat_map(|&length| asked.map(|asked| (length, asked))) {
         sequence.now = made.clone();
-        sequence.now.slip.resize(length, 0);
+        sequence.now.lent.resize(length, 0);
         sequence.ask(asked);
     }
     for (length, asked) in limits::LENGTHS.iter().flat_map(|&length| asked.map(|asked| (length, asked))) {
@@ -145,7 +145,7 @@ fn lengths() -> Vec<SlipCase> {
 
 /// Calls that change the register between the cut and its being taken back, and calls that
 /// change nothing.
-fn in_between() -> Vec<SlipCase> {
+fn in_between() -> Vec<LentCase> {
     let changing = [
         enrol(0), grant(0, 4, 1, 0, 0), grant(2, 4, 1, 4, 2), grant(0, 1, 6, 0, 0), revoke(0, 0, 2), revoke(3, 3, 4),
         downgrade(0, 0, 1, 4), downgrade(0, 1, 3, 0), set_marks(0, 3, 1), retire(0, 4), retire(0, 1), open(),
@@ -172,7 +172,7 @@ fn in_between() -> Vec<SlipCase> {
 }
 
 /// Two cuts, taken back in reverse order and in the same order.
-fn two_cuts() -> Vec<SlipCase> {
+fn two_cuts() -> Vec<LentCase> {
     let pairs = [
         [EXAMPLE_CUT, revoke(0, 0, 2)], [revoke(0, 0, 2), EXAMPLE_CUT], [EXAMPLE_CUT, revoke(1, 1, 3)],
         [revoke(3, 3, 4), revoke(0, 0, 1)], [downgrade(0, 0, 1, 3), downgrade(0, 0, 1, 2)],
@@ -181,9 +181,9 @@ fn two_cuts() -> Vec<SlipCase> {
     let mut sequence = Sequence::new(&example());
     for [first, second] in pairs {
         sequence.cut(first);
-        let slip = sequence.now.slip.clone();
+        let slip = sequence.now.lent.clone();
         sequence.cut(second);
-        let other = sequence.now.slip.clone();
+        let other = sequence.now.lent.clone();
         sequence.back_by_slip(first.by, &slip);
         sequence.back_by_slip(second.by, &other);
         sequence.back_by_slip(first.by, &slip);
@@ -194,7 +194,7 @@ fn two_cuts() -> Vec<SlipCase> {
 
 /// A cut after a restore, the same or another one, is taken back again; and calls go on from
 /// the restored block.
-fn cut_again() -> Vec<SlipCase> {
+fn cut_again() -> Vec<LentCase> {
     let mut sequence = Sequence::new(&example());
     for n in [EXAMPLE_CUT, EXAMPLE_CUT, revoke(0, 1, 3), downgrade(0, 1, 3, 3), EXAMPLE_CUT] {
         sequence.cut(n);
@@ -245,7 +245,7 @@ pub fn consistent() -> Vec<(u32, Register, Vec<u8>)> {
 }
 
 /// They are accepted, and the next call that runs rounds settles what they brought.
-fn unwritten_slips() -> Vec<SlipCase> {
+fn unwritten_slips() -> Vec<LentCase> {
     let mut sequence = Sequence::new(&example());
     for (by, register, slip) in consistent() {
         sequence.now.block = encode(&register);
@@ -260,7 +260,7 @@ fn unwritten_slips() -> Vec<SlipCase> {
 
 /// Slips that are nearly so: the before has other subjects, marks or retired bits, a heavier
 /// delegation that nothing lowers, one that stays, or too few; or the cut is refused.
-fn inconsistent_slips() -> Vec<SlipCase> {
+fn inconsistent_slips() -> Vec<LentCase> {
     let now = Register { marks: vec![0, 1, 2, 0, 0, 1], ..example() };
     let own = with(&now, (5, 1, 9, 0, 0));
     let marked = |marks: [u16; 6]| Register { marks: marks.to_vec(), ..own.clone() };
@@ -284,7 +284,7 @@ fn inconsistent_slips() -> Vec<SlipCase> {
 }
 
 /// The before has other retired bits than the after.
-fn with_other_bits() -> Vec<SlipCase> {
+fn with_other_bits() -> Vec<LentCase> {
     let without = |subjects: &[u32]| retireregisters::without(register(&[0, 1, 2, 0, 0, 0], &[]), subjects);
     let now = without(&[5]);
     let mut sequence = Sequence::new(&now);
@@ -298,7 +298,7 @@ fn with_other_bits() -> Vec<SlipCase> {
 /// Retired callers and callers who are not enrolled; the owner takes the giver's cut back and
 /// the giver the owner's; by, giver and receiver on the slip who have retired or are not
 /// enrolled.
-fn other_callers() -> Vec<SlipCase> {
+fn other_callers() -> Vec<LentCase> {
     let mut sequence = Sequence::new(&named::few());
     for (by, giver, receiver) in [(0, 1, 2), (1, 1, 2), (0, 0, 4), (4, 4, 1)] {
         sequence.cut(revoke(by, giver, receiver));
@@ -316,7 +316,7 @@ fn other_callers() -> Vec<SlipCase> {
 }
 
 /// Each rule of a block broken in the slip's before, and in the register and the slip's after.
-fn unformed() -> Vec<SlipCase> {
+fn unformed() -> Vec<LentCase> {
     let valid = broken::valid();
     let mut sequence = Sequence::new(&valid);
     let n = revoke(0, 0, 1);
@@ -329,13 +329,13 @@ fn unformed() -> Vec<SlipCase> {
         sequence.back_by_slip(0, &slip_of(&n, &encode(&valid), &broken.block));
         sequence.now.block = made.block.clone();
     }
-    sequence.back_by_slip(0, &made.slip);
+    sequence.back_by_slip(0, &made.lent);
     sequence.cases
 }
 
 /// Cuts under other tables, taken back under ours, under another one and under the same. Ours
 /// is lent as an empty text and written out.
-fn under_tables() -> Vec<SlipCase> {
+fn under_tables() -> Vec<LentCase> {
     let texts = [OURS.text(), texts::by_two().text(), texts::half().text(), texts::level().text()];
     let registers = [tables::two_ways(4), tables::ends(), example(), markregisters::by_table()];
     let mut sequence = Sequence::new(&example());
@@ -361,7 +361,7 @@ fn under_tables() -> Vec<SlipCase> {
 }
 
 /// A cut without a text is taken back with ours written out, and the other way round.
-fn ours_as_a_text() -> Vec<SlipCase> {
+fn ours_as_a_text() -> Vec<LentCase> {
     let mut sequence = Sequence::new(&example());
     for texts in [[Vec::new(), OURS.text()], [OURS.text(), Vec::new()]] {
         sequence.now.table = texts[0].clone();
@@ -373,7 +373,7 @@ fn ours_as_a_text() -> Vec<SlipCase> {
 }
 
 /// Full registers, and cuts of hundreds of rounds.
-fn large() -> Vec<SlipCase> {
+fn large() -> Vec<LentCase> {
     let cuts = [
         (full::all_enrolled(), revoke(0, 0, 1)), (full::all_enrolled(), downgrade(0, 0, 63, 0)),
         (full::some_enrolled(), revoke(0, 0, 19)), (rounds::built(), rounds::FIRST_CUT),

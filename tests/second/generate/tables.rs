@@ -31,7 +31,7 @@ pub fn lent(text: &[u8], cases: impl IntoIterator<Item = Case>) -> Vec<Case> {
 pub const EXAMPLE: [Grant; 4] = [(0, 1, 9, 0, 0), (1, 2, 8, 0, 0), (2, 3, 6, 0, 0), (0, 4, 1, 0, 0)];
 
 /// The cut that the example makes under both tables.
-pub const EXAMPLE_CUT: Passed = Passed { call: Call::Revoke, by: 0, giver: 0, receiver: 4, weight: 0, need: 0, bar: 0 };
+pub const EXAMPLE_CUT: Passed = Passed { receiver: 4, ..blank(Call::Revoke) };
 
 /// The cut of the example under our table, and under the one that falls by two.
 fn example() -> Vec<Case> {

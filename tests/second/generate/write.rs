@@ -1,12 +1,11 @@
 //! Writes the cases: files of at most 65,536 bytes, an index and the counts.
 
-use super::{callfiles, cases, listfiles, marks, orders, registerfiles, retires, slips, Call, Kind, KINDS};
+use super::{callfiles, cases, listfiles, marks, orders, passes, registerfiles, retires, slips, Call, Kind, KINDS};
 use second::callfile::{print, MOST_INPUT};
 use second::casefile::{case_line, expected_line, Case};
 use second::engine::FAST;
-use second::filecase::{self, FileCase};
+use second::lentcase::{self, LentCase};
 use second::listfile::{expected_lines, list_line, List};
-use second::slipcase::{self, SlipCase};
 use std::fs;
 use std::io;
 use std::path::Path;
@@ -18,72 +17,58 @@ pub struct File {
     pub expected: String,
 }
 
+/// A line of a file: after the one before it, as the first, and what is expected of it.
+struct Line {
+    after: String,
+    first: String,
+    expected: String,
+}
+
 /// Distributes cases over files. A text and a block that are already there are
 /// written `=`.
 pub fn files(cases: &[Case]) -> Vec<File> {
-    let mut files: Vec<File> = Vec::new();
     let (mut text, mut current) = (None, Vec::new());
-    for case in cases {
+    distributed(cases.iter().map(|case| {
         let block = case.block.clone().unwrap_or_else(|| current.clone());
         let whole = Case { block: Some(block), ..case.clone() };
         let same = whole.block.as_deref() == Some(&current[..]);
         let short = if same { Case { block: None, ..whole.clone() } } else { whole.clone() };
-        let line = case_line(&short, text);
-        let expected = expected_line(&FAST, &whole, &mut current);
-        match files.last_mut() {
-            Some(file) if file.holds(&line, &expected) => file.add(&line, &expected),
-            _ => files.push(File { cases: case_line(&whole, None), expected }),
-        }
+        let after = case_line(&short, text);
         text = case.text.as_deref();
-    }
-    files
+        Line { after, first: case_line(&whole, None), expected: expected_line(&FAST, &whole, &mut current) }
+    }))
 }
 
-/// Distributes cases of the kind `file` over files. Bytes that are already there are
-/// written `=`.
-pub fn file_files(cases: &[FileCase]) -> Vec<File> {
-    let mut files: Vec<File> = Vec::new();
+/// Distributes cases of the kinds `file`, `slip` and `pass` over files. Bytes that are already
+/// there are written `=`.
+pub fn lent_files(cases: &[LentCase]) -> Vec<File> {
     let mut left = None;
-    for case in cases {
-        let line = filecase::case_line(case, left.as_ref());
-        let (expected, after) = filecase::expected_line(&FAST, case);
-        match files.last_mut() {
-            Some(file) if file.holds(&line, &expected) => file.add(&line, &expected),
-            _ => files.push(File { cases: filecase::case_line(case, None), expected }),
-        }
-        left = Some(after);
-    }
-    files
-}
-
-/// Distributes cases of the kind `slip` over files. Bytes that are already there are
-/// written `=`.
-pub fn slip_files(cases: &[SlipCase]) -> Vec<File> {
-    let mut files: Vec<File> = Vec::new();
-    let mut left = None;
-    for case in cases {
-        let line = slipcase::case_line(case, left.as_ref());
-        let (expected, after) = slipcase::expected_line(&FAST, case);
-        match files.last_mut() {
-            Some(file) if file.holds(&line, &expected) => file.add(&line, &expected),
-            _ => files.push(File { cases: slipcase::case_line(case, None), expected }),
-        }
-        left = Some(after);
-    }
-    files
+    distributed(cases.iter().map(|case| {
+        let after = lentcase::case_line(case, left.as_ref());
+        let (expected, leaves) = lentcase::expected_line(&FAST, case);
+        left = Some(leaves);
+        Line { after, first: lentcase::case_line(case, None), expected }
+    }))
 }
 
 /// Distributes lists over files. Texts that are already there are written `=`.
 pub fn list_files(lists: &[List]) -> Vec<File> {
-    let mut files: Vec<File> = Vec::new();
     let mut texts = None;
-    for list in lists {
-        let (line, expected) = (list_line(list, texts), expected_lines(&FAST, list));
-        match files.last_mut() {
-            Some(file) if file.holds(&line, &expected) => file.add(&line, &expected),
-            _ => files.push(File { cases: list_line(list, None), expected }),
-        }
+    distributed(lists.iter().map(|list| {
+        let after = list_line(list, texts);
         texts = Some(&list.texts[..]);
+        Line { after, first: list_line(list, None), expected: expected_lines(&FAST, list) }
+    }))
+}
+
+/// Distributes lines over files of at most 65,536 bytes.
+fn distributed(lines: impl Iterator<Item = Line>) -> Vec<File> {
+    let mut files: Vec<File> = Vec::new();
+    for line in lines {
+        match files.last_mut() {
+            Some(file) if file.holds(&line.after, &line.expected) => file.add(&line.after, &line.expected),
+            _ => files.push(File { cases: line.first, expected: line.expected }),
+        }
     }
     files
 }
@@ -132,21 +117,24 @@ pub fn write_all(folder: &Path) -> io::Result<()> {
         counts.push_str(&format!("{name} {}\n", cases.len()));
         write_files(folder, name, "cases", &files(&cases))?;
     }
-    let of_files = registerfiles::cases();
-    counts.push_str(&format!("file {}\n", of_files.len()));
-    write_files(folder, "file", "cases", &file_files(&of_files))?;
+    counts.push_str(&write_lent(folder, "file", &registerfiles::cases())?);
     for (name, cases) in [&orders::KIND, &marks::KIND, &retires::KIND].into_iter().flat_map(parts) {
         counts.push_str(&format!("{name} {}\n", cases.len()));
         write_files(folder, name, "cases", &files(&cases))?;
     }
-    let of_slips = slips::cases();
-    counts.push_str(&format!("slip {}\n", of_slips.len()));
-    write_files(folder, "slip", "cases", &slip_files(&of_slips))?;
+    counts.push_str(&write_lent(folder, "slip", &slips::cases())?);
+    counts.push_str(&write_lent(folder, "pass", &passes::cases())?);
     let lists = listfiles::all();
     counts.push_str(&format!("list {}\n", lists.len()));
     write_files(folder, "list", "lists", &list_files(&lists))?;
     counts.push_str(&format!("calls {}\n", write_call_files(folder)?));
     fs::write(folder.join("counts.txt"), counts)
+}
+
+/// Writes the cases of a kind that are lent bytes; answers the line of their count.
+fn write_lent(folder: &Path, name: &str, cases: &[LentCase]) -> io::Result<String> {
+    write_files(folder, name, "cases", &lent_files(cases))?;
+    Ok(format!("{name} {}\n", cases.len()))
 }
 
 /// Writes files with what is expected of each.

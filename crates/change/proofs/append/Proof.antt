@@ -35,7 +35,7 @@ returns c =
     let s = p .before .before .before .before .before in
     let a = s .args in
     rw (c .before .before .put-two .ensures, c .before .before .before .before .before .before .put-record .ensures, p .record-place .ensures)
-    (append-fitting (a .b .now) (s .pre .0) (granted (a .giver) (a .receiver) (a .weight) (a .need) (a .bar)) (n .result) (n .ensures) (rw (n .ensures) (s .pre .1)))
+    (append-fitting (a .b .now) (s .pre .0) (granted (a .giver) (a .receiver) (a .weight) (a .need) (a .bar) (a .kind)) (n .result) (n .ensures) (rw (n .ensures) (s .pre .1)))
 
 pub append-spec : {M : Type 1} → statement M
 append-spec = tie.close (tie.spec count-requires record-place-requires put-record-requires add-put-two cast-put-two put-two-requires same-length returns)

@@ -18,7 +18,7 @@ bytes c = fits-bytes (c .before .args .b .now) (c .slice-known .given)
 known : (c : tie.After-count) → let s = c .before .before .before in Among (s .args .b .now) (c .count .result) (s .args .at)
 known c =
     let s = c .before .before .before in
-    among (s .args .b .now) (bytes (c .before .before)) (s .pre .0) (λ d. not (before (granted (s .args .giver) (s .args .receiver) 0 0 0) d)) (c .count .result) (s .args .at) (c .count .ensures) (rw (c .count .ensures) (s .pre .2))
+    among (s .args .b .now) (bytes (c .before .before)) (s .pre .0) (λ d. not (before (granted (s .args .giver) (s .args .receiver) 0 0 0 0) d)) (c .count .result) (s .args .at) (c .count .ensures) (rw (c .count .ensures) (s .pre .2))
 
 count-requires : tie.Need-count-requires
 count-requires c κs = has-head (c .before .before .args .b .now) (bytes (c .before)) (c .before .before .pre .0)
@@ -54,7 +54,7 @@ returns c =
     let s = p .before .before .before in
     let a = s .args in
     rw (c .before .before .put-two .ensures, c .before .before .before .before .before .before .put-record .ensures, c .before .before .before .before .before .before .before .before .before .before .shift-up .ensures, c .before .before .before .before .before .before .before .before .before .before .before .record-place2 .ensures, c .before .before .before .before .before .before .before .before .before .before .before .before .before .record-place .ensures)
-    (insert-held (a .b .now) (bytes (p .before .before)) (s .pre .0) (n .result) (n .ensures) (granted (a .giver) (a .receiver) (a .weight) (a .need) (a .bar)) (a .at) (rw (n .ensures) (s .pre .1)) (rw (n .ensures) (s .pre .2)))
+    (insert-held (a .b .now) (bytes (p .before .before)) (s .pre .0) (n .result) (n .ensures) (granted (a .giver) (a .receiver) (a .weight) (a .need) (a .bar) (a .kind)) (a .at) (rw (n .ensures) (s .pre .1)) (rw (n .ensures) (s .pre .2)))
 
 pub insert-spec : {M : Type 1} → statement M
 insert-spec =

@@ -36,7 +36,7 @@ returns c =
     let w = c .before .before in
     let x = w .before .before .before in
     let a = start x .args in
-    rw (w .set-weight .ensures) (ap encode (sym (after-raise (decode (a .b .now)) (granted (a .giver) (a .receiver) (a .weight) (a .need) (a .bar)) (sym (x .stands-before .ensures) ∙ w .before .before .if1 .taken))))
+    rw (w .set-weight .ensures) (ap encode (sym (after-raise (decode (a .b .now)) (granted (a .giver) (a .receiver) (a .weight) (a .need) (a .bar) (a .kind)) (sym (x .stands-before .ensures) ∙ w .before .before .if1 .taken))))
 
 insert-requires : tie.Need-insert-requires
 insert-requires c κs =
@@ -52,7 +52,7 @@ returns-2 c =
     let i = c .before .before in
     let x = i .before .before .before in
     let a = start x .args in
-    rw (i .insert .ensures) (ap encode (sym (after-insert (decode (a .b .now)) (granted (a .giver) (a .receiver) (a .weight) (a .need) (a .bar)) (sym (x .stands-before .ensures) ∙ i .before .before .if1 .left))))
+    rw (i .insert .ensures) (ap encode (sym (after-insert (decode (a .b .now)) (granted (a .giver) (a .receiver) (a .weight) (a .need) (a .bar) (a .kind)) (sym (x .stands-before .ensures) ∙ i .before .before .if1 .left))))
 
 pub put-granted-spec : {M : Type 1} → statement M
 put-granted-spec =

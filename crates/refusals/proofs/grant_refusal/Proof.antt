@@ -7,7 +7,7 @@ use Rattle.refusals.proofs.grant_refusal.Statement.{statement}
 use Rattle.refusals.proofs.grant_refusal.Tie as tie
 
 abbrev call : tie.Start → Call
-call s = grant (granted (s .args .giver) (s .args .receiver) (s .args .weight) (s .args .need) (s .args .bar))
+call s = grant (granted (s .args .giver) (s .args .receiver) (s .args .weight) (s .args .need) (s .args .bar) (s .args .kind))
 
 found : (c : tie.After-early) → let s = c .before .before .before in EarlyFound (s .args .fault) (s .args .block .now) (call s) (c .early .result)
 found c = early-found (c .before .grant-passed .ensures) (c .early .ensures)

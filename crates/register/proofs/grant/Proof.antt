@@ -10,6 +10,9 @@ steps-requires c κs = search needs
 slice-aggregate-grant-by : tie.Need-slice-aggregate-grant-by
 slice-aggregate-grant-by c = search needs
 
+cast-grant-by : tie.Need-cast-grant-by
+cast-grant-by c = search needs
+
 grant-by-requires : tie.Need-grant-by-requires
 grant-by-requires c κs = rw (c .before .before .steps .ensures) steps-rule
 
@@ -20,4 +23,4 @@ returns : tie.Need-returns
 returns c = rw (c .before .before .before .before .before .steps .ensures) at (c .before .before .grant-by .ensures)
 
 pub grant-spec : {M : Type 1} → statement M
-grant-spec = tie.close (tie.spec steps-requires slice-aggregate-grant-by grant-by-requires same-length returns)
+grant-spec = tie.close (tie.spec steps-requires slice-aggregate-grant-by cast-grant-by grant-by-requires same-length returns)

@@ -7,7 +7,7 @@ use mathlib.Core.Bool.{Bool, true, false, cond, _||_}
 use mathlib.Core.Path.{_≡_, sym, _∙_}
 use native.Mathlib.Omega.{arith}
 use Rattle.rules.specs.Call.{Call, askUse}
-use Rattle.rules.specs.Pair.{receives}
+use Rattle.rules.specs.Pair.{opens}
 use Rattle.block.specs.Block.{countIn}
 use Rattle.block.specs.Bytes.{IsBytes}
 use Rattle.block.specs.Records.{delegationsTo}
@@ -35,7 +35,7 @@ past : (c : tie.Else1) → Through ours (start c .args .block .now) (call (start
 past c = through ours (start c .args .block .now) (call (start c)) (sym (c .before .use-refusal .ensures) ∙ c .if1 .left)
 
 -- x answers whether the receiver may use the right
-done : (c : tie.Else1) (x : Bool) → let a = start c .args in x ≡ (eqb (a .receiver) 0 || receives (a .receiver) (delegationsTo (a .block .now) (countIn (a .block .now))))
+done : (c : tie.Else1) (x : Bool) → let a = start c .args in x ≡ (eqb (a .receiver) 0 || opens (a .receiver) (delegationsTo (a .block .now) (countIn (a .block .now))))
     → Made ours (askUse (a .receiver)) (a .block .now) (answeredBy (pos (cond x 1 0)) (pos 0) (pos 0)) (a .block .now)
 done c x q = use-done ours (start c .args .receiver) (start c .args .block .now) (bytes c) (past c) x q
 
@@ -60,11 +60,11 @@ returns-2 c = rw (c .answered .ensures) (done (c .before .before) true (rw (eq-e
 count-requires : tie.Need-count-requires
 count-requires c κs = omega (arith, past (c .before) .early .size)
 
-cast-receives : tie.Need-cast-receives
-cast-receives c = let e = c .before .before in omega (arith, past e .numbers .0)
+cast-opens : tie.Need-cast-opens
+cast-opens c = let e = c .before .before in omega (arith, past e .numbers .0)
 
-receives-requires : tie.Need-receives-requires
-receives-requires c κs =
+opens-requires : tie.Need-opens-requires
+opens-requires c κs =
     let e = c .before .before in
     omega (arith, past e .early .size, count-most (start e .args .block .now) (bytes e) (past e .early .formed), c .count .ensures)
 
@@ -75,7 +75,7 @@ returns-3 : tie.Need-returns-3
 returns-3 c =
     let r = c .before .before in
     let k = r .before in
-    rw (c .answered2 .ensures) (done (k .before .before) true (rw (ne-eqb _ _ (k .before .if2 .left), ← k .count .ensures) (sym (c .before .if3 .taken) ∙ r .receives .ensures)))
+    rw (c .answered2 .ensures) (done (k .before .before) true (rw (ne-eqb _ _ (k .before .if2 .left), ← k .count .ensures) (sym (c .before .if3 .taken) ∙ r .opens .ensures)))
 
 answered-requires-3 : tie.Need-answered-requires-3
 answered-requires-3 c κs = search needs
@@ -84,7 +84,7 @@ returns-4 : tie.Need-returns-4
 returns-4 c =
     let r = c .before .before in
     let k = r .before in
-    rw (c .answered3 .ensures) (done (k .before .before) false (rw (ne-eqb _ _ (k .before .if2 .left), ← k .count .ensures) (sym (c .before .if3 .left) ∙ r .receives .ensures)))
+    rw (c .answered3 .ensures) (done (k .before .before) false (rw (ne-eqb _ _ (k .before .if2 .left), ← k .count .ensures) (sym (c .before .if3 .left) ∙ r .opens .ensures)))
 
 pub use-right-spec : {M : Type 1} → statement M
 use-right-spec =
@@ -96,8 +96,8 @@ use-right-spec =
     answered-requires
     returns-2
     count-requires
-    cast-receives
-    receives-requires
+    cast-opens
+    opens-requires
     answered-requires-2
     returns-3
     answered-requires-3

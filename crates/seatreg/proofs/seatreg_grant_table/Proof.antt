@@ -10,7 +10,7 @@ use Rattle.seatreg.proofs.seatreg_grant_table.Tie as tie
 returns : tie.Need-returns
 returns c =
     let a = c .before .before .before .before .args in
-    short (a .block .now) (a .answers .now) (given (a .table .now)) (grant (granted (a .giver) (a .receiver) (a .weight) (a .need) (a .bar))) (c .if1 .taken)
+    short (a .block .now) (a .answers .now) (given (a .table .now)) (grant (granted (a .giver) (a .receiver) (a .weight) (a .need) (a .bar) 0)) (c .if1 .taken)
 
 grant-table-requires : tie.Need-grant-table-requires
 grant-table-requires c κs = search needs
@@ -30,7 +30,7 @@ returns-2 c =
     let m = c .before .before .before .before .before .before in
     let test = m .before .before in
     let a = test .before .before .before .before .args in
-    made (a .block .now) (a .answers .now) (given (a .table .now)) (grant (granted (a .giver) (a .receiver) (a .weight) (a .need) (a .bar)))
+    made (a .block .now) (a .answers .now) (given (a .table .now)) (grant (granted (a .giver) (a .receiver) (a .weight) (a .need) (a .bar) 0))
     (test .if1 .left) (m .grant-table .result) (m .grant-table .last .0) (m .grant-table .ensures) (h .result) (h .last .1 .0) (h .ensures)
 
 pub seatreg-grant-table-spec : {M : Type 1} → statement M

@@ -94,16 +94,16 @@ returns-3 c =
     slip-refused (given (a .table .now)) (a .by) (cut s) (a .block .now) (a .slip .now) (e .if1 .left) (u .cut-by .result) (u .cut-by .last .0) (made u) (c .if3 .taken)
 
 cast-t26 : tie.Need-cast-t26
-cast-t26 c = omega (arith, limits c .0)
+cast-t26 c = let (y, g, r, w) = limits c in omega (arith, y, g, r, w)
 
 cast-t27 : tie.Need-cast-t27
-cast-t27 c = omega (arith, limits c .1)
+cast-t27 c = let (y, g, r, w) = limits c in omega (arith, y, g, r, w)
 
 cast-t28 : tie.Need-cast-t28
-cast-t28 c = omega (arith, limits c .2)
+cast-t28 c = let (y, g, r, w) = limits c in omega (arith, y, g, r, w)
 
 cast-t29 : tie.Need-cast-t29
-cast-t29 c = omega (arith, limits c .3)
+cast-t29 c = let (y, g, r, w) = limits c in omega (arith, y, g, r, w)
 
 slice-aggregate-write-slip : tie.Need-slice-aggregate-write-slip
 slice-aggregate-write-slip c = search needs

@@ -7,7 +7,6 @@ use mir.Val.{Fits}
 use lib.Dec.{T}
 use lib.IntN.{natAbs}
 use lib.Signed.{nonNeg}
-use lib.ListN.{length-set}
 use Rattle.rules.proofs.Signed.{kept}
 use Rattle.block.specs.Records.{delegationAt}
 use Rattle.block.proofs.Bytes.{fits-bytes}
@@ -38,12 +37,6 @@ add-block c = omega (arith, c .before .record-place .ensures)
 slice-write-block : tie.Need-slice-write-block
 slice-write-block c = omega (arith, c .before .record-place .ensures)
 
-add-block-2 : tie.Need-add-block-2
-add-block-2 c = omega (arith, c .before .record-place .ensures)
-
-slice-write-block-2 : tie.Need-slice-write-block-2
-slice-write-block-2 c = simp length-set (omega (arith, c .before .record-place .ensures))
-
 same-length : tie.Need-same-length
 same-length c = search needs
 
@@ -66,8 +59,11 @@ need-requires c κs = search needs
 bar-requires : tie.Need-bar-requires
 bar-requires c κs = search needs
 
+kind-requires : tie.Need-kind-requires
+kind-requires c κs = search needs
+
 cast-put-record : tie.Need-cast-put-record
-cast-put-record c = weight-known (c .before .before .before .before .before .before .before .before .before .before)
+cast-put-record c = weight-known (c .before .before .before .before .before .before .before .before .before .before .before .before)
 
 put-record-requires : tie.Need-put-record-requires
 put-record-requires c κs = search needs
@@ -78,10 +74,11 @@ same-length-2 c = search needs
 returns-3 : tie.Need-returns-3
 returns-3 c =
     let p = c .before .before in
-    let at = p .before .before .before .before .before .before .before .before .before .before .before in
+    let at = p .before .before .before .before .before .before .before .before .before .before .before .before .before in
     let s = at .before .before .before in
-    one-written (s .args .weight) (s .fits .weight) (at .before .if1 .left) (s .pre .most) (s .args .block .now) _ _ _ _ _ _ (delegationAt (s .args .block .now) (s .args .from))
-    (p .before .before .before .before .before .before .before .before .giver .ensures) (p .before .before .before .before .before .before .receiver .ensures) (p .before .before .before .before .need .ensures) (p .before .before .bar .ensures) (rw (at .record-place .ensures) at (p .put-record .ensures))
+    one-written (s .args .weight) (s .fits .weight) (at .before .if1 .left) (s .pre .most) (s .args .block .now) _ _ _ _ _ _ _ (delegationAt (s .args .block .now) (s .args .from))
+    (p .before .before .before .before .before .before .before .before .before .before .giver .ensures) (p .before .before .before .before .before .before .before .before .receiver .ensures)
+    (p .before .before .before .before .before .before .need .ensures) (p .before .before .before .before .bar .ensures) (p .before .before .kind .ensures) (rw (at .record-place .ensures) at (p .put-record .ensures))
 
 pub keep-at-spec : {M : Type 1} → statement M
 keep-at-spec =
@@ -92,14 +89,13 @@ keep-at-spec =
     cast-block
     add-block
     slice-write-block
-    add-block-2
-    slice-write-block-2
     same-length
     returns-2
     giver-requires
     receiver-requires
     need-requires
     bar-requires
+    kind-requires
     cast-put-record
     put-record-requires
     same-length-2

@@ -16,7 +16,7 @@ use Rattle.refusals.proofs.held.grant_held.Statement.{statement}
 use Rattle.refusals.proofs.held.grant_held.Tie as tie
 
 abbrev delegation : tie.Start → Delegation
-delegation s = let a = s .args in granted (a .giver) (a .receiver) (a .weight) (a .need) (a .bar)
+delegation s = let a = s .args in granted (a .giver) (a .receiver) (a .weight) (a .need) (a .bar) (a .kind)
 
 pair-held-requires : tie.Need-pair-held-requires
 pair-held-requires c κs = search needs

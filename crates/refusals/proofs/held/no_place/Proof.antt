@@ -10,7 +10,7 @@ use Rattle.refusals.proofs.held.no_place.Statement.{statement}
 use Rattle.refusals.proofs.held.no_place.Tie as tie
 
 abbrev delegation : tie.Start → Delegation
-delegation s = let a = s .args in granted (a .giver) (a .receiver) (a .weight) (a .need) (a .bar)
+delegation s = let a = s .args in granted (a .giver) (a .receiver) (a .weight) (a .need) (a .bar) (a .kind)
 
 bytes : (c : tie.After-shared-slice-known) → IsBytes (c .before .args .block .now)
 bytes c = fits-bytes (c .before .args .block .now) (c .shared-slice-known .given)

@@ -30,7 +30,7 @@ returns-2 c =
     let r = c .before .reach-of in
     let s = c .before .before .before .before in
     let a = s .args in
-    rw (eq-eqb _ _ (c .before .before .if1 .left), heavy-test (a .table .now) (decode (a .block .now)) (granted (a .giver) (a .receiver) (a .weight) (a .need) (a .bar)))
+    rw (eq-eqb _ _ (c .before .before .if1 .left), heavy-test (a .table .now) (decode (a .block .now)) (granted (a .giver) (a .receiver) (a .weight) (a .need) (a .bar) (a .kind)))
     (rw (toZ-ofZ {w = w16} {z = r .result} record { sfits = omega (arith, r .ok) }, toZ-pos w16 {n = a .weight} (omega (arith, s .pre .0 .numbers .1)), r .ensures) at (c .tested .ensures))
 
 pub overweight-spec : {M : Type 1} → statement M

@@ -3,7 +3,7 @@ use borrow.Author.Needs.{needs}
 use mathlib.Core.Path.{_∙_}
 use mathlib.Core.List.{[], _∷_}
 use lib.Dec.{ltb}
-use Rattle.rules.specs.Refusal.{noSubject, equalPair, noCondition, noWeight, toOwner, passed}
+use Rattle.rules.specs.Refusal.{noSubject, equalPair, noCondition, noWeight, toOwner, noKind, passed}
 use Rattle.refusals.proofs.Joining.{joined-first, any-tests}
 use Rattle.refusals.proofs.passed.grant_passed.Statement.{statement}
 use Rattle.refusals.proofs.passed.grant_passed.Tie as tie
@@ -26,12 +26,16 @@ equal-pair-requires c κs = search needs
 to-owner-requires : tie.Need-to-owner-requires
 to-owner-requires c κs = search needs
 
+no-kind-requires : tie.Need-no-kind-requires
+no-kind-requires c κs = search needs
+
 returns : tie.Need-returns
 unfolding passed
 returns c =
-    let a = c .before .before .before .before .before .before .args in
-    rw (c .to-owner .ensures, c .before .equal-pair .ensures, c .before .before .no-condition .ensures, c .before .before .before .no-weight .ensures, c .before .before .before .before .no-subject2 .ensures, c .before .before .before .before .before .no-subject .ensures)
-    (joined-first (noSubject (a .giver ∷ []) ∷ noSubject (a .receiver ∷ []) ∷ noWeight (a .weight) ∷ noCondition (a .need) (a .bar) ∷ equalPair (a .giver) (a .receiver) ∷ toOwner (a .receiver) ∷ []) tt ∙ any-tests 2 (λ x. ltb 63 x) (a .giver ∷ a .receiver ∷ []) (noWeight (a .weight) ∷ noCondition (a .need) (a .bar) ∷ equalPair (a .giver) (a .receiver) ∷ toOwner (a .receiver) ∷ []))
+    let a = c .before .before .before .before .before .before .before .args in
+    let rest = noWeight (a .weight) ∷ noCondition (a .need) (a .bar) ∷ equalPair (a .giver) (a .receiver) ∷ toOwner (a .receiver) ∷ noKind (a .weight) (a .kind) ∷ [] in
+    rw (c .no-kind .ensures, c .before .to-owner .ensures, c .before .before .equal-pair .ensures, c .before .before .before .no-condition .ensures, c .before .before .before .before .no-weight .ensures, c .before .before .before .before .before .no-subject2 .ensures, c .before .before .before .before .before .before .no-subject .ensures)
+    (joined-first (noSubject (a .giver ∷ []) ∷ noSubject (a .receiver ∷ []) ∷ rest) tt ∙ any-tests 2 (λ x. ltb 63 x) (a .giver ∷ a .receiver ∷ []) (rest))
 
 pub grant-passed-spec : {M : Type 1} → statement M
 grant-passed-spec =
@@ -43,4 +47,5 @@ grant-passed-spec =
     no-condition-requires
     equal-pair-requires
     to-owner-requires
+    no-kind-requires
     returns)

@@ -22,8 +22,13 @@ returns-4 c =
 
 returns-5 : tie.Need-returns-5
 returns-5 c =
-    let a = c .before .before .before .before .args in
-    sym (rw (le-leb (a .giver) 255 (c .before .before .before .if1 .left), le-leb (a .receiver) 255 (c .before .before .if2 .left), le-leb (a .weight) 255 (c .before .if3 .left), le-leb (a .need) 65535 (c .if4 .left)))
+    let a = c .before .before .before .before .before .args in
+    sym (rw (le-leb (a .giver) 255 (c .before .before .before .before .if1 .left), le-leb (a .receiver) 255 (c .before .before .before .if2 .left), le-leb (a .weight) 255 (c .before .before .if3 .left), le-leb (a .need) 65535 (c .before .if4 .left), lt-leb (a .bar) 65535 (c .if5 .taken)))
+
+returns-6 : tie.Need-returns-6
+returns-6 c =
+    let a = c .before .before .before .before .before .args in
+    sym (rw (le-leb (a .giver) 255 (c .before .before .before .before .if1 .left), le-leb (a .receiver) 255 (c .before .before .before .if2 .left), le-leb (a .weight) 255 (c .before .before .if3 .left), le-leb (a .need) 65535 (c .before .if4 .left), le-leb (a .bar) 65535 (c .if5 .left)))
 
 pub has-room-spec : {M : Type 1} → statement M
-has-room-spec = tie.close (tie.spec returns returns-2 returns-3 returns-4 returns-5)
+has-room-spec = tie.close (tie.spec returns returns-2 returns-3 returns-4 returns-5 returns-6)

@@ -40,23 +40,29 @@ bar-requires c κs = search needs
 cast-bar : tie.Need-cast-bar
 cast-bar c = search needs
 
+kind-requires : tie.Need-kind-requires
+kind-requires c κs = search needs
+
+cast-kind : tie.Need-cast-kind
+cast-kind c = search needs
+
 slice-aggregate-write-line : tie.Need-slice-aggregate-write-line
 slice-aggregate-write-line c = search needs
 
 -- the fields read
-module _ (c : tie.After-bar) where
+module _ (c : tie.After-kind) where
   abbrev read : List ℕ
-  read = c .before .before .before .before .giver .result ∷ c .before .before .before .receiver .result ∷ c .before .before .weight .result ∷ c .before .need .result ∷ c .bar .result ∷ []
+  read = c .before .before .before .before .before .giver .result ∷ c .before .before .before .before .receiver .result ∷ c .before .before .before .weight .result ∷ c .before .before .need .result ∷ c .before .bar .result ∷ c .kind .result ∷ []
 
-  meant : let s = c .before .before .before .before .before .before .before in Small read × (read ≡ fields (delegationAt (s .args .b .now) (s .args .k)))
+  meant : let s = c .before .before .before .before .before .before .before .before in Small read × (read ≡ fields (delegationAt (s .args .b .now) (s .args .k)))
   meant = (
-    (omega arith, (omega arith, (omega arith, (omega arith, (omega arith, tt))))),
-    λ p. c .before .before .before .before .giver .ensures p ∷ c .before .before .before .receiver .ensures p ∷ c .before .before .weight .ensures p ∷ c .before .need .ensures p ∷ c .bar .ensures p ∷ [],
+    (omega arith, (omega arith, (omega arith, (omega arith, (omega arith, (omega arith, tt)))))),
+    λ p. c .before .before .before .before .before .giver .ensures p ∷ c .before .before .before .before .receiver .ensures p ∷ c .before .before .before .weight .ensures p ∷ c .before .before .need .ensures p ∷ c .before .bar .ensures p ∷ c .kind .ensures p ∷ [],
   )
 
 write-line-requires : tie.Need-write-line-requires
 write-line-requires c κs =
-    let s = c .before .before .before .before .before .before .before .before .before in
+    let s = c .before .before .before .before .before .before .before .before .before .before in
     let (h, e) = meant (c .before .before) in
     row-room (read (c .before .before)) (fields (delegationAt (s .args .b .now) (s .args .k))) h e (s .args .at) (s .args .buf .now) (s .pre .1)
 
@@ -65,7 +71,7 @@ same-length c = search needs
 
 returns : tie.Need-returns
 returns c =
-    let s = c .before .before .before .before .before .before .before .before .before .before .before .before in
+    let s = c .before .before .before .before .before .before .before .before .before .before .before .before .before in
     let w = c .before .before .write-line in
     let (h, e) = meant (c .before .before .before .before .before) in
     row-written (read (c .before .before .before .before .before)) (fields (delegationAt (s .args .b .now) (s .args .k))) h e (s .args .at) (s .args .buf .now) (w .result) (w .last .0) (w .ensures)
@@ -84,6 +90,8 @@ write-delegation-spec =
     cast-need
     bar-requires
     cast-bar
+    kind-requires
+    cast-kind
     slice-aggregate-write-line
     write-line-requires
     same-length

@@ -19,7 +19,7 @@ use Rattle.register.proofs.granting.grant_by.Statement.{statement}
 use Rattle.register.proofs.granting.grant_by.Tie as tie
 
 abbrev call : tie.Start → Call
-call s = grant (granted (s .args .giver) (s .args .receiver) (s .args .weight) (s .args .need) (s .args .bar))
+call s = grant (granted (s .args .giver) (s .args .receiver) (s .args .weight) (s .args .need) (s .args .bar) (s .args .kind))
 
 -- ── past the tests ──
 abbrev start : tie.Else1 → tie.Start
@@ -61,11 +61,14 @@ cast-put-granted-4 c = omega (arith, past (c .before) .numbers .2)
 cast-put-granted-5 : tie.Need-cast-put-granted-5
 cast-put-granted-5 c = omega (arith, past (c .before) .numbers .3)
 
+cast-put-granted-6 : tie.Need-cast-put-granted-6
+cast-put-granted-6 c = omega (arith, past (c .before) .numbers .4)
+
 put-granted-requires : tie.Need-put-granted-requires
 put-granted-requires c κs =
     let e = c .before in
     let a = start e .args in
-    (past e .early .formed, λ s. grant-room (a .table .now) (a .block .now) (bytes e) (past e .early .formed) (granted (a .giver) (a .receiver) (a .weight) (a .need) (a .bar)) (past e .held) s)
+    (past e .early .formed, λ s. grant-room (a .table .now) (a .block .now) (bytes e) (past e .early .formed) (granted (a .giver) (a .receiver) (a .weight) (a .need) (a .bar) (a .kind)) (past e .held) s)
 
 count-requires : tie.Need-count-requires
 count-requires c κs = let p = c .before .before .before in omega (arith, past (p .before .before) .early .size, p .put-granted .kept .0)
@@ -74,7 +77,7 @@ few : (c : tie.After-put-granted) → countIn (c .put-granted .last .0) ≤ 256
 few c =
     let e = c .before .before in
     let a = start e .args in
-    granted-few (lent (a .fault) (a .table .now)) (a .block .now) (bytes e) (granted (a .giver) (a .receiver) (a .weight) (a .need) (a .bar)) (past e) (c .put-granted .last .0) (c .put-granted .ensures)
+    granted-few (lent (a .fault) (a .table .now)) (a .block .now) (bytes e) (granted (a .giver) (a .receiver) (a .weight) (a .need) (a .bar) (a .kind)) (past e) (c .put-granted .last .0) (c .put-granted .ensures)
 
 cast-answered : tie.Need-cast-answered
 cast-answered c = omega (arith, few (c .before .before .before .before), c .count .ensures)
@@ -92,7 +95,7 @@ returns-2 c =
     let e = p .before .before in
     let a = start e .args in
     rw (c .answered .ensures, toZ-pos w32 {n = n .count .result} (omega (arith, few p, n .count .ensures)), n .count .ensures)
-    (grant-done (lent (a .fault) (a .table .now)) (a .block .now) (bytes e) (granted (a .giver) (a .receiver) (a .weight) (a .need) (a .bar)) (past e) (p .put-granted .last .0) (p .put-granted .ensures))
+    (grant-done (lent (a .fault) (a .table .now)) (a .block .now) (bytes e) (granted (a .giver) (a .receiver) (a .weight) (a .need) (a .bar) (a .kind)) (past e) (p .put-granted .last .0) (p .put-granted .ensures))
 
 pub grant-by-spec : {M : Type 1} → statement M
 grant-by-spec =
@@ -107,6 +110,7 @@ grant-by-spec =
     cast-put-granted-3
     cast-put-granted-4
     cast-put-granted-5
+    cast-put-granted-6
     put-granted-requires
     count-requires
     cast-answered

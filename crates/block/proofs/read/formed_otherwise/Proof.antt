@@ -1,11 +1,10 @@
--- `block::formed_but_giver` tests record k, but for its giver. Assumes nothing.
+-- `block::formed_otherwise` tests record k, but for its giver and its kind. Assumes nothing.
 use mathlib.Core.Bool.{and-true}
 use borrow.Author.Needs.{needs}
 use borrow.Author.Tests.{eq-eqb, ne-eqb, lt-ltb, le-ltb}
-use Rattle.block.specs.Pass.{formedButGiver}
-use Rattle.block.proofs.Loops.{or-none}
-use Rattle.block.proofs.read.formed_but_giver.Statement.{statement}
-use Rattle.block.proofs.read.formed_but_giver.Tie as tie
+use Rattle.block.specs.Pass.{formedOtherwise}
+use Rattle.block.proofs.read.formed_otherwise.Statement.{statement}
+use Rattle.block.proofs.read.formed_otherwise.Tie as tie
 
 giver-requires : tie.Need-giver-requires
 giver-requires c κs = search needs
@@ -14,15 +13,15 @@ receiver-requires : tie.Need-receiver-requires
 receiver-requires c κs = search needs
 
 returns : tie.Need-returns
-unfolding formedButGiver
+unfolding formedOtherwise
 returns c = rw (← c .before .receiver .ensures, le-ltb _ _ (c .if1 .taken))
 
 returns-2 : tie.Need-returns-2
-unfolding formedButGiver
+unfolding formedOtherwise
 returns-2 c = rw (← c .before .before .before .giver .ensures, ← c .before .before .receiver .ensures, lt-ltb _ _ (c .before .if1 .left), eq-eqb _ _ (c .if2 .taken))
 
 returns-3 : tie.Need-returns-3
-unfolding formedButGiver
+unfolding formedOtherwise
 returns-3 c = rw (← c .before .before .before .before .giver .ensures, ← c .before .before .before .receiver .ensures, lt-ltb _ _ (c .before .before .if1 .left), ne-eqb _ _ (c .before .if2 .left), eq-eqb _ _ (c .if3 .taken))
 
 need-requires : tie.Need-need-requires
@@ -31,21 +30,15 @@ need-requires c κs = search needs
 bar-requires : tie.Need-bar-requires
 bar-requires c κs = search needs
 
-record-byte-requires : tie.Need-record-byte-requires
-record-byte-requires c κs = search needs
-
-cast-rest : tie.Need-cast-rest
-cast-rest c = search needs
-
 returns-4 : tie.Need-returns-4
-unfolding formedButGiver
+unfolding formedOtherwise
 returns-4 c =
-    let e = c .before .before .before in
+    let e = c .before .before in
     let r = e .before .before .before in
-    rw (or-none, ← r .before .giver .ensures, ← r .receiver .ensures, ← c .before .before .need .ensures, ← c .before .bar .ensures, ← c .record-byte .ensures, lt-ltb _ _ (e .before .before .if1 .left), ne-eqb _ _ (e .before .if2 .left), ne-eqb _ _ (e .if3 .left), and-true)
+    rw (← r .before .giver .ensures, ← r .receiver .ensures, ← c .before .need .ensures, ← c .bar .ensures, lt-ltb _ _ (e .before .before .if1 .left), ne-eqb _ _ (e .before .if2 .left), ne-eqb _ _ (e .if3 .left), and-true)
 
-pub formed-but-giver-spec : {M : Type 1} → statement M
-formed-but-giver-spec =
+pub formed-otherwise-spec : {M : Type 1} → statement M
+formed-otherwise-spec =
     tie.close
     (tie.spec
     giver-requires
@@ -55,6 +48,4 @@ formed-but-giver-spec =
     returns-3
     need-requires
     bar-requires
-    record-byte-requires
-    cast-rest
     returns-4)
