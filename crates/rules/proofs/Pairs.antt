@@ -57,11 +57,11 @@ pair_found g r (x ∷ xs) h = go (is_pair g r x) refl (pair_found g r xs) h
     go false e ih k = let (d, m, p, q) = ih k in (d, Memᴰ.tail m, p, q)
 
 -- a pair stands once in a rising list
-pub pair_one : {ds : List Delegation} → Rising ds → {d e : Delegation} → d ∈ ds → e ∈ ds → IsPair d.giver d.receiver e → d ≡ e
+pub pair_one : {d e : Delegation} {ds : List Delegation} → Rising ds → d ∈ ds → e ∈ ds → IsPair d.giver d.receiver e → d ≡ e
 pair_one r (Memᴰ.head p) (Memᴰ.head q) s = p ∙ sym q
-pair_one r {d} {e} (Memᴰ.head {x = x} p) (Memᴰ.tail m) s =
+pair_one {d} {e} r (Memᴰ.head {x = x} p) (Memᴰ.tail m) s =
     absurd (Before_irrefl x e (ap (λ (y : Delegation). y.giver) (sym p) ∙ sym s.0) (ap (λ (y : Delegation). y.receiver) (sym p) ∙ sym s.1) (r.0 e m))
-pair_one r {d} {e} (Memᴰ.tail m) (Memᴰ.head {x = x} q) s =
+pair_one {d} {e} r (Memᴰ.tail m) (Memᴰ.head {x = x} q) s =
     absurd (Before_irrefl x d (ap (λ (y : Delegation). y.giver) (sym q) ∙ s.0) (ap (λ (y : Delegation). y.receiver) (sym q) ∙ s.1) (r.0 d m))
 pair_one r (Memᴰ.tail m) (Memᴰ.tail n) s = pair_one r.1 m n s
 

@@ -33,7 +33,7 @@ abbrev pub kept : ℤ → ℤ
 kept z = to_z w16 (of_z w16 z)
 
 pub read_limit : (l : List ℤ) (i : ℕ) → i < length l → mag (get_or l i (pos 0)) < 32768 → kept (get_or l i (pos 0)) ≡ get_or l i none
-read_limit l i h f = to_z-of_z record { sfits = f } ∙ get_or_within l i (pos 0) none h
+read_limit l i h f = to_z-of_z {w = w16} record { sfits = f } ∙ get_or_within l i (pos 0) none h
 
 -- ── the three ways of `next` ──
 pub next_negative : (t : List ℤ) (z : ℤ) (w : ℕ) → lt_z z (pos 0) ≡ true → none ≡ next t z w
@@ -54,13 +54,13 @@ by_weight t (negsuc k) w e h = let q : false ≡ true = sym e in cc
 module _ (t : List ℤ) (size : length t ≡ 256) (z : ℤ) (w : ℕ) (f : SFits w16 z) (b : w < 256) (e : lt_z (to_z w16 (of_z w16 z)) (pos 0) ≡ false) where
   pub next_by_limit : nat_abs (to_z w16 (of_z w16 z)) < w → mag (get_or t (nat_abs (to_z w16 (of_z w16 z))) (pos 0)) < 32768 → to_z w16 (of_z w16 (get_or t (nat_abs (to_z w16 (of_z w16 z))) (pos 0))) ≡ next t z w
   next_by_limit h k =
-      let q : to_z w16 (of_z w16 z) ≡ z = to_z-of_z f in
+      let q : to_z w16 (of_z w16 z) ≡ z = to_z-of_z {w = w16} f in
       let l : nat_abs z < w = rw q at h in
       rw q (read_limit t (nat_abs z) (omega arith) (rw q at k) ∙ by_limit t z w (rw q at e) l)
 
   pub next_by_weight : w ≤ nat_abs (to_z w16 (of_z w16 z)) → mag (get_or t w (pos 0)) < 32768 → to_z w16 (of_z w16 (get_or t w (pos 0))) ≡ next t z w
   next_by_weight h k =
-      let q : to_z w16 (of_z w16 z) ≡ z = to_z-of_z f in
+      let q : to_z w16 (of_z w16 z) ≡ z = to_z-of_z {w = w16} f in
       read_limit t w (omega arith) k ∙ by_weight t z w (rw q at e) (rw q at h)
 
 -- ── signed comparisons of limits ──

@@ -1,4 +1,6 @@
 // Numbers and lines as text, on a slice and a position.
+#![tactic(auto)]
+
 mod read;
 mod write;
 

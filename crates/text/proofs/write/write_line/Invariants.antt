@@ -1,0 +1,17 @@
+-- `text::write_line` writes a line. The loop: with the values from i on written, the buffer is as it shall be. Assumes nothing.
+use mathlib.Core.Bool.{true}
+use native.Mathlib.Omega.{arith}
+use lib.IntN.{pos}
+use Rattle.text.proofs.Signed.{kept, allowed_fits}
+use Rattle.text.proofs.Lines.{allowed_at}
+use Prim.Native.Nat.{◌-◌}
+use lib.ListN.{length, get_or}
+use Rattle.text.proofs.Writing.{Pending, pending_start, pending_end, pending_room, pending_place, pending_more}
+use borrow.Author.Rules.{rules}
+use Rattle.text.proofs.write.write_line.Given as goal
+
+abbrev pub invariant-loop-i : goal.invariant-loop-i
+invariant-loop-i l = Pending l.at l.values l.initial.buf l.next l.i l.buf
+
+abbrev pub decreases-loop-i : goal.decreases-loop-i
+decreases-loop-i l = length l.values - l.i
