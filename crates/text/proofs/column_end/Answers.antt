@@ -1,6 +1,5 @@
 -- `text::column_end` is the byte after a value. Assumes nothing.
 use borrow.Author.Tests.{lt-ltb, le-ltb}
-use borrow.Author.Rules.{rules}
 use Rattle.text.proofs.column_end.Goals as goal
 
 pub returns-then-i-n : goal.returns-then-i-n

@@ -1,10 +1,7 @@
 -- `text::begins_with` compares a front byte by byte. Assumes nothing.
-use mathlib.Core.Path.{◌≡◌, refl}
-use Prim.Native.Nat.{◌-◌, ◌≤◌}
+use mathlib.Core.Path.{refl}
 use native.Mathlib.Omega.{arith}
-use lib.ListN.{length, take}
 use Rattle.text.proofs.Bytes.{front_short, front_other, front_on, front_end}
-use borrow.Author.Rules.{rules}
 use Rattle.text.proofs.read.begins_with.Goals as goal
 
 pub returns-then-text-front : goal.returns-then-text-front

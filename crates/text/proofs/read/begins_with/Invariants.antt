@@ -1,10 +1,7 @@
 -- `text::begins_with` compares a front byte by byte. Assumes nothing.
-use mathlib.Core.Path.{◌≡◌, refl}
+use mathlib.Core.Path.{◌≡◌}
 use Prim.Native.Nat.{◌-◌, ◌≤◌}
-use native.Mathlib.Omega.{arith}
 use lib.ListN.{length, take}
-use Rattle.text.proofs.Bytes.{front_short, front_other, front_on, front_end}
-use borrow.Author.Rules.{rules}
 use Rattle.text.proofs.read.begins_with.Given as goal
 
 abbrev pub invariant-loop-i : goal.invariant-loop-i

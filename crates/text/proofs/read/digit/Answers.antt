@@ -1,5 +1,4 @@
 -- `text::digit` is the value of a digit. Assumes nothing.
-use borrow.Author.Rules.{rules}
 use mathlib.Core.Path.{refl}
 use native.Mathlib.Omega.{arith}
 use Rattle.text.proofs.Reading.{digit_range}

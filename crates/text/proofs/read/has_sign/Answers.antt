@@ -1,7 +1,6 @@
 -- `text::has_sign` is the test `has_sign`. Assumes nothing.
 use lib.ListN.{length}
 use borrow.Author.Tests.{not-true, not-false, lt-ltb, le-ltb}
-use borrow.Author.Rules.{rules}
 use Rattle.text.proofs.read.has_sign.Goals as goal
 
 pub returns-then-not-signed : goal.returns-then-not-signed

@@ -6,7 +6,6 @@ use lib.IntN.{ℤ, pos}
 use Rattle.text.specs.Text.{Allowed}
 use Rattle.text.proofs.Signed.{held, negative_held}
 use Rattle.text.proofs.Values.{value_at, negative_none, negative_zero, negative_some}
-use borrow.Author.Rules.{rules}
 use Rattle.text.proofs.read.read_negative.Goals as goal
 
 pub returns-then-not-n : goal.returns-then-not-n

@@ -1,12 +1,8 @@
 -- `text::read_number` reads a number exactly where the text is its rendering. The loop: the whole answer is the answer from i on. Assumes nothing.
-use mathlib.Core.Path.{◌≡◌, sym, ◌∙◌}
-use Prim.Native.Nat.{◌-◌, ◌≤◌}
+use mathlib.Core.Path.{sym, ◌∙◌}
 use native.Mathlib.Omega.{arith}
-use lib.ListN.{length, drop}
-use Rattle.text.specs.Text.{most}
-use Rattle.text.proofs.Reading.{read_on, read_from, number_read, start_end, start_other, start_digit, turn_done, turn_end, turn_zero, turn_large, turn_more}
+use Rattle.text.proofs.Reading.{number_read, start_end, start_other, start_digit, turn_done, turn_end, turn_zero, turn_large, turn_more}
 use borrow.Author.Tests.{not-true, not-false}
-use borrow.Author.Rules.{rules}
 use Rattle.text.proofs.read.read_number.Goals as goal
 
 pub returns-then-at-text : goal.returns-then-at-text

@@ -1,12 +1,9 @@
 -- `text::read_number` reads a number exactly where the text is its rendering. The loop: the whole answer is the answer from i on. Assumes nothing.
-use mathlib.Core.Path.{◌≡◌, sym, ◌∙◌}
+use mathlib.Core.Path.{◌≡◌}
 use Prim.Native.Nat.{◌-◌, ◌≤◌}
-use native.Mathlib.Omega.{arith}
 use lib.ListN.{length, drop}
 use Rattle.text.specs.Text.{most}
-use Rattle.text.proofs.Reading.{read_on, read_from, number_read, start_end, start_other, start_digit, turn_done, turn_end, turn_zero, turn_large, turn_more}
-use borrow.Author.Tests.{not-true, not-false}
-use borrow.Author.Rules.{rules}
+use Rattle.text.proofs.Reading.{read_on, read_from}
 use Rattle.text.proofs.read.read_number.Given as goal
 
 abbrev pub invariant-loop-i : goal.invariant-loop-i

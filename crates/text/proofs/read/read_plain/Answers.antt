@@ -5,7 +5,6 @@ use borrow.Author.Tests.{not-true, not-false}
 use lib.IntN.{ℤ}
 use Rattle.text.proofs.Signed.{held}
 use Rattle.text.proofs.Values.{value_at, plain_none, plain_some}
-use borrow.Author.Rules.{rules}
 use Rattle.text.proofs.read.read_plain.Goals as goal
 
 pub returns-then-not-n : goal.returns-then-not-n

@@ -3,7 +3,6 @@ use mathlib.Core.Path.{sym, subst, ◌∙◌}
 use mathlib.Core.Bool.{Bool}
 use Rattle.text.specs.Read.{ValueRead}
 use Rattle.text.proofs.Values.{sign_there, plain_signed}
-use borrow.Author.Rules.{rules}
 use Rattle.text.proofs.read.read_value.Goals as goal
 
 pub read_negative-requires : goal.read_negative-requires

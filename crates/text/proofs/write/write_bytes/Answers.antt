@@ -1,11 +1,9 @@
 -- `text::write_bytes` writes byte by byte. Assumes nothing.
-use mathlib.Core.Path.{◌≡◌, refl, ◌∙◌}
-use Prim.Native.Nat.{◌+◌, ◌-◌, ◌≤◌}
+use mathlib.Core.Path.{refl, ◌∙◌}
+use Prim.Native.Nat.{◌+◌}
 use native.Mathlib.Omega.{arith}
-use lib.ListN.{length, take, length-set}
-use Rattle.text.specs.Write.{Written}
+use lib.ListN.{length-set}
 use Rattle.text.proofs.Bytes.{bytes_start, bytes_place, bytes_more, bytes_end}
-use borrow.Author.Rules.{rules}
 use Rattle.text.proofs.write.write_bytes.Goals as goal
 
 pub loop-i-init : goal.loop-i-init

@@ -1,11 +1,8 @@
 -- `text::write_bytes` writes byte by byte. Assumes nothing.
-use mathlib.Core.Path.{◌≡◌, refl, ◌∙◌}
+use mathlib.Core.Path.{◌≡◌}
 use Prim.Native.Nat.{◌+◌, ◌-◌, ◌≤◌}
-use native.Mathlib.Omega.{arith}
-use lib.ListN.{length, take, length-set}
+use lib.ListN.{length, take}
 use Rattle.text.specs.Write.{Written}
-use Rattle.text.proofs.Bytes.{bytes_start, bytes_place, bytes_more, bytes_end}
-use borrow.Author.Rules.{rules}
 use Rattle.text.proofs.write.write_bytes.Given as goal
 
 abbrev pub invariant-loop-i : goal.invariant-loop-i

@@ -1,6 +1,5 @@
 -- `text::write_digit` writes the digit of a number below 10. Assumes nothing.
 use native.Mathlib.Omega.{arith}
-use borrow.Author.Rules.{rules}
 use Rattle.text.proofs.Digits.{digits_some}
 use Rattle.text.proofs.Writing.{digit_alone}
 use Rattle.text.proofs.write.write_digit.Goals as goal

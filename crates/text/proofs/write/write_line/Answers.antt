@@ -4,10 +4,8 @@ use native.Mathlib.Omega.{arith}
 use lib.IntN.{pos}
 use Rattle.text.proofs.Signed.{kept, allowed_fits}
 use Rattle.text.proofs.Lines.{allowed_at}
-use Prim.Native.Nat.{◌-◌}
-use lib.ListN.{length, get_or}
-use Rattle.text.proofs.Writing.{Pending, pending_start, pending_end, pending_room, pending_place, pending_more}
-use borrow.Author.Rules.{rules}
+use lib.ListN.{get_or}
+use Rattle.text.proofs.Writing.{pending_start, pending_end, pending_room, pending_place, pending_more}
 use Rattle.text.proofs.write.write_line.Goals as goal
 
 pub loop-i-init : goal.loop-i-init

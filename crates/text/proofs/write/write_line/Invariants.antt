@@ -1,13 +1,7 @@
 -- `text::write_line` writes a line. The loop: with the values from i on written, the buffer is as it shall be. Assumes nothing.
-use mathlib.Core.Bool.{true}
-use native.Mathlib.Omega.{arith}
-use lib.IntN.{pos}
-use Rattle.text.proofs.Signed.{kept, allowed_fits}
-use Rattle.text.proofs.Lines.{allowed_at}
 use Prim.Native.Nat.{◌-◌}
-use lib.ListN.{length, get_or}
-use Rattle.text.proofs.Writing.{Pending, pending_start, pending_end, pending_room, pending_place, pending_more}
-use borrow.Author.Rules.{rules}
+use lib.ListN.{length}
+use Rattle.text.proofs.Writing.{Pending}
 use Rattle.text.proofs.write.write_line.Given as goal
 
 abbrev pub invariant-loop-i : goal.invariant-loop-i

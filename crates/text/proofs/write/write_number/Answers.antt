@@ -9,7 +9,6 @@ use Rattle.text.specs.Text.{digits, number}
 use Rattle.text.specs.Write.{Room}
 use Rattle.text.proofs.Signed.{kept, held, neg_allowed, plain_allowed, negative_allowed, plain_number, negative_number}
 use Rattle.text.proofs.Writing.{number_some, byte_then}
-use borrow.Author.Rules.{rules}
 use Rattle.text.proofs.write.write_number.Goals as goal
 
 pub unsigned-requires : goal.unsigned-requires
