@@ -104,7 +104,7 @@ fn size_at(numbers: &[u32], at: usize) -> usize
 }
 
 // Where a text begins and ends in what is lent.
-#[derive(Drop)]
+#[derive(Clone, Copy)]
 struct Place {
     begin: usize,
     end: usize,
