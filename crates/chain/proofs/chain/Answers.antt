@@ -1,5 +1,4 @@
 -- `chain::chain` hands back the front of the buffer that it filled. Assumes nothing.
-use borrow.Author.Rules.{rules}
 use Rattle.steptable.specs.TableText.{ours}
 use Rattle.chain.proofs.ChainWays.{front_fits, front_made}
 use Rattle.chain.proofs.chain.Goals as goal

@@ -1,5 +1,4 @@
 -- `chain::write_chain` lends document 01's own step table. Assumes nothing.
-use borrow.Author.Rules.{rules}
 use Rattle.rules.proofs.Table.{steps_rule}
 use Rattle.chain.proofs.write_chain.Goals as goal
 

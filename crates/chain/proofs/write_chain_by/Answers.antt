@@ -1,7 +1,6 @@
 -- `chain::write_chain_by` writes a chain or refuses. Assumes nothing.
-use borrow.Author.Rules.{rules}
 use mathlib.Core.Path.{◌∙◌}
-use Rattle.rules.specs.Call.{Call, ask_reach}
+use Rattle.rules.specs.Call.{ask_reach}
 use Rattle.steptable.specs.TableText.{lent}
 use Rattle.refusals.proofs.EarlyTests.{EarlyFound, early_found}
 use Rattle.chain.proofs.ChainWays.{chain_buffer, chain_early, chain_made}

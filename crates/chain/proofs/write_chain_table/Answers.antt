@@ -1,5 +1,4 @@
 -- `chain::write_chain_table` lends the table of a text. Assumes nothing.
-use borrow.Author.Rules.{rules}
 use Rattle.steptable.proofs.Right.{given_keeps}
 use Rattle.chain.proofs.write_chain_table.Goals as goal
 

@@ -1,5 +1,4 @@
 -- `chain::limits_for` finds the reaches of a receiver. Assumes nothing.
-use borrow.Author.Rules.{rules}
 use Rattle.chain.proofs.held.limits_for.Goals as goal
 
 pub limits_for-requires : goal.limits_for-requires

@@ -9,7 +9,6 @@ use mir.Facts.{to_z-of_z, to_z_pos}
 use lib.ListN.{length, get_or}
 use lib.IntN.{pos}
 use lib.Signed.{lt_z}
-use Rattle.block.specs.Bytes.{IsBytes}
 use Rattle.block.proofs.Bytes.{fits_bytes}
 use Rattle.block.proofs.Held.{rules_of, has_records}
 use Rattle.chain.proofs.ChainWays.{carrying_refused, carrying_traceable, carrying_done}

@@ -1,5 +1,4 @@
 -- `chain::write_held` writes a chain for a standing pair, or refuses by what the register holds. Assumes nothing.
-use borrow.Author.Rules.{rules}
 use mathlib.Core.Path.{◌≡◌, sym, ◌∙◌}
 use mathlib.Core.Bool.{not}
 use mathlib.Core.List.{[], ◌∷◌}
@@ -7,7 +6,7 @@ use native.Mathlib.Omega.{arith}
 use Rattle.rules.specs.Pair.{is_pair}
 use Rattle.rules.specs.Refusal.{first_of, subjects_held}
 use Rattle.rules.proofs.Refusals.{passes_of}
-use Rattle.block.specs.Bytes.{IsBytes, leading}
+use Rattle.block.specs.Bytes.{leading}
 use Rattle.block.specs.Block.{count_in, decode}
 use Rattle.block.proofs.Bytes.{fits_bytes}
 use Rattle.block.proofs.Held.{size_held, count_most}

@@ -8,7 +8,7 @@ use Rattle.search.specs.Search.{parent_in}
 use Rattle.runs.specs.Lent.{record_at, delegations_in}
 use Rattle.runs.proofs.Records.{receiver_at, giver_at, delegation_mem}
 use Rattle.chain.proofs.Ready.{parent_record}
-use Rattle.chain.proofs.LinkBytes.{links_short, written_left, written_owner, written_more}
+use Rattle.chain.proofs.LinkBytes.{links_short, written_more}
 use Rattle.chain.proofs.links.+write_links.Goals as goal
 use Rattle.chain.proofs.links.+write_links.Goals.{Else-subject-eq0, After-write_links-n}
 
@@ -72,4 +72,3 @@ returns t c =
     let e = parent_record c.args.records.now c.args.parents.now c.args.subject (placed t (goal.at.returns t c).Else-subject-eq0) in
     written_more (parent_in (delegations_in c.args.records.now) c.args.parents.now) c.args.left c.args.subject _ _ f.result c.args.buf.now _ c.if-left-eq0.false c.if-subject-eq0.false
     (ap (λ (d : Delegation). d.giver) e ∙ giver_at c.args.records.now k) (ap (λ (d : Delegation). d.receiver) e ∙ receiver_at c.args.records.now k) c.requires.1 f.ensures
-
