@@ -1,5 +1,5 @@
 -- The parts of a function's code, for a walk that has a loop. Assumes nothing.
-use mir.Syntax.{Body, skip, seq, assign, block, loop, cond, switch, exit, return, call}
+use mir.Syntax.{Body, skip, seq, assign, block, loop, cond, switch, exit, return, call, call_v, lend_static, unreachable}
 
 -- the first statement of a sequence and the code after it; the code in a block or a loop; `skip` where there is none
 record Parts : Type 0 where
@@ -24,6 +24,9 @@ parts (switch c a) = whole
 parts (exit n) = whole
 parts return = whole
 parts (call f a p) = whole
+parts unreachable = whole
+parts (call_v f a p q) = whole
+parts (lend_static p a q) = whole
 
 abbrev pub after : Body → Body
 after b = (parts b).rest
