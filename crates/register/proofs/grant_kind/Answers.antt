@@ -1,0 +1,10 @@
+-- `register::grant_kind` lends the table of a text. Assumes nothing.
+use borrow.Author.Rules.{rules}
+use Rattle.steptable.proofs.Right.{given_keeps}
+use Rattle.register.proofs.grant_kind.Goals as goal
+
+pub grant_by-requires : goal.grant_by-requires
+grant_by-requires c = rw c.read_table-g.ensures (given_keeps c.args.table.now)
+
+pub returns : goal.returns
+returns c = rw (← c.read_table-g.ensures) c.grant_by.ensures

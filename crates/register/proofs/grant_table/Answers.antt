@@ -1,0 +1,6 @@
+-- `register::grant_table` adds an ordinary delegation. Assumes nothing.
+use borrow.Author.Rules.{rules}
+use Rattle.register.proofs.grant_table.Goals as goal
+
+pub returns : goal.returns
+returns c = c.grant_kind.ensures
