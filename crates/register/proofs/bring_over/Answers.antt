@@ -1,7 +1,5 @@
 -- `register::bring_over` takes a block of the layout before over, or refuses. Assumes nothing.
 use mathlib.Core.Path.{sym, ap, ◌∙◌}
-use borrow.Author.Rules.{rules}
-use borrow.Author.Tests.{not-true, not-false}
 use Rattle.block.specs.WellFormed.{well_formed}
 use Rattle.register.proofs.BringWays.{bring_old, bring_new, bring_unformed, bring_done}
 use Rattle.register.proofs.bring_over.Goals as goal

@@ -1,11 +1,9 @@
 -- `register::enrol` enrols a subject or refuses. Assumes nothing.
-use borrow.Author.Rules.{rules}
 use mathlib.Core.Path.{sym, ◌∙◌}
 use mir.Facts.{to_z_pos}
 use mir.Syntax.{w32}
 use native.Mathlib.Omega.{arith}
 use Rattle.rules.specs.Call.{Call, enrol}
-use Rattle.block.specs.Bytes.{IsBytes}
 use Rattle.block.proofs.Bytes.{fits_bytes}
 use Rattle.block.proofs.Held.{held_fitting}
 use Rattle.steptable.specs.TableText.{ours}

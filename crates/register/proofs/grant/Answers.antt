@@ -1,5 +1,4 @@
 -- `register::grant` lends document 01's own step table. Assumes nothing.
-use borrow.Author.Rules.{rules}
 use Rattle.rules.proofs.Table.{steps_rule}
 use Rattle.register.proofs.grant.Goals as goal
 

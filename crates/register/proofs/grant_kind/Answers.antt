@@ -1,5 +1,4 @@
 -- `register::grant_kind` lends the table of a text. Assumes nothing.
-use borrow.Author.Rules.{rules}
 use Rattle.steptable.proofs.Right.{given_keeps}
 use Rattle.register.proofs.grant_kind.Goals as goal
 

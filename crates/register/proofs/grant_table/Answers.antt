@@ -1,5 +1,4 @@
 -- `register::grant_table` adds an ordinary delegation. Assumes nothing.
-use borrow.Author.Rules.{rules}
 use Rattle.register.proofs.grant_table.Goals as goal
 
 pub returns : goal.returns

@@ -1,5 +1,4 @@
 -- `register::open` writes a fresh register or refuses. Assumes nothing.
-use borrow.Author.Rules.{rules}
 use Rattle.register.proofs.Made.{open_refused, open_done}
 use Rattle.register.proofs.open.Goals as goal
 

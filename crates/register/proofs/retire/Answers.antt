@@ -1,5 +1,4 @@
 -- `register::retire` lends the table of a text. Assumes nothing.
-use borrow.Author.Rules.{rules}
 use Rattle.steptable.proofs.Right.{given_keeps}
 use Rattle.register.proofs.retire.Goals as goal
 

@@ -1,5 +1,4 @@
 -- `register::revoke_table` lends the table of a text. Assumes nothing.
-use borrow.Author.Rules.{rules}
 use Rattle.steptable.proofs.Right.{given_keeps}
 use Rattle.register.proofs.revoke_table.Goals as goal
 

@@ -1,5 +1,4 @@
 -- `register::set_marks` lends the table of a text. Assumes nothing.
-use borrow.Author.Rules.{rules}
 use Rattle.steptable.proofs.Right.{given_keeps}
 use Rattle.register.proofs.set_marks.Goals as goal
 

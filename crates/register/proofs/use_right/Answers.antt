@@ -1,5 +1,4 @@
 -- `register::use_right` answers or refuses. Assumes nothing.
-use borrow.Author.Rules.{rules}
 use borrow.Author.Tests.{eq-eqb, ne_eqb}
 use lib.Dec.{eqb}
 use lib.IntN.{pos}
@@ -9,7 +8,6 @@ use native.Mathlib.Omega.{arith}
 use Rattle.rules.specs.Call.{Call, ask_use}
 use Rattle.rules.specs.Pair.{opens}
 use Rattle.block.specs.Block.{count_in}
-use Rattle.block.specs.Bytes.{IsBytes}
 use Rattle.block.specs.Records.{delegations_to}
 use Rattle.block.proofs.Bytes.{fits_bytes}
 use Rattle.block.proofs.Held.{count_most}

@@ -1,9 +1,8 @@
 -- `register::downgrade_by` makes a cut. Assumes nothing.
-use borrow.Author.Rules.{rules}
 use mathlib.Core.Path.{refl}
 use native.Mathlib.Omega.{arith}
 use Rattle.rules.specs.Call.{Call, downgrade}
-use Rattle.rules.specs.Cut.{Change, cutting, lowering, named}
+use Rattle.rules.specs.Cut.{cutting, lowering, named}
 use Rattle.block.specs.Block.{decode}
 use Rattle.block.proofs.Bytes.{fits_bytes}
 use Rattle.steptable.specs.TableText.{lent}

@@ -1,9 +1,8 @@
 -- `register::retire_by` retires a subject, and rounds follow. Assumes nothing.
-use borrow.Author.Rules.{rules}
 use mathlib.Core.Path.{refl}
 use native.Mathlib.Omega.{arith}
 use Rattle.rules.specs.Call.{Call, retire}
-use Rattle.rules.specs.Cut.{Change, retirement}
+use Rattle.rules.specs.Cut.{retirement}
 use Rattle.block.specs.Block.{decode}
 use Rattle.block.proofs.Bytes.{fits_bytes}
 use Rattle.block.proofs.Held.{subjects_held_lem}

@@ -1,9 +1,8 @@
 -- `register::revoke_by` makes a cut. Assumes nothing.
-use borrow.Author.Rules.{rules}
 use mathlib.Core.Path.{refl}
 use native.Mathlib.Omega.{arith}
 use Rattle.rules.specs.Call.{Call, revoke}
-use Rattle.rules.specs.Cut.{Change, cutting, removal}
+use Rattle.rules.specs.Cut.{cutting, removal}
 use Rattle.block.specs.Block.{decode}
 use Rattle.block.proofs.Bytes.{fits_bytes}
 use Rattle.steptable.specs.TableText.{lent}

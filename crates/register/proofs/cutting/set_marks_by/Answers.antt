@@ -1,9 +1,8 @@
 -- `register::set_marks_by` sets marks, and rounds follow. Assumes nothing.
-use borrow.Author.Rules.{rules}
 use mathlib.Core.Path.{refl}
 use native.Mathlib.Omega.{arith}
 use Rattle.rules.specs.Call.{Call, set_marks}
-use Rattle.rules.specs.Cut.{Change, marking}
+use Rattle.rules.specs.Cut.{marking}
 use Rattle.block.specs.Block.{decode}
 use Rattle.block.proofs.Bytes.{fits_bytes}
 use Rattle.block.proofs.Held.{subjects_held_lem}

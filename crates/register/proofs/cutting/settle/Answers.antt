@@ -1,5 +1,4 @@
 -- `register::settle` makes the rounds of a cut. Assumes nothing.
-use borrow.Author.Rules.{rules}
 use Prim.Native.Nat.{◌≤◌}
 use native.Mathlib.Omega.{arith}
 use mir.Syntax.{w32}

@@ -1,5 +1,4 @@
 -- `register::grant_by` adds a delegation, raises one or refuses. Assumes nothing.
-use borrow.Author.Rules.{rules}
 use Prim.Native.Nat.{◌≤◌}
 use mathlib.Core.Path.{sym, ◌∙◌}
 use mir.Facts.{to_z_pos}
@@ -8,7 +7,6 @@ use native.Mathlib.Omega.{arith}
 use Rattle.rules.specs.Register.{granted}
 use Rattle.rules.specs.Call.{Call, grant}
 use Rattle.block.specs.Block.{count_in}
-use Rattle.block.specs.Bytes.{IsBytes}
 use Rattle.block.proofs.Bytes.{fits_bytes}
 use Rattle.steptable.specs.TableText.{lent}
 use Rattle.refusals.proofs.EarlyTests.{Through, through}

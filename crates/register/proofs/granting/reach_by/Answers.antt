@@ -1,11 +1,9 @@
 -- `register::reach_by` answers or refuses. Assumes nothing.
-use borrow.Author.Rules.{rules}
 use mathlib.Core.Path.{sym, ◌∙◌}
 use mir.Facts.{to_z-of_z}
 use mir.Syntax.{w16, w32}
 use native.Mathlib.Omega.{arith}
 use Rattle.rules.specs.Call.{Call, ask_reach}
-use Rattle.block.specs.Bytes.{IsBytes}
 use Rattle.block.proofs.Bytes.{fits_bytes}
 use Rattle.steptable.specs.TableText.{lent}
 use Rattle.refusals.proofs.EarlyTests.{Through, through}
