@@ -1,5 +1,4 @@
 -- `seatreg::seatreg_bring_over` takes a block of the layout before over, or refuses, and hands out. Assumes nothing.
-use borrow.Author.Rules.{rules}
 use Rattle.seatreg.proofs.Entry.{bring_short, bring_made}
 use Rattle.seatreg.proofs.seatreg_bring_over.Goals as goal
 

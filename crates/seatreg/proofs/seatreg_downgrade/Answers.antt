@@ -1,5 +1,4 @@
 -- `seatreg::seatreg_downgrade` downgrades, or refuses, and hands out. Assumes nothing.
-use borrow.Author.Rules.{rules}
 use Rattle.rules.specs.Call.{downgrade}
 use Rattle.steptable.specs.TableText.{ours}
 use Rattle.seatreg.proofs.Entry.{cut_short, cut_made}

@@ -1,5 +1,4 @@
 -- `seatreg::seatreg_enrol` enrols, or refuses, and hands out. Assumes nothing.
-use borrow.Author.Rules.{rules}
 use Rattle.rules.specs.Call.{enrol}
 use Rattle.steptable.specs.TableText.{ours}
 use Rattle.seatreg.proofs.Entry.{short, made}

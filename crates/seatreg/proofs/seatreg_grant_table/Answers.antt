@@ -1,5 +1,4 @@
 -- `seatreg::seatreg_grant_table` grants by the step table of a text, or refuses, and hands out. Assumes nothing.
-use borrow.Author.Rules.{rules}
 use Rattle.rules.specs.Register.{granted}
 use Rattle.rules.specs.Call.{grant}
 use Rattle.steptable.specs.TableText.{given}

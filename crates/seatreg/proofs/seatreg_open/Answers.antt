@@ -1,5 +1,4 @@
 -- `seatreg::seatreg_open` writes a fresh register, or refuses, and hands out. Assumes nothing.
-use borrow.Author.Rules.{rules}
 use Rattle.seatreg.proofs.Entry.{open_short, open_made}
 use Rattle.seatreg.proofs.seatreg_open.Goals as goal
 
@@ -13,4 +12,4 @@ returns c =
     let h = c.hand_out in
     let a = c.args in
     open_made a.block.now a.answers.now
-    c.if-answers-ne-ANSWERS_SIZE.false c.open-o.result c.«open».new.0 c.«open».ensures h.result h.new.answers h.ensures
+    c.if-answers-ne-ANSWERS_SIZE.false c.open-o.result c.open-o.new.block c.open-o.ensures h.result h.new.answers h.ensures

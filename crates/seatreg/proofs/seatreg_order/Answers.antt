@@ -1,5 +1,4 @@
 -- `seatreg::seatreg_order` writes the order for a receiver, or refuses, and hands out. Assumes nothing.
-use borrow.Author.Rules.{rules}
 use Prim.Native.Nat.{◌*◌, ◌≤◌}
 use native.Mathlib.Omega.{arith}
 use Rattle.steptable.specs.TableText.{given}

@@ -1,5 +1,4 @@
 -- `seatreg::seatreg_reach` answers the reach, or refuses, and hands out. Assumes nothing.
-use borrow.Author.Rules.{rules}
 use Rattle.rules.specs.Call.{ask_reach}
 use Rattle.steptable.specs.TableText.{ours}
 use Rattle.seatreg.proofs.Entry.{short, made}

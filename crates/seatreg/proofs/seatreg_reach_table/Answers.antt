@@ -1,5 +1,4 @@
 -- `seatreg::seatreg_reach_table` answers the reach by the step table of a text, or refuses, and hands out. Assumes nothing.
-use borrow.Author.Rules.{rules}
 use Rattle.rules.specs.Call.{ask_reach}
 use Rattle.steptable.specs.TableText.{given}
 use Rattle.seatreg.proofs.Entry.{short, made}

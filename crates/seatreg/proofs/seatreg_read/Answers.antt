@@ -1,5 +1,4 @@
 -- `seatreg::seatreg_read` reads the register of a text, or refuses, and hands out. Assumes nothing.
-use borrow.Author.Rules.{rules}
 use Rattle.seatreg.proofs.Entry.{read_short, read_made}
 use Rattle.seatreg.proofs.seatreg_read.Goals as goal
 

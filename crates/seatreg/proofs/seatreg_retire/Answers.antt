@@ -1,5 +1,4 @@
 -- `seatreg::seatreg_retire` retires a subject by the step table of a text, or refuses, and hands out. Assumes nothing.
-use borrow.Author.Rules.{rules}
 use Rattle.rules.specs.Call.{retire}
 use Rattle.steptable.specs.TableText.{given}
 use Rattle.seatreg.proofs.Entry.{cut_short, cut_made}

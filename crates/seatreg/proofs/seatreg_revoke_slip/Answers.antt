@@ -1,5 +1,4 @@
 -- `seatreg::seatreg_revoke_slip` revokes by the step table of a text and writes a slip, or refuses, and hands out. Assumes nothing.
-use borrow.Author.Rules.{rules}
 use Rattle.rules.specs.Cut.{removal}
 use Rattle.steptable.specs.TableText.{given}
 use Rattle.seatreg.proofs.Entry.{slip_short, slip_made}

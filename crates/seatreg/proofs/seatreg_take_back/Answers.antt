@@ -1,5 +1,4 @@
 -- `seatreg::seatreg_take_back` takes the cut of a slip back, or refuses, and hands out. Assumes nothing.
-use borrow.Author.Rules.{rules}
 use Rattle.steptable.specs.TableText.{given}
 use Rattle.seatreg.proofs.Entry.{back_short, back_made}
 use Rattle.seatreg.proofs.seatreg_take_back.Goals as goal

@@ -1,5 +1,4 @@
 -- `seatreg::seatreg_use` answers whether the right is held, or refuses, and hands out. Assumes nothing.
-use borrow.Author.Rules.{rules}
 use Rattle.rules.specs.Call.{ask_use}
 use Rattle.steptable.specs.TableText.{ours}
 use Rattle.seatreg.proofs.Entry.{short, made}

@@ -1,5 +1,4 @@
 -- `seatreg::seatreg_write` writes the text of a register, or refuses, and hands out. Assumes nothing.
-use borrow.Author.Rules.{rules}
 use Prim.Native.Nat.{◌≤◌}
 use native.Mathlib.Omega.{arith}
 use Rattle.block.proofs.Bytes.{fits_bytes}

@@ -1,5 +1,4 @@
 -- `seatreg::answers::hand_out` writes the answers of an accepted call and returns the number. Assumes nothing.
-use borrow.Author.Rules.{rules}
 use native.Mathlib.Omega.{arith}
 use mir.Syntax.{w32}
 use mir.Val.{SFits}

@@ -1,5 +1,4 @@
 -- `seatreg::answers::hand_out_length` hands out how many bytes were filled. Assumes nothing.
-use borrow.Author.Rules.{rules}
 use native.Mathlib.Omega.{arith}
 use mir.Syntax.{w32}
 use mir.Facts.{to_z_pos}

@@ -1,5 +1,4 @@
 -- `seatreg::answers::put_answers` stores three answers. Assumes nothing.
-use borrow.Author.Rules.{rules}
 use mathlib.Core.Path.{ap, ◌∙◌}
 use mir.Facts.{to_z-of_z}
 use Rattle.seatreg.specs.Answers.{bits}

@@ -1,5 +1,4 @@
 -- `seatreg::answers::put_four` stores four bytes. Assumes nothing.
-use borrow.Author.Rules.{rules}
 use native.Mathlib.Omega.{arith}
 use lib.ListN.{length-set}
 use Rattle.block.proofs.Bytes.{plus1, plus2, plus3}
