@@ -1,4 +1,6 @@
 // The block of 2,188 bytes: its layout and its reads.
+#![tactic(auto)]
+
 pub mod layout;
 mod read;
 

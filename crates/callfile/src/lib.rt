@@ -1,4 +1,6 @@
 // The call file: from a lent text to a lent output.
+#![tactic(auto)]
+
 ghost use Rattle.std.specs.Prelude.{◌≡◌, true, false, ◌+◌, ◌*◌, ◌≤◌, T, length};
 ghost use Rattle.text.specs.Text.{AllAllowed};
 ghost use Rattle.text.specs.Write.{Written};

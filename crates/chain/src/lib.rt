@@ -1,4 +1,6 @@
 // Document 01's call chain: a chain that carries the weight of a standing delegation, written into a lent buffer; by document 01's own step table, or by one that the host lends as text.
+#![tactic(auto)]
+
 mod held;
 mod links;
 

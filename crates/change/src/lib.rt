@@ -1,4 +1,6 @@
 // Changes of a block, each as the change of the register that it holds.
+#![tactic(auto)]
+
 mod left;
 mod retiring;
 mod write;

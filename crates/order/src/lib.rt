@@ -1,4 +1,6 @@
 // Document 02's order call: from whom a right can come to a receiver, heaviest first, written into a lent buffer; by document 01's own step table, or by one that the host lends as text.
+#![tactic(auto)]
+
 ghost use Rattle.std.specs.Prelude.{◌≡◌, ◌++◌, ◌*◌, length, take, drop};
 ghost use Rattle.rules.specs.Table.{TableRule};
 ghost use Rattle.block.specs.Block.{decode};

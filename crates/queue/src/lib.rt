@@ -1,4 +1,6 @@
 // The subjects that wait to be settled, by limit: a bucket queue of groups of four levels, the highest group first.
+#![tactic(auto)]
+
 ghost use Rattle.std.specs.Prelude.{◌≡◌, ◌≢◌, ◌∷◌, ◌<◌, length};
 ghost use Rattle.rules.specs.Bits.{BitPut};
 ghost use Rattle.queue.specs.Queue.{levels, groups, set_bits, Without, Lowest, BitSet, group_of, place_of, Covered, IsQueue, Taken, owner_here};

@@ -1,4 +1,6 @@
 // The reckoning of a round on a well-formed block: the weights that it leaves.
+#![tactic(auto)]
+
 mod indexed;
 mod lower;
 mod reaches;

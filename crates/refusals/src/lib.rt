@@ -1,4 +1,6 @@
 // The refusals of the public calls, on plain numbers and a lent block: each function is the number of the first that applies, or 0.
+#![tactic(auto)]
+
 mod held;
 mod passed;
 

@@ -1,4 +1,6 @@
 // The text of a register: written from a block, and read into one.
+#![tactic(auto)]
+
 mod read;
 mod write;
 

@@ -1,4 +1,6 @@
 // The public calls of the register, on plain numbers and a lent block of any length and content, by document 01's own step table; those that reckon reach also by one that the host lends as text of any length and content.
+#![tactic(auto)]
+
 mod cutting;
 mod granting;
 

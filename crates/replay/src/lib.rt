@@ -1,4 +1,6 @@
 // A list of calls made one after another, every block kept; each may be lent the text of a step table.
+#![tactic(auto)]
+
 ghost use Rattle.std.specs.Prelude.{◌≡◌, ◌+◌, ◌*◌, ◌≤◌, ◌<◌, T, length, get_or, drop};
 ghost use Rattle.block.specs.Layout.{block_size};
 ghost use Rattle.register.specs.Made.{result};

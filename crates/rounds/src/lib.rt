@@ -1,4 +1,6 @@
 // Rounds on a well-formed block: what is not supported is lowered or removed, until a round changes nothing.
+#![tactic(auto)]
+
 mod counted;
 
 ghost use Rattle.std.specs.Prelude.{◌≡◌, true, not, length};

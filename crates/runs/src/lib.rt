@@ -1,4 +1,6 @@
 // What one giver's records give.
+#![tactic(auto)]
+
 ghost use Rattle.std.specs.Prelude.{◌≡◌, ◌∷◌, ℕ, ◌≤◌, ◌<◌, length, get_or, drop};
 ghost use Rattle.rules.specs.Limit.{none};
 ghost use Rattle.rules.specs.Table.{TableRule};

@@ -1,4 +1,6 @@
 // The search for reach: for one receiver's marks, the largest limit of every subject.
+#![tactic(auto)]
+
 ghost use Rattle.std.specs.Prelude.{◌≡◌, ◌≢◌, ◌+◌, ◌<◌, length, set};
 ghost use Rattle.block.specs.Layout.{most_subjects};
 ghost use Rattle.queue.specs.Queue.{groups};

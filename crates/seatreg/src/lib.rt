@@ -1,4 +1,6 @@
 // The C entry points of the register: the calls on plain numbers, a lent block and twelve lent bytes for the answers, both of any length and content; those that reckon reach also with the text of a step table; the order for a receiver; the register as a file, out and in; a block of the layout before, brought over; cuts that write a slip, and a slip handed in.
+#![tactic(auto)]
+
 mod answers;
 
 ghost use Rattle.rules.specs.Register.{granted};

@@ -1,4 +1,6 @@
 // Cuts that can be taken back: a revocation or downgrade that writes a slip, and the slip handed in.
+#![tactic(auto)]
+
 mod slip;
 
 ghost use Rattle.std.specs.Prelude.{◌≡◌, T, length};

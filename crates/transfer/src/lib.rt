@@ -1,4 +1,6 @@
 // The register as a file: written as text into a lent buffer, and read from text into a block of any content.
+#![tactic(auto)]
+
 ghost use Rattle.std.specs.Prelude.{◌≡◌};
 ghost use Rattle.transfer.specs.FileOn.{unfilled_by, WriteMade, WriteFront, ReadMade};
 

@@ -1,1 +1,2 @@
 // What the proofs by hand of functions that the borrow checker does not cover have in common; no code.
+#![tactic(auto)]

@@ -1,0 +1,6 @@
+-- `queue::minus` takes the members of another set out of a set. Assumes nothing.
+use Rattle.queue.proofs.Buckets.{bits_without}
+use Rattle.queue.proofs.minus.Goals as goal
+
+pub returns : goal.returns
+returns c = bits_without c.args.set c.args.other
