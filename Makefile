@@ -30,10 +30,13 @@ INSTALL ?= install
 
 archive := target/staticlib/libseatreg.a
 program := target/bin/seatcalls
+# Where the toolchain leaves them.
+proved_archive := crates/seatreg/out/libseatreg.a
+proved_program := crates/seatcalls/out/seatcalls
 header := include/seatreg.h
 # The crates below both the archive and the program.
 below := text rules steptable block change regfile queue runs search reckoning rounds refusals order register slips transfer demands
-sources = $(shell find $(addprefix crates/,$(1)) -name '*.rt' -o -name '*.antt')
+sources = $(shell find $(addprefix crates/,$(1)) -name out -prune -o -name '*.rt' -print -o -name '*.antt' -print)
 second := target/second/libsecond.rlib
 generate := target/second/libgenerate.rlib
 readers := target/compare/readers.o
@@ -56,15 +59,22 @@ help:
 lib: $(archive)
 
 $(archive): crates.txt $(call sources,$(below) seatreg)
-	$(RT) staticlib seatreg
+	cd crates/seatreg && $(RT) lib
+	@mkdir -p $(@D)
+	cp $(proved_archive) $@
 
 run: $(program)
 	@$(program) < examples/listing.calls
 
-# The toolchain links a program only when it proves it, which it does again only without its stamp.
-$(program): crates.txt $(call sources,$(below) replay callfile seatcalls)
-	rm -f target/stamp/seatcalls
-	$(RT) check seatcalls
+$(program): $(proved_program)
+	@mkdir -p $(@D)
+	cp $< $@
+
+# `rt run` proves and links it, and runs it on an empty input. So does `rt ci`, on an input of its own: after that this has nothing to do. Where
+# nothing has changed but the time of a file, `rt run` leaves the program as it is.
+$(proved_program): crates.txt $(call sources,$(below) replay callfile seatcalls)
+	cd crates/seatcalls && $(RT) run </dev/null >/dev/null
+	touch $@
 
 host: $(hosts)
 	@for host in $(notdir $(hosts)); do \
@@ -191,4 +201,4 @@ test:
 	bash .ci/run
 
 clean:
-	rm -rf target/host target/compare target/bench target/drawing target/stack target/dist $(archive)
+	rm -rf target

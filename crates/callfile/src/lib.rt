@@ -21,14 +21,14 @@ const NAMES_SIZE: usize = 39;
 pub const OUT_SIZE: usize = 262144;
 
 // The refusal, 0 where the text was run, and how many bytes were written.
-#[derive(Drop)]
+#[derive(Clone, Copy)]
 pub struct Printed {
     pub refusal: u32,
     pub length: usize,
 }
 
 // One line of a call file, and where the text goes on: at the same place where no call was found.
-#[derive(Drop)]
+#[derive(Clone, Copy)]
 struct Row {
     call: u32,
     by: u32,
@@ -196,7 +196,7 @@ fn write_malformed(out: &mut [u8], at: usize, number: usize) -> usize
 }
 
 // Where the output goes on, the number of the present line, and whether one is left.
-#[derive(Drop)]
+#[derive(Clone, Copy)]
 struct Place {
     to: usize,
     number: usize,

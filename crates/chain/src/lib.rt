@@ -20,7 +20,7 @@ const LINK_SIZE: usize = 2;
 const CHAIN_SIZE: usize = LINK_SIZE * held::MOST_LINKS;
 
 // The refusal number of the chain call, 0 when accepted, and how many links were written.
-#[derive(Drop)]
+#[derive(Clone, Copy)]
 pub struct ChainAnswer {
     pub refusal: u32,
     pub links: usize,

@@ -65,7 +65,7 @@ other (pos n) e l d = (tt, omega arith, sym (lt-ltb 0 (suc n) (omega arith)), re
 other (negsuc n) e l d = clash e
 
 pub kept_is : (z : ℤ) → mag z < 32768 → kept z ≡ z
-kept_is z h = to_z-of_z record { sfits = h }
+kept_is z h = to_z-of_z {w = w16} record { sfits = h }
 
 module _ (z : ℤ) (f : SFits w16 z) where
   as_is : kept z ≡ z

@@ -36,7 +36,7 @@ use Rattle.steptable.specs.declared.Given.{Given}
 use Rattle.steptable.proofs.Right.{given_right, given_keeps, given_number}
 use Rattle.refusals.specs.Early.{text_refused}
 use Rattle.register.specs.CallOn.{Result, turned, call_on, open_on}
-use Rattle.register.specs.Made.{result, MadeOpen}
+use Rattle.register.specs.Made.{result_of, MadeOpen}
 use Rattle.register.specs.Cuts.{CutsLeft}
 use Rattle.register.specs.declared.Answer.{Answer}
 use Rattle.register.proofs.CutWays.{register_left, cuts_left}
@@ -56,7 +56,7 @@ open_written : (b : List ℕ) (o : Answer) (after : List ℕ) → MadeOpen b o a
 unfolding open_on
 open_written b o after q z = go (eqb (length b) block_size) q
   where
-    go : (x : Bool) → result o after ≡ cond x record { refusal = 0; first = pos 0; second = pos 0; third = pos 0; bytes = encode fresh } (turned 1 b) → after ≡ encode fresh
+    go : (x : Bool) → result_of o after ≡ cond x record { refusal = 0; first = pos 0; second = pos 0; third = pos 0; bytes = encode fresh } (turned 1 b) → after ≡ encode fresh
     go true e = ap (λ (r : Result). r.bytes) e
     go false e = let n = sym z ∙ ap (λ (r : Result). r.refusal) e in absurd (omega arith)
 

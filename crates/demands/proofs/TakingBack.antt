@@ -37,7 +37,7 @@ use Rattle.steptable.specs.declared.Given.{Given}
 use Rattle.refusals.specs.Early.{back_refusal}
 use Rattle.refusals.proofs.EarlyTests.{EarlyBy, back_none, none_back}
 use Rattle.register.specs.CallOn.{Result, turned, call_on}
-use Rattle.register.specs.Made.{result, answered_by}
+use Rattle.register.specs.Made.{result_of, answered_by}
 use Rattle.register.specs.declared.Answer.{Answer}
 use Rattle.register.proofs.Made.{accepted_passes}
 use Rattle.register.proofs.Through.{accepted_through, accepted_left}

@@ -19,7 +19,7 @@ pub const ITEM_SIZE: usize = 2;
 pub const ORDER_SIZE: usize = ITEM_SIZE * layout::SUBJECTS;
 
 // The refusal number of the order call, 0 when accepted, and how many subjects were written.
-#[derive(Drop)]
+#[derive(Clone, Copy)]
 pub struct Listed {
     pub refusal: u32,
     pub subjects: usize,

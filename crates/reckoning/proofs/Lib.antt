@@ -1,4 +1,3 @@
 pub mod Filling
-pub mod Lends
 pub mod Lowering
 pub mod Rounding

@@ -15,7 +15,7 @@ pub use indexed::index_of;
 pub use reaches::REACHES;
 
 // A decoded delegation; a round lowers the weight of one that it removes to -1.
-#[derive(Drop)]
+#[derive(Clone, Copy)]
 struct Delegation {
     giver: u8,
     receiver: u8,
@@ -25,7 +25,7 @@ struct Delegation {
 }
 
 // How many delegations stand, the set of their receivers, and the marks that some condition names.
-#[derive(Drop)]
+#[derive(Clone, Copy)]
 pub struct Index {
     pub count: usize,
     pub receivers: u64,

@@ -3,7 +3,7 @@ use mathlib.Core.Path.{◌≡◌, refl, sym, ap, subst, ◌∙◌}
 use mathlib.Core.Logic.{◌≢◌, ◌⊎◌, inl, inr}
 use mathlib.Core.Bool.{Bool, true, false}
 use mathlib.Core.List.{List, [], ◌∷◌, ◌++◌, append_assoc, append-nil}
-use Prim.Native.Nat.{ℕ, ◌+◌, ◌-◌, ◌≤◌, ◌<◌}
+use Prim.Native.Nat.{ℕ, ◌-◌, ◌≤◌, ◌<◌}
 use native.Mathlib.Omega.{arith}
 use lib.IntN.{ℤ}
 use lib.ListN.{length, drop, length-append, length-drop}
@@ -19,7 +19,6 @@ use Rattle.text.specs.declared.Line.{Line}
 use Rattle.text.proofs.Sizes.{line_long}
 use Rattle.regfile.specs.FileText.{subject_columns, delegation_columns, rows_of, AreRows}
 use Rattle.regfile.specs.Parsed.{with_row, with_rows, RowsHeld, Unformed, RowPut, RowsLent, RowsRead}
-use Rattle.regfile.specs.declared.Rows.{Rows}
 
 -- ── lists of rows ──
 rows_last : (w : ℕ) (rs : List (List ℤ)) (r : List ℤ) → AreRows w rs → length r ≡ w → AllAllowed false r → AreRows w (rs ++ (r ∷ []))

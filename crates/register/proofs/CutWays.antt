@@ -29,7 +29,7 @@ use Rattle.block.proofs.Held.{held_formed}
 use Rattle.rounds.specs.Settled.{SettledMade}
 use Rattle.rounds.specs.declared.Tally.{Tally}
 use Rattle.register.specs.CallOn.{Result, written, call_on}
-use Rattle.register.specs.Made.{refused_by, answered_by, result, Made}
+use Rattle.register.specs.Made.{refused_by, answered_by, result_of, Made}
 use Rattle.register.specs.Cuts.{on_register, CutsLeft, CutMade}
 use Rattle.register.specs.declared.Answer.{Answer}
 use Rattle.steptable.specs.declared.Given.{Given}
@@ -39,7 +39,7 @@ use Rattle.register.proofs.Made.{accepted_passes, made_done, made_refused}
 use Rattle.register.proofs.Through.{accepted_through, accepted_step, accepted_left}
 
 -- what `settled` promises, as the outcome of a cut
-pub settled_cut : (t : List ℤ) (b : List ℕ) (C : Register) (o : Tally) (after : List ℕ) → SettledMade t C o after → result (answered_by (pos o.dropped) (pos o.lowered) (pos o.rounds)) after ≡ written b (cut t C)
+pub settled_cut : (t : List ℤ) (b : List ℕ) (C : Register) (o : Tally) (after : List ℕ) → SettledMade t C o after → result_of (answered_by (pos o.dropped) (pos o.lowered) (pos o.rounds)) after ≡ written b (cut t C)
 unfolding cut
 settled_cut t b C o after s = λ i. record { refusal = 0; first = pos (s.dropped i); second = pos (s.lowered i); third = pos (s.rounds i); bytes = s.left i }
 
@@ -98,7 +98,7 @@ module _ {g : Given} {b : List ℕ} {c : Call} {k : Change} (h : CutThrough g b 
   changed_block = ap well_formed e ∙ T_true (well_formed (encode (changed (decode b) k))) (encode_formed (changed (decode b) k) formed)
 
   -- the rounds are made on it
-  pub cut_done : (o : Answer) (after : List ℕ) → result o after ≡ written d (cut g.steps (decode d)) → CutMade g c b o after
+  pub cut_done : (o : Answer) (after : List ℕ) → result_of o after ≡ written d (cut g.steps (decode d)) → CutMade g c b o after
   cut_done o after q =
       let C = changed (decode b) k in
       cut_made g h.rule c b h.bytes o after

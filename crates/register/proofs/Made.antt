@@ -19,7 +19,7 @@ use Rattle.steptable.specs.declared.Given.{Given}
 use Rattle.refusals.specs.Early.{early, refusal_on}
 use Rattle.refusals.proofs.EarlyTests.{Early, early_none, none_early, refused_early, refused_held}
 use Rattle.register.specs.CallOn.{Result, turned, written, call_on, open_on}
-use Rattle.register.specs.Made.{refused_by, answered_by, result, Made, MadeOpen}
+use Rattle.register.specs.Made.{refused_by, answered_by, result_of, Made, MadeOpen}
 use Rattle.register.specs.declared.Answer.{Answer}
 
 module _ (g : Given) (c : Call) (b : List ℕ) where
@@ -28,7 +28,7 @@ module _ (g : Given) (c : Call) (b : List ℕ) where
   unfolding call_on
   made_first n f k = go f (eqb (first_of (early g.refusal b c)) 0) (ap (λ (m : ℕ). eqb m 0) f ∙ ne_eqb n 0 k)
     where
-      go : first_of (early g.refusal b c) ≡ n → (x : Bool) → x ≡ false → let r : Result = elim x [ true ↦ written b (call_step g.steps (decode b) c) | false ↦ turned (first_of (early g.refusal b c)) b ] in result (refused_by n) b ≡ r
+      go : first_of (early g.refusal b c) ≡ n → (x : Bool) → x ≡ false → let r : Result = elim x [ true ↦ written b (call_step g.steps (decode b) c) | false ↦ turned (first_of (early g.refusal b c)) b ] in result_of (refused_by n) b ≡ r
       go f true z = absurd (subst T z tt)
       go f false z = ap (λ (m : ℕ). turned m b) (sym f)
 
@@ -66,7 +66,7 @@ module _ (g : Given) (c : Call) (b : List ℕ) where
       accepted_passes = passes g.steps (decode b) c (refusal_held ∙ e)
 
       -- accepted: the answers and the bytes are those of the definitions
-      pub made_done : (o : Answer) (after : List ℕ) → result o after ≡ written b (accepted g.steps (decode b) c) → Made g c b o after
+      pub made_done : (o : Answer) (after : List ℕ) → result_of o after ≡ written b (accepted g.steps (decode b) c) → Made g c b o after
       made_done o after q = q ∙ sym call_on_accepted
 
   -- refused, by whatever test

@@ -5,7 +5,7 @@ use Rattle.block.specs.Layout.{block_size}
 use Rattle.block.specs.Older.{old_size, brought}
 use Rattle.refusals.specs.Early.{not_well_formed}
 use Rattle.register.specs.CallOn.{Result, turned}
-use Rattle.register.specs.Made.{result}
+use Rattle.register.specs.Made.{result_of}
 use Rattle.register.specs.declared.Answer.{Answer}
 
 -- 1: the old block is not 2,180 bytes, or the new one not 2,188
@@ -21,4 +21,4 @@ unfoldable pub bring_on : List ℕ → List ℕ → Result
 bring_on old b = let n = bring_refusal old b in cond (eqb n 0) record { refusal = 0; first = pos 0; second = pos 0; third = pos 0; bytes = brought old } (turned n b)
 
 abbrev pub BringMade : List ℕ → List ℕ → Answer → List ℕ → Type 0
-BringMade old before o after = result o after ≡ bring_on old before
+BringMade old before o after = result_of o after ≡ bring_on old before

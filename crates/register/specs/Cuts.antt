@@ -7,7 +7,7 @@ use Rattle.rules.specs.History.{CutsRight}
 use Rattle.block.specs.Block.{decode}
 use Rattle.steptable.specs.declared.Given.{Given}
 use Rattle.register.specs.CallOn.{Result, call_on}
-use Rattle.register.specs.Made.{result}
+use Rattle.register.specs.Made.{result_of}
 use Rattle.register.specs.declared.Answer.{Answer}
 
 -- a result as an outcome: what is left is the register that the bytes hold
@@ -20,4 +20,4 @@ CutsLeft t b c r = CutsRight t (decode b) c (on_register r)
 
 -- `Made`, and that: what demand 3 claims of a place, at the block that the call was handed
 abbrev pub CutMade : Given → Call → List ℕ → Answer → List ℕ → Type 0
-CutMade g c before o after = PlaceRight (call_on g) (CutsLeft g.steps) before c (result o after)
+CutMade g c before o after = PlaceRight (call_on g) (CutsLeft g.steps) before c (result_of o after)

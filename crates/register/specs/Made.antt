@@ -13,11 +13,11 @@ abbrev pub answered_by : ℤ → ℤ → ℤ → Answer
 answered_by a b c = record { refusal = 0; first = a; second = b; third = c }
 
 -- the answer of a library call and the bytes afterwards, as a result
-abbrev pub result : Answer → List ℕ → Result
-result o after = record { refusal = o.refusal; first = o.first; second = o.second; third = o.third; bytes = after }
+abbrev pub result_of : Answer → List ℕ → Result
+result_of o after = record { refusal = o.refusal; first = o.first; second = o.second; third = o.third; bytes = after }
 
 abbrev pub Made : Given → Call → List ℕ → Answer → List ℕ → Type 0
-Made g c before o after = result o after ≡ call_on g before c
+Made g c before o after = result_of o after ≡ call_on g before c
 
 abbrev pub MadeOpen : List ℕ → Answer → List ℕ → Type 0
-MadeOpen before o after = result o after ≡ open_on before
+MadeOpen before o after = result_of o after ≡ open_on before

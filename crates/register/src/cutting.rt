@@ -7,7 +7,7 @@ ghost use Rattle.block.specs.Block.{decode};
 ghost use Rattle.block.specs.WellFormed.{well_formed};
 ghost use Rattle.steptable.specs.TableText.{lent};
 ghost use Rattle.register.specs.CallOn.{written};
-ghost use Rattle.register.specs.Made.{result};
+ghost use Rattle.register.specs.Made.{result_of};
 ghost use Rattle.register.specs.Cuts.{CutMade};
 
 use crate::{Answer, answered, refused};
@@ -15,7 +15,7 @@ use crate::{Answer, answered, refused};
 // What such a call does after its change: rounds until one changes nothing; answers dropped, lowered and rounds.
 fn settle(block: &mut [u8], table: &[i16]) -> Answer
     requires { (well_formed block.old ≡ true) × TableRule table.now }
-    ensures* { λ r. ⌜ result r block.new ≡ written block.old (cut table.now (decode block.old)) ⌝ }
+    ensures { result_of result block.new ≡ written block.old (cut table.now (decode block.old)) }
 {
     let o = rounds::settled(block, table);
     let dropped = o.dropped as i32;
@@ -33,7 +33,7 @@ pub fn revoke_by(
     receiver: u32,
 ) -> Answer
     requires { TableRule table.now }
-    ensures* { λ r. ⌜ CutMade (lent fault table.now) (revoke by giver receiver) block.old r block.new ⌝ }
+    ensures { CutMade (lent fault table.now) (revoke by giver receiver) block.old result block.new }
 {
     let n = refusals::revoke_refusal(block, fault, by, giver, receiver);
     if n != 0 {
@@ -53,7 +53,7 @@ pub fn downgrade_by(
     weight: u32,
 ) -> Answer
     requires { TableRule table.now }
-    ensures* { λ r. ⌜ CutMade (lent fault table.now) (downgrade by giver receiver weight) block.old r block.new ⌝ }
+    ensures { CutMade (lent fault table.now) (downgrade by giver receiver weight) block.old result block.new }
 {
     let n = refusals::downgrade_refusal(block, fault, by, giver, receiver, weight);
     if n != 0 {
@@ -72,7 +72,7 @@ pub fn set_marks_by(
     marks: u32,
 ) -> Answer
     requires { TableRule table.now }
-    ensures* { λ r. ⌜ CutMade (lent fault table.now) (set_marks by subject marks) block.old r block.new ⌝ }
+    ensures { CutMade (lent fault table.now) (set_marks by subject marks) block.old result block.new }
 {
     let n = refusals::marks_refusal(block, fault, by, subject, marks);
     if n != 0 {
@@ -84,7 +84,7 @@ pub fn set_marks_by(
 
 pub fn retire_by(block: &mut [u8], table: &[i16], fault: u32, by: u32, subject: u32) -> Answer
     requires { TableRule table.now }
-    ensures* { λ r. ⌜ CutMade (lent fault table.now) (retire by subject) block.old r block.new ⌝ }
+    ensures { CutMade (lent fault table.now) (retire by subject) block.old result block.new }
 {
     let n = refusals::retire_refusal(block, fault, by, subject);
     if n != 0 {

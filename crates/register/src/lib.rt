@@ -17,7 +17,7 @@ pub use cutting::{downgrade_by, revoke_by};
 use rules::{kind, refusal};
 
 // The refusal number, 0 when accepted, and the three answers, 0 where unused.
-#[derive(Drop)]
+#[derive(Clone, Copy)]
 pub struct Answer {
     pub refusal: u32,
     pub first: i32,

@@ -12,7 +12,7 @@ use lib.Seq.{get_or-drop}
 use Rattle.rules.specs.Call.{Call}
 use Rattle.steptable.specs.declared.Given.{Given}
 use Rattle.register.specs.CallOn.{call_on}
-use Rattle.register.specs.Made.{result, Made}
+use Rattle.register.specs.Made.{result_of, Made}
 use Rattle.register.specs.declared.Answer.{Answer}
 use Rattle.demands.specs.History.{reckons, lent_to, plain, asked_on}
 use Rattle.replay.specs.Replay.{call_of, call_in, ask_in}
@@ -69,7 +69,7 @@ module _ (calls : List ℕ) (at : ℕ) (r : Bool) (known : Reckoning (get_or cal
 
 -- a call that is lent what lies there is made with its text
 pub made_lent : (s texts : List ℕ) (p : Place) → TextPlaced s p → (d : Call) → call_in s ≡ d → (before : List ℕ) (o : Answer) (after : List ℕ)
-    → Made (lent_to d (take (p.end - p.begin) (drop p.begin texts))) d before o after → plain (result o after) ≡ asked_on before (ask_in texts s)
+    → Made (lent_to d (take (p.end - p.begin) (drop p.begin texts))) d before o after → plain (result_of o after) ≡ asked_on before (ask_in texts s)
 made_lent s texts p placed d e before o after m =
     ap plain
     (m

@@ -18,7 +18,7 @@ use Rattle.block.specs.Layout.{block_size}
 use Rattle.block.specs.Block.{encode}
 use Rattle.block.proofs.Bytes.{length_tabulate}
 use Rattle.register.specs.CallOn.{Result, open_on}
-use Rattle.register.specs.Made.{result, MadeOpen}
+use Rattle.register.specs.Made.{result_of, MadeOpen}
 use Rattle.slips.specs.Slip.{Effect}
 use Rattle.demands.specs.History.{Asked, plain, asked_on, LeavesRight, bytes_left, block_at}
 use Rattle.register.specs.declared.Answer.{Answer}
@@ -64,7 +64,7 @@ module _ (refusals : List ℕ) (answers : List ℤ) (i : ℕ) (o : Answer) (room
 module _ (calls texts blocks refusals : List ℕ) (answers : List ℤ) (i : ℕ) where
   -- b is the list of blocks after the copy; ys is what the call left in its slot, which begins at m
   pub turned : (b : List ℕ) → SlotCopied blocks i b → (m k : ℕ) → m ≡ block_size * suc i → k ≡ block_size → m + block_size ≤ length b → (o : Answer) (ys R : List ℕ) → length ys ≡ length (take k (drop m b))
-      → plain (result o ys) ≡ asked_on (take k (drop m b)) (asked_at calls texts i) → (refusals' : List ℕ) (answers' : List ℤ) → Stored refusals answers i o refusals' answers'
+      → plain (result_of o ys) ≡ asked_on (take k (drop m b)) (asked_at calls texts i) → (refusals' : List ℕ) (answers' : List ℤ) → Stored refusals answers i o refusals' answers'
       → TurnMade calls texts blocks refusals answers i (take m b ++ (ys ++ R)) refusals' answers'
   turned b copied m k e f space o ys R w made refusals' answers' stored =
       let room : m ≤ length b = omega arith in
@@ -74,7 +74,7 @@ module _ (calls texts blocks refusals : List ℕ) (answers : List ℤ) (i : ℕ)
       let before : take k (drop m b) ≡ slot (take m b ++ (ys ++ R)) i = slot_part b (suc i) m k e f ∙ copied.copy ∙ sym (kept i (omega arith)) in
       let here = stored.here in
       record {
-        made = (λ p. plain (result (here p) (new p))) ∙ made ∙ ap (λ (z : List ℕ). asked_on z (asked_at calls texts i)) before;
+        made = (λ p. plain (result_of (here p) (new p))) ∙ made ∙ ap (λ (z : List ℕ). asked_on z (asked_at calls texts i)) before;
         slots = kept;
         kept = stored.kept;
       }
@@ -108,7 +108,7 @@ through_on calls texts blocks refusals answers k h blocks' refusals' answers' t 
         let a = t.kept j n in
         let b = t.slots j (omega arith) in
         let d = t.slots (suc j) n in
-        (λ p. plain (result (a p) (d p))) ∙ h.made j n ∙ ap (λ (z : List ℕ). asked_on z (asked_at calls texts j)) (sym b)
+        (λ p. plain (result_of (a p) (d p))) ∙ h.made j n ∙ ap (λ (z : List ℕ). asked_on z (asked_at calls texts j)) (sym b)
 
 map_tabulate : {A B : Type 0} (g : A → B) (f : ℕ → A) (i n : ℕ) → map g (tabulate f i n) ≡ tabulate (λ k. g (f k)) i n
 map_tabulate g f i zero = refl
@@ -122,7 +122,7 @@ module _ (calls texts blocks refusals : List ℕ) (answers : List ℤ) where
   history_from : (i n : ℕ) (b : List ℕ) → slot blocks i ≡ b → MadeFrom i n → History asked_on bytes_left b (tabulate (entry_in calls texts blocks refusals answers) i n)
   history_from i zero b e h = tt
   history_from i (suc n) b e h = (
-    subst (λ (z : List ℕ). plain (result (returned_at refusals answers i) (slot blocks (suc i))) ≡ asked_on z (asked_at calls texts i)) e (h i (omega arith) (omega arith)),
+    subst (λ (z : List ℕ). plain (result_of (returned_at refusals answers i) (slot blocks (suc i))) ≡ asked_on z (asked_at calls texts i)) e (h i (omega arith) (omega arith)),
     history_from (suc i) n (slot blocks (suc i)) refl (λ j l m. h j (omega arith) (omega arith)),
   )
 

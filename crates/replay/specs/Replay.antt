@@ -8,7 +8,7 @@ use Rattle.rules.specs.Trace.{Entry, PlaceRight}
 use Rattle.block.specs.Layout.{block_size}
 use Rattle.block.specs.Bytes.{read_all, all_from}
 use Rattle.block.specs.Block.{encode}
-use Rattle.register.specs.Made.{refused_by, result, Made}
+use Rattle.register.specs.Made.{refused_by, result_of, Made}
 use Rattle.slips.specs.Slip.{Effect}
 use Rattle.demands.specs.History.{Asked, asks, reckons, lent_to, plain, asked_on, LeavesRight, block_at}
 use Rattle.register.specs.declared.Answer.{Answer}
@@ -80,7 +80,7 @@ returned_at refusals answers i =
 
 -- every call with what it returned and the block that it left
 abbrev pub entry_in : List ℕ → List ℕ → List ℕ → List ℕ → List ℤ → ℕ → Entry Asked Effect
-entry_in calls texts blocks refusals answers i = record { asked = asked_at calls texts i; outcome = plain (result (returned_at refusals answers i) (slot blocks (suc i))) }
+entry_in calls texts blocks refusals answers i = record { asked = asked_at calls texts i; outcome = plain (result_of (returned_at refusals answers i) (slot blocks (suc i))) }
 
 abbrev pub entries_in : List ℕ → List ℕ → List ℕ → List ℕ → List ℤ → List (Entry Asked Effect)
 entries_in calls texts blocks refusals answers = tabulate (entry_in calls texts blocks refusals answers) 0 (call_count calls)

@@ -1,7 +1,7 @@
 -- What the functions below `replay` promise, for one call. Assumes nothing.
 use Rattle.std.specs.Prelude.{◌≡◌, Bool, List, ℕ, suc, ◌*◌, ◌-◌, ◌≤◌, ◌<◌, T, leb, length, take, drop, ℤ}
 use Rattle.block.specs.Layout.{block_size}
-use Rattle.register.specs.Made.{result}
+use Rattle.register.specs.Made.{result_of}
 use Rattle.register.specs.declared.Answer.{Answer}
 use Rattle.demands.specs.History.{reckons, lent_to, plain, asked_on}
 use Rattle.replay.specs.Replay.{is_call, call_of, answers_per_call, call_in, text_in, call_count, asked_at, number_at, slot, returned_at, text_fits, text_fits_at}
@@ -42,7 +42,7 @@ pub record Ready (calls texts : List ℕ) (i : ℕ) (b r : List ℕ) (a : List �
 
 -- call i, made on slot i, returned what is stored for it and left the slot after it
 abbrev pub MadeAt : List ℕ → List ℕ → List ℕ → List ℕ → List ℤ → ℕ → Type 0
-MadeAt calls texts blocks refusals answers i = plain (result (returned_at refusals answers i) (slot blocks (suc i))) ≡ asked_on (slot blocks i) (asked_at calls texts i)
+MadeAt calls texts blocks refusals answers i = plain (result_of (returned_at refusals answers i) (slot blocks (suc i))) ≡ asked_on (slot blocks i) (asked_at calls texts i)
 
 -- call i was made; the slots and answers before it were kept
 pub record TurnMade (calls texts blocks refusals : List ℕ) (answers : List ℤ) (i : ℕ) (blocks' refusals' : List ℕ) (answers' : List ℤ) : Type 0 where

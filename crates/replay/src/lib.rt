@@ -3,7 +3,7 @@
 
 ghost use Rattle.std.specs.Prelude.{◌≡◌, ◌+◌, ◌*◌, ◌≤◌, ◌<◌, T, length, get_or, drop};
 ghost use Rattle.block.specs.Layout.{block_size};
-ghost use Rattle.register.specs.Made.{result};
+ghost use Rattle.register.specs.Made.{result_of};
 ghost use Rattle.demands.specs.History.{plain, asked_on};
 ghost use Rattle.replay.specs.Replay.{is_call, call_of, CallMade, numbers_per_call, answers_per_call, ask_in, is_sized, text_fits, all_texts, all_calls, ReplayMade};
 ghost use Rattle.replay.specs.Turn.{Reckoning, TextPlaced, SlotCopied, Stored, Ready, TurnMade};
@@ -31,7 +31,7 @@ pub fn call(
     bar: u32,
     table: &[u8],
 ) -> Answer
-    ensures* { λ r. ⌜ CallMade number (call_of number by giver receiver weight need bar) table.now block.old r block.new ⌝ }
+    ensures { CallMade number (call_of number by giver receiver weight need bar) table.now block.old result block.new }
 {
     if number == 0 {
         return register::enrol(block, need);
@@ -62,14 +62,14 @@ pub fn call(
 
 // The number is a call's.
 fn is_call(number: u32) -> bool
-    ensures* { λ r. ⌜ r ≡ is_call number ⌝ }
+    ensures { result ≡ is_call number }
 {
     number <= 7
 }
 
 // Every call number is a call's.
 fn all_calls(calls: &[u32]) -> bool
-    ensures* { λ r. ⌜ r ≡ all_calls calls.now ⌝ }
+    ensures { result ≡ all_calls calls.now }
 {
     let n = calls.len() / NUMBERS_PER_CALL;
     let mut i: usize = 0;
@@ -84,7 +84,7 @@ fn all_calls(calls: &[u32]) -> bool
 
 // The call of this number reckons reach, and so takes a table.
 fn reckons(number: u32) -> bool
-    ensures* { λ r. ⌜ Reckoning number r ⌝ }
+    ensures { Reckoning number result }
 {
     if number == 0 {
         return false;
@@ -98,13 +98,13 @@ fn reckons(number: u32) -> bool
 // The number at a place, as a size.
 fn size_at(numbers: &[u32], at: usize) -> usize
     requires { at < length numbers.now }
-    ensures* { λ r. ⌜ (r ≡ get_or numbers.now at 0) × (r < 4294967296) ⌝ }
+    ensures { (result ≡ get_or numbers.now at 0) × (result < 4294967296) }
 {
     numbers[at] as usize
 }
 
 // Where a text begins and ends in what is lent.
-#[derive(Drop)]
+#[derive(Clone, Copy)]
 struct Place {
     begin: usize,
     end: usize,
@@ -113,7 +113,7 @@ struct Place {
 // Where the text of the call whose numbers begin at `at` lies; the empty one for a call that takes no table.
 fn text_place(calls: &[u32], at: usize) -> Place
     requires { at + numbers_per_call ≤ length calls.now }
-    ensures* { λ r. ⌜ TextPlaced (drop at calls.now) r ⌝ }
+    ensures { TextPlaced (drop at calls.now) result }
 {
     if !reckons(calls[at]) {
         return Place { begin: 0, end: 0 };
@@ -125,7 +125,7 @@ fn text_place(calls: &[u32], at: usize) -> Place
 
 // Every text lies within what is lent.
 fn all_texts(calls: &[u32], texts: &[u8]) -> bool
-    ensures* { λ r. ⌜ r ≡ all_texts calls.now texts.now ⌝ }
+    ensures { result ≡ all_texts calls.now texts.now }
 {
     let n = calls.len() / NUMBERS_PER_CALL;
     let mut i: usize = 0;
@@ -141,7 +141,7 @@ fn all_texts(calls: &[u32], texts: &[u8]) -> bool
 
 // The lengths fit each other: whole calls, a block more than calls, a refusal and the answers for each call.
 fn is_sized(calls: usize, blocks: usize, refusals: usize, answers: usize) -> bool
-    ensures* { λ r. ⌜ r ≡ is_sized calls blocks refusals answers ⌝ }
+    ensures { result ≡ is_sized calls blocks refusals answers }
 {
     if calls % NUMBERS_PER_CALL != 0 {
         return false;
@@ -164,7 +164,7 @@ fn is_sized(calls: usize, blocks: usize, refusals: usize, answers: usize) -> boo
 // Slot `i` copied to the slot after it.
 fn copy_slot(blocks: &mut [u8], i: usize)
     requires { block_size * (i + 2) ≤ length blocks.old }
-    ensures* { λ _. ⌜ SlotCopied blocks.old i blocks.new ⌝ }
+    ensures { SlotCopied blocks.old i blocks.new }
 {
     let from = layout::BLOCK_SIZE * i;
     let to = from + layout::BLOCK_SIZE;
@@ -178,7 +178,7 @@ fn copy_slot(blocks: &mut [u8], i: usize)
 // What call `i` returned.
 fn store(refusals: &mut [u32], answers: &mut [i32], i: usize, o: Answer)
     requires { (i < length refusals.old) × (answers_per_call * i + answers_per_call ≤ length answers.old) }
-    ensures* { λ _. ⌜ Stored refusals.old answers.old i o refusals.new answers.new ⌝ }
+    ensures { Stored refusals.old answers.old i o refusals.new answers.new }
 {
     let number = o.refusal;
     let first = o.first;
@@ -193,7 +193,7 @@ fn store(refusals: &mut [u32], answers: &mut [i32], i: usize, o: Answer)
 // The call whose numbers begin at `at`, with its text.
 fn call_at(calls: &[u32], at: usize, texts: &[u8], block: &mut [u8]) -> Answer
     requires { (at + numbers_per_call ≤ length calls.now) × T (is_call (get_or calls.now at 0)) × T (text_fits (drop at calls.now) (length texts.now)) }
-    ensures* { λ r. ⌜ plain (result r block.new) ≡ asked_on block.old (ask_in texts.now (drop at calls.now)) ⌝ }
+    ensures { plain (result_of result block.new) ≡ asked_on block.old (ask_in texts.now (drop at calls.now)) }
 {
     let place = text_place(calls, at);
     let begin = place.begin;
@@ -221,7 +221,7 @@ fn turn(
     answers: &mut [i32],
 )
     requires { Ready calls.now texts.now i blocks.old refusals.old answers.old }
-    ensures* { λ _. ⌜ TurnMade calls.now texts.now blocks.old refusals.old answers.old i blocks.new refusals.new answers.new ⌝ }
+    ensures { TurnMade calls.now texts.now blocks.old refusals.old answers.old i blocks.new refusals.new answers.new }
 {
     copy_slot(blocks, i);
     let start = layout::BLOCK_SIZE * (i + 1);
@@ -240,7 +240,7 @@ pub fn replay(
     refusals: &mut [u32],
     answers: &mut [i32],
 ) -> u32
-    ensures* { λ r. ⌜ ReplayMade calls.now texts.now blocks.old refusals.old answers.old r blocks.new refusals.new answers.new ⌝ }
+    ensures { ReplayMade calls.now texts.now blocks.old refusals.old answers.old result blocks.new refusals.new answers.new }
 {
     if !is_sized(calls.len(), blocks.len(), refusals.len(), answers.len()) {
         return refusal::WRONG_LENGTH;

@@ -152,8 +152,8 @@ module _ (t : List ℤ) (s : List ℕ) (lent : Lent t s (record_count s)) (marks
 
   -- the next, where none waits at the level found
   pub midway_down : turn.here ≡ 0 → AtHand l n sets turn q q' → measure n turn.near turn.far < measure n sets.near sets.far
-  midway_down none (inl (some, e, f)) = absurd (no_member sets.here turn.subject (ap (λ (x : Turn). x.here) (sym e) ∙ none) some.member)
-  midway_down none (inr a) = (advanced a.none a.between a.group a.level).1
+  midway_down down (inl (some, e, f)) = absurd (no_member sets.here turn.subject (ap (λ (x : Turn). x.here) (sym e) ∙ down) some.member)
+  midway_down down (inr a) = (advanced a.none a.between a.group a.level).1
 
   -- else it is the turn of the lowest of those who wait there
   pub midway_turn : turn.here ≢ 0 → AtHand l n sets turn q q' → Lowest turn.here turn.subject
@@ -167,4 +167,4 @@ module _ (t : List ℤ) (s : List ℕ) (lent : Lent t s (record_count s)) (marks
           no_lower x b (inl w) = absurd (omega (arith, b, tk.heaviest.least x w))
           no_lower x b (inr d) = omega (arith, d, bit_small turn.here x)
       go (inl (near, e, f)) (inl (none, h)) = absurd (near (ap (λ (x : Sets). x.near) (sym e) ∙ none))
-      go (inr (none, tk)) (inl (_, h)) = absurd (some (ap (λ (x : Turn). x.here) h ∙ tk.here))
+      go (inr (_, tk)) (inl (_, h)) = absurd (some (ap (λ (x : Turn). x.here) h ∙ tk.here))

@@ -16,7 +16,6 @@ use Rattle.rules.specs.Limit.{none, code, ◌≼◌}
 use Rattle.rules.specs.Table.{next, TableRule}
 use Rattle.rules.specs.Register.{Delegation, no_delegation}
 use Rattle.rules.specs.Condition.{meets}
-use Rattle.rules.specs.Chain.{limit}
 use Rattle.rules.proofs.Lists.{either, eq_or}
 use Rattle.rules.proofs.Limits.{next_below}
 use Rattle.rules.proofs.Search.{Found, Search, search_skip, search_raise}
@@ -236,10 +235,10 @@ module _ (t : List ℤ) (rule : TableRule t) (s : List ℕ) (marks : ℕ) (settl
         )
 
       stepped : (l' : List ℤ) (p' q' : List ℕ) → Stepped t (pos at) marks d k l p q l' p' q' → Kept l' p' q' rest
-      stepped l' p' q' (inl (none-raised, el, ep, eq)) =
+      stepped _ p' q' (inl (none-raised, el, ep, eq)) =
           subst (λ (x : List ℤ). Kept x p' q' rest) (sym el) (subst (λ (x : List ℕ). Kept l x q' rest) (sym ep) (subst (λ (x : List ℕ). Kept l p x rest) (sym eq)
           (skipped (λ m. not_more (limit_of l d.receiver) given (λ f. none-raised (m, f))))))
-      stepped l' p' q' (inr ((m, f), el, ep, put)) =
+      stepped _ p' q' (inr ((m, f), el, ep, put)) =
           subst (λ (x : List ℤ). Kept x p' q' rest) (sym el) (subst (λ (x : List ℕ). Kept (set l d.receiver given) x q' rest) (sym ep)
           (raised m (more (limit_of l d.receiver) given (state_limit l p q (d ∷ rest) now.0 d.receiver) f) q' put))
 

@@ -31,7 +31,7 @@ fn start(limits: &mut [i16], parents: &mut [u16])
 }
 
 // Those who wait, and the one of them whose turn it is.
-#[derive(Drop)]
+#[derive(Clone, Copy)]
 struct Turn {
     subject: usize,
     here: u64,
@@ -133,7 +133,8 @@ fn at_hand(limits: &[i16], waiting: &mut [u64], settled: u64, sets: queue::Sets)
     ensures { AtHand limits.now settled sets result waiting.old waiting.new }
 {
     if sets.here != 0 {
-        return turn_of(sets, queue::lowest(sets.here));
+        let subject = queue::lowest(sets.here);
+        return turn_of(sets, subject);
     }
     let group = next_group(waiting, settled, sets);
     next_level(limits, group)

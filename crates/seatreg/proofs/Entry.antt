@@ -19,7 +19,7 @@ use Rattle.block.specs.Block.{decode}
 use Rattle.steptable.specs.declared.Given.{Given}
 use Rattle.regfile.specs.FileText.{file_text}
 use Rattle.register.specs.CallOn.{Result, call_on, open_on}
-use Rattle.register.specs.Made.{result, Made, MadeOpen}
+use Rattle.register.specs.Made.{result_of, Made, MadeOpen}
 use Rattle.register.specs.Bring.{bring_on, BringMade}
 use Rattle.register.specs.Cuts.{on_register, CutMade}
 use Rattle.register.specs.declared.Answer.{Answer}
@@ -47,7 +47,7 @@ module _ (o : Answer) (a : List ℕ) where
   accepted_bytes n a' h z = h.1 ∙ ap (λ (x : Bool). cond x (answer_bytes o.first o.second o.third) a) (eq-eqb o.refusal 0 (sym h.0 ∙ z))
 
 -- an accepted cut's answers as bytes
-pub cut_left : (t : List ℤ) (C : Register) (o : Answer) (n : ℕ) (b' a' : List ℕ) → o.refusal ≡ 0 → CutRight t C (on_register (result o b')) → a' ≡ answer_bytes o.first o.second o.third
+pub cut_left : (t : List ℤ) (C : Register) (o : Answer) (n : ℕ) (b' a' : List ℕ) → o.refusal ≡ 0 → CutRight t C (on_register (result_of o b')) → a' ≡ answer_bytes o.first o.second o.third
     → EntryCutRight t C record { refusal = n; block = b'; answers = a' }
 cut_left t C o n b' a' z d e = record {
   first = o.first;
@@ -64,7 +64,7 @@ module _ (r : Result) (b a : List ℕ) where
   short_of n = rw (ne_eqb (length a) 12 n)
 
   -- twelve bytes: what the library call returned was handed out
-  made_of : length a ≡ 12 → (o : Answer) (b' : List ℕ) → result o b' ≡ r → (n : ℕ) (a' : List ℕ) → AnswersPut o a n a' → record { refusal = n; block = b'; answers = a' } ≡ entry_of r b a
+  made_of : length a ≡ 12 → (o : Answer) (b' : List ℕ) → result_of o b' ≡ r → (n : ℕ) (a' : List ℕ) → AnswersPut o a n a' → record { refusal = n; block = b'; answers = a' } ≡ entry_of r b a
   made_of l o b' e n a' h =
       let (p, q) = h in
       (λ i. record { refusal = p i; block = b'; answers = q i })

@@ -22,7 +22,7 @@ use Rattle.steptable.specs.declared.Given.{Given}
 use Rattle.refusals.specs.Early.{text_refused, not_well_formed, early_by, back_refusal}
 use Rattle.refusals.proofs.EarlyTests.{refused_early}
 use Rattle.register.specs.CallOn.{Result, turned, call_on}
-use Rattle.register.specs.Made.{refused_by, answered_by, result}
+use Rattle.register.specs.Made.{refused_by, answered_by, result_of}
 use Rattle.register.specs.Cuts.{CutMade}
 use Rattle.register.specs.declared.Answer.{Answer}
 use Rattle.register.proofs.CutWays.{cut_refused}
@@ -53,7 +53,7 @@ module _ (g : Given) (y : ℕ) (k : Cut) (b s : List ℕ) where
     unfolding slipped_on
     made_so s' e = record {
       outcome =
-          (λ j. record { result = result o b'; slip = e j })
+          (λ j. record { result = result_of o b'; slip = e j })
           ∙ (λ j. let r = made.outcome j in record { result = r; slip = cond (eqb r.refusal 0) (slip b y k r.bytes) s })
           ∙ sym (ap effect (eq-eqb (length s) slip_size l));
       leaves = made.leaves;

@@ -6,7 +6,7 @@ use Rattle.rules.specs.Trace.{PlaceRight}
 use Rattle.block.specs.Layout.{block_size}
 use Rattle.steptable.specs.declared.Given.{Given}
 use Rattle.register.specs.CallOn.{Result, turned, call_on}
-use Rattle.register.specs.Made.{result}
+use Rattle.register.specs.Made.{result_of}
 use Rattle.register.specs.Cuts.{CutsLeft}
 use Rattle.register.specs.declared.Answer.{Answer}
 
@@ -68,7 +68,7 @@ slipped_on g s y b k =
 
 -- what such a cut promises: that, and, where it is accepted, the best remainder, with nothing lifted, as without a slip. The buffers held b and s, and hold b' and s'
 abbrev pub SlipMade : Given → (by : ℕ) → Cut → (b s : List ℕ) → Answer → (b' s' : List ℕ) → Type 0
-SlipMade g y k b s o b' s' = PlaceRight (slipped_on g s y) (λ c d e. CutsLeft g.steps c (cut_call y d) e.result) b k record { result = result o b'; slip = s' }
+SlipMade g y k b s o b' s' = PlaceRight (slipped_on g s y) (λ c d e. CutsLeft g.steps c (cut_call y d) e.result) b k record { result = result_of o b'; slip = s' }
 
 -- the five bytes of the cut that they name are these: a number that is a cut's, and no weight for a revocation
 abbrev pub is_cut : (number weight : ℕ) → Bool

@@ -7,7 +7,7 @@ use Rattle.block.specs.Block.{decode}
 use Rattle.steptable.specs.declared.Given.{Given}
 use Rattle.refusals.specs.Early.{early_by}
 use Rattle.register.specs.CallOn.{Result, turned, call_on}
-use Rattle.register.specs.Made.{result}
+use Rattle.register.specs.Made.{result_of}
 use Rattle.register.specs.declared.Answer.{Answer}
 use Rattle.slips.specs.Slip.{slip, slip_size, slip_before, slip_after, slip_by, slip_giver, slip_cut}
 
@@ -37,4 +37,4 @@ unfoldable pub take_back_on : Given → (block : List ℕ) → (by : ℕ) → (s
 take_back_on g b y s = let n = take_back_refusal g b y s in cond (eqb n 0) (restored (slip_before s)) (turned n b)
 
 abbrev pub TakeBackMade : Given → (by : ℕ) → (slip before : List ℕ) → Answer → (after : List ℕ) → Type 0
-TakeBackMade g y s before o after = result o after ≡ take_back_on g before y s
+TakeBackMade g y s before o after = result_of o after ≡ take_back_on g before y s

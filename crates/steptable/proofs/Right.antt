@@ -3,14 +3,14 @@ use mathlib.Core.Path.{◌≡◌, refl, sym, ap, subst, ◌∙◌}
 use mathlib.Core.Logic.{◌≢◌, ◌⊎◌, inl, inr}
 use mathlib.Core.Bool.{Bool, true, false, ◌&&◌}
 use mathlib.Core.List.{List, [], ◌∷◌, ◌++◌, map}
-use Prim.Native.Nat.{ℕ, zero, suc, ◌+◌}
+use Prim.Native.Nat.{ℕ, zero, suc}
 use native.Mathlib.Omega.{arith}
 use borrow.Author.Tests.{le-leb}
 use lib.Dec.{T, leb, eqb, leb→le, eqb→eq, eqb_refl}
 use lib.ListN.{length, get_or, drop}
 use lib.IntN.{ℤ, pos, negsuc}
 use Rattle.rules.specs.Limit.{none, code, from_none}
-use Rattle.rules.specs.Table.{TableRule, table_test, steps}
+use Rattle.rules.specs.Table.{TableRule, table_test}
 use Rattle.rules.proofs.Lists.{T_left, T_right, T_both, T_true, yes, eq_to_eqb}
 use Rattle.rules.proofs.Table.{table_rule, steps_rule}
 use Rattle.text.specs.Text.{most}

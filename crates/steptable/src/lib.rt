@@ -1,4 +1,6 @@
 // The step table that a host lends as text.
+#![tactic(auto)]
+
 ghost use Rattle.std.specs.Prelude.{◌≡◌, ◌≤◌, length};
 ghost use Rattle.text.specs.Read.{no_value};
 ghost use Rattle.rules.specs.Table.{fits};

@@ -8,7 +8,7 @@ use Rattle.steptable.specs.declared.Given.{Given}
 use Rattle.refusals.specs.Early.{wrong_length, wrong_lengths, not_well_formed}
 use Rattle.regfile.specs.FileText.{Filed, file_text, filed}
 use Rattle.register.specs.CallOn.{Result, turned}
-use Rattle.register.specs.Made.{result}
+use Rattle.register.specs.Made.{result_of}
 use Rattle.register.specs.declared.Answer.{Answer}
 use Rattle.transfer.specs.declared.Filled.{Filled}
 
@@ -68,4 +68,4 @@ read_on g f b = let n = read_refusal g f b in elim (eqb n 0) [ true ↦ holding 
 
 -- what a read promises
 abbrev pub ReadMade : List ℕ → List ℕ → List ℕ → Answer → List ℕ → Type 0
-ReadMade text table before o after = result o after ≡ read_on (given table) (filed text) before
+ReadMade text table before o after = result_of o after ≡ read_on (given table) (filed text) before

@@ -12,7 +12,7 @@ use rules::refusal;
 pub const TEXT_SIZE: usize = 8192;
 
 // The refusal number of a write, 0 when accepted, and how many bytes were written.
-#[derive(Drop)]
+#[derive(Clone, Copy)]
 pub struct Filled {
     pub refusal: u32,
     pub length: usize,

@@ -14,7 +14,7 @@ use Rattle.block.proofs.Bytes.{fits_bytes}
 use Rattle.steptable.specs.TableText.{lent}
 use Rattle.steptable.specs.declared.Given.{Given}
 use Rattle.register.specs.CallOn.{Result, call_on}
-use Rattle.register.specs.Made.{result}
+use Rattle.register.specs.Made.{result_of}
 use Rattle.slips.specs.Slip.{after_at, slip_before, slip_after, slip_by, slip_cut}
 use Rattle.slips.proofs.SlipWays.{other_after, other_cut, other_refused, genuine_left}
 use Rattle.slips.proofs.is_genuine.Statement.{statement}
@@ -42,7 +42,7 @@ found c = c.before.before.before.before.before.before.before.before.before.befor
 
 -- the cut was made on the slip's before
 made_again : (c : tie.After-cut-by) → let s = start (tested (found c)) in let a = s.args in
-    result c.cut_by.result c.cut_by.new.0 ≡ call_on (with-table s) (slip_before a.slip.now) (cut_call (slip_by a.slip.now) (slip_cut a.slip.now))
+    result_of c.cut_by.result c.cut_by.new.0 ≡ call_on (with-table s) (slip_before a.slip.now) (cut_call (slip_by a.slip.now) (slip_cut a.slip.now))
 made_again c =
     let s = start (tested (found c)) in
     let a = s.args in

@@ -1,0 +1,6 @@
+-- `change::write_fresh` writes the fresh register. Assumes nothing.
+use Rattle.change.proofs.Rewrite.{encode_fresh}
+use Rattle.change.proofs.write_fresh.Goals as goal
+
+pub returns : goal.returns
+returns c = rw (c.zero_all.ensures, c.requires) encode_fresh

@@ -1,0 +1,22 @@
+-- `refusals::retire_refusal` is the whole refusal of the call. Assumes nothing.
+use mathlib.Core.Path.{◌∙◌}
+use Rattle.rules.specs.Call.{retire}
+use Rattle.block.specs.Block.{decode}
+use Rattle.refusals.proofs.EarlyTests.{EarlyFound, early_found}
+use Rattle.refusals.proofs.CutHolding.{retire_owners}
+use Rattle.refusals.proofs.retire_refusal.Goals as goal
+use Rattle.refusals.proofs.retire_refusal.Goals.{After-early-n}
+
+found : (c : After-early-n) → EarlyFound c.args.fault c.args.block.now (retire c.args.by c.args.subject) c.early-n.result
+found c = early_found c.retire_passed.ensures c.early-n.ensures
+
+pub returns-then-n-ne0 : goal.returns-then-n-ne0
+returns-then-n-ne0 c t = (found (goal.at.returns-then-n-ne0 c).After-early-n).refused c.if-n-ne0.true t
+
+pub owner_held-requires : goal.owner_held-requires
+owner_held-requires c = ((found (goal.at.owner_held-requires c).After-early-n).checked c.if-n-ne0.false).formed
+
+pub returns : goal.returns
+returns c t =
+    let a = c.args in
+    (found (goal.at.returns c).After-early-n).late c.if-n-ne0.false t _ (c.owner_held.ensures ∙ retire_owners t (decode a.block.now) a.by a.subject)

@@ -1,0 +1,20 @@
+-- `refusals::use_refusal` is the whole refusal of the call. Assumes nothing.
+use Rattle.rules.specs.Table.{steps}
+use Rattle.rules.specs.Call.{ask_use}
+use Rattle.rules.specs.Refusal.{held}
+use Rattle.refusals.proofs.EarlyTests.{EarlyFound, early_found}
+use Rattle.refusals.proofs.use_refusal.Goals as goal
+use Rattle.refusals.proofs.use_refusal.Goals.{After-early-n}
+
+found : (c : After-early-n) → EarlyFound 0 c.args.block.now (ask_use c.args.receiver) c.early-n.result
+found c = early_found c.use_passed.ensures c.early-n.ensures
+
+pub returns-then-n-ne0 : goal.returns-then-n-ne0
+returns-then-n-ne0 c = (found (goal.at.returns-then-n-ne0 c).After-early-n).refused c.if-n-ne0.true steps
+
+pub subject_held-requires : goal.subject_held-requires
+subject_held-requires c = ((found (goal.at.subject_held-requires c).After-early-n).checked c.if-n-ne0.false).formed
+
+pub returns : goal.returns
+unfolding held
+returns c = (found (goal.at.returns c).After-early-n).late c.if-n-ne0.false steps _ c.subject_held.ensures
