@@ -114,15 +114,15 @@ fn judge_counted(
     let filled = filled_by(fill, block, table, buf);
     Written {
         refusal: filled.refusal,
-        first: count(&filled, buf),
+        first: count(filled, buf),
         second: 0,
         third: 0,
-        length: put_filled(&filled, buf, file, length),
+        length: put_filled(filled, buf, file, length),
     }
 }
 
 // How many bytes were written, where those past them are kept.
-fn count(filled: &Filled, buf: &[u8]) -> i32 {
+fn count(filled: Filled, buf: &[u8]) -> i32 {
     let n = filled.length;
     if !is_kept(buf, n, crate::FILL) || (filled.refusal != 0 && n > 0) {
         return NOT_KEPT;
@@ -137,7 +137,7 @@ fn count(filled: &Filled, buf: &[u8]) -> i32 {
 }
 
 // Puts the bytes that were written into the file, which is left as it is where the call was refused; how many bytes it has then.
-fn put_filled(filled: &Filled, buf: &[u8], file: &mut [u8], length: usize) -> usize {
+fn put_filled(filled: Filled, buf: &[u8], file: &mut [u8], length: usize) -> usize {
     if filled.refusal != 0 {
         return length;
     }
