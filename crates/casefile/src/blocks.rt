@@ -9,7 +9,7 @@ pub const MOST_BLOCK: usize = 4096;
 pub const MOST_FILE: usize = 16384;
 
 // A block's length, and where the text goes on.
-#[derive(Drop)]
+#[derive(Clone, Copy)]
 pub struct Block {
     pub size: usize,
     pub after: usize,
@@ -17,7 +17,7 @@ pub struct Block {
 }
 
 // A byte, and where the text goes on.
-#[derive(Drop)]
+#[derive(Clone, Copy)]
 struct Byte {
     value: u8,
     after: usize,

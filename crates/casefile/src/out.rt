@@ -2,19 +2,19 @@
 // does not fit is left out.
 use crate::blocks::MOST_FILE;
 use crate::reading;
-use libc::STDOUT_FILENO;
+use std::io;
 
 // Where a slip has its cut and the block after it.
 const CUT_AT: usize = 2188;
 
 const AFTER_AT: usize = 2193;
 
-pub fn print(bytes: &[u8]) {
-    io::write_all(STDOUT_FILENO, bytes);
+pub fn print(rt: &impl Print, bytes: &[u8]) -> io::Result<()> {
+    rt.write_all(bytes)
 }
 
-pub fn print_number(n: u64) {
-    io::print_decimal(STDOUT_FILENO, n);
+pub fn print_number(rt: &impl Print, n: u64) -> io::Result<()> {
+    rt.print(n)
 }
 
 // v where it is not below 0, else -1 - v.
@@ -22,24 +22,23 @@ fn size(v: i32) -> u32 {
     if v < 0 { (-1 - v) as u32 } else { v as u32 }
 }
 
-fn print_signed(v: i32) {
+fn print_signed(rt: &impl Print, v: i32) -> io::Result<()> {
     let n = size(v) as u64;
     if v < 0 {
-        print(b"-");
-        print_number(n + 1);
-        return;
+        print(rt, b"-")?;
+        return print_number(rt, n + 1);
     }
-    print_number(n);
+    print_number(rt, n)
 }
 
 // The length, `:` and the bytes without the zeros at the end.
-fn print_block(block: &[u8]) {
-    print_number(block.len() as u64);
-    print(b":");
+fn print_block(rt: &impl Print, block: &[u8]) -> io::Result<()> {
+    print_number(rt, block.len() as u64)?;
+    print(rt, b":")?;
     let mut space = [0u8; 2 * MOST_FILE];
     let at = put_all_hex(&mut space, block, used(block));
     let n = reading::within(at, &space);
-    print(&space[..n]);
+    print(rt, &space[..n])
 }
 
 // How many bytes the block has up to its last that is not zero.
@@ -102,69 +101,75 @@ pub fn put_bytes(out: &mut [u8], from: usize, bytes: &[u8]) -> usize {
 
 // Prints the line `refusal first second third BLOCK`.
 pub fn print_outcome(
+    rt: &impl Print,
     refusal: u32,
     first: i32,
     second: i32,
     third: i32,
     before: &[u8],
     block: &[u8],
-) {
-    print_answer(refusal, first, second, third, before, block);
-    print(b"\n");
+) -> io::Result<()> {
+    print_answer(rt, refusal, first, second, third, before, block)?;
+    print(rt, b"\n")
 }
 
 // Prints `refusal first second third BLOCK`, and no end of a line.
 pub fn print_answer(
+    rt: &impl Print,
     refusal: u32,
     first: i32,
     second: i32,
     third: i32,
     before: &[u8],
     block: &[u8],
-) {
-    print_number(refusal as u64);
-    print(b" ");
-    print_signed(first);
-    print(b" ");
-    print_signed(second);
-    print(b" ");
-    print_signed(third);
-    print(b" ");
-    print_left(before, block);
+) -> io::Result<()> {
+    print_number(rt, refusal as u64)?;
+    print(rt, b" ")?;
+    print_signed(rt, first)?;
+    print(rt, b" ")?;
+    print_signed(rt, second)?;
+    print(rt, b" ")?;
+    print_signed(rt, third)?;
+    print(rt, b" ")?;
+    print_left(rt, before, block)
 }
 
 // The bytes that the call left, or `=` if none has changed; `before` may be longer by zeros.
-pub fn print_left(before: &[u8], block: &[u8]) {
+pub fn print_left(rt: &impl Print, before: &[u8], block: &[u8]) -> io::Result<()> {
     if is_same(before, block) {
-        print(b"=");
-        return;
+        return print(rt, b"=");
     }
-    print_block(block);
+    print_block(rt, block)
 }
 
 // Whether the bytes are those of before, which may be longer by zeros.
 fn is_same(before: &[u8], bytes: &[u8]) -> bool {
     let n = reading::within(bytes.len(), before);
-    check::same(&before[..n], bytes) && used(before) <= bytes.len()
+    &before[..n] == bytes && used(before) <= bytes.len()
 }
 
 // The slip that the call left: `=` if no byte of it has changed, else BEFORE/CUT/AFTER, the first `=` if it is the block before the
 // call, which may be longer by zeros, as the slip before may, and the last if it is the block after it.
-pub fn print_slip(slip_before: &[u8], slip: &[u8], before: &[u8], after: &[u8]) {
+pub fn print_slip(
+    rt: &impl Print,
+    slip_before: &[u8],
+    slip: &[u8],
+    before: &[u8],
+    after: &[u8],
+) -> io::Result<()> {
     if is_same(slip_before, slip) {
-        print(b"=");
-        return;
+        return print(rt, b"=");
     }
     let n = reading::within(AFTER_AT, slip);
-    print_front(&slip[..n], before);
-    print_left(after, &slip[n..]);
+    print_front(rt, &slip[..n], before)?;
+    print_left(rt, after, &slip[n..])
 }
 
 // BEFORE/CUT/ of a slip.
-fn print_front(front: &[u8], before: &[u8]) {
+fn print_front(rt: &impl Print, front: &[u8], before: &[u8]) -> io::Result<()> {
     let n = reading::within(CUT_AT, front);
-    print_left(before, &front[..n]);
-    print(b"/");
-    print_block(&front[n..]);
-    print(b"/");
+    print_left(rt, before, &front[..n])?;
+    print(rt, b"/")?;
+    print_block(rt, &front[n..])?;
+    print(rt, b"/")
 }

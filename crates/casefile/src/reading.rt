@@ -1,16 +1,15 @@
 // Reading text: numbers and single bytes at a position, each tested against the text's end.
-ghost use Rattle.std.specs.Prelude.{◌≤◌, ◌≡◌};
-ghost use Rattle.io.specs.Counts.{IsPrefixLen};
+ghost use Rattle.std.specs.Prelude.{◌≤◌, ◌≡◌, length, take};
 
 // Where the text goes on, unless what was wanted is not there.
-#[derive(Drop)]
+#[derive(Clone, Copy)]
 pub struct Step {
     pub after: usize,
     pub is_read: bool,
 }
 
 // A number, and where the text goes on.
-#[derive(Drop)]
+#[derive(Clone, Copy)]
 pub struct Number {
     pub value: u32,
     pub after: usize,
@@ -39,7 +38,8 @@ fn no_number() -> Number {
 
 // n, or the buffer's length where that is less: how many bytes of the buffer to lend.
 pub fn within(n: usize, buffer: &[u8]) -> usize
-    ensures { IsPrefixLen result buffer.now }
+    ensures in_bounds { result ≤ length buffer.now }
+    ensures front { result ≡ length (take result buffer.now) }
 {
     if n < buffer.len() { n } else { buffer.len() }
 }

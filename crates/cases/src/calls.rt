@@ -4,7 +4,7 @@ use judge::Asked;
 use register::Answer;
 
 // The seven numbers of a line, whether a table's text follows them, and where the text goes on.
-#[derive(Drop)]
+#[derive(Clone, Copy)]
 pub struct Columns {
     pub call: u32,
     pub by: u32,

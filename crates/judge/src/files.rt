@@ -6,7 +6,7 @@ use register::Answer;
 use transfer::Filled;
 
 // Which call: the order for a receiver, or a write.
-#[derive(Drop)]
+#[derive(Clone, Copy)]
 pub struct Fill {
     pub is_order: bool,
     pub receiver: u32,
@@ -18,7 +18,7 @@ const MOST_SUBJECTS: usize = 64;
 const ITEM_SIZE: usize = 2;
 
 // What was judged of the call, and how many bytes of the file are left.
-#[derive(Drop)]
+#[derive(Clone, Copy)]
 pub struct Written {
     pub refusal: u32,
     pub first: i32,
@@ -171,7 +171,7 @@ fn judge_handed(
 
 fn judge_part(part: &[u8], text: &[u8], refusal: u32) -> i32 {
     if refusal == 0 {
-        return number(check::same(part, text));
+        return number(part == text);
     }
     number(part.len() > 0)
 }
@@ -186,5 +186,5 @@ fn judge_whole(buf: &[u8], text: &[u8], fill: u8, refusal: u32) -> i32 {
 // Whether the buffer begins with the text, and the bytes past it are kept.
 fn is_filled(buf: &[u8], text: &[u8], fill: u8) -> bool {
     let n = reading::within(text.len(), buf);
-    check::same(&buf[..n], text) && is_kept(buf, n, fill)
+    &buf[..n] == text && is_kept(buf, n, fill)
 }

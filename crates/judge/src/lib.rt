@@ -1,4 +1,6 @@
 // The chain call, and a judge of the links that it writes: document 01's definition, link by link, by the step table of a text or by ours.
+#![tactic(auto)]
+
 pub mod files;
 
 use casefile::reading;
@@ -41,14 +43,14 @@ const NO_CHAIN: u16 = 256;
 const DIFFERENT: u32 = 99;
 
 // What is asked: the pair, and whether by the functions that are lent a table's text.
-#[derive(Drop)]
+#[derive(Clone, Copy)]
 pub struct Asked {
     pub giver: u32,
     pub receiver: u32,
     pub is_lent: bool,
 }
 
-#[derive(Drop)]
+#[derive(Clone, Copy)]
 struct Record {
     giver: u32,
     receiver: u32,

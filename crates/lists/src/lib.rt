@@ -1,10 +1,13 @@
 // Lists of calls, each made by one call of `replay`. A line is the lengths of its three buffers, the texts that are lent with
 // it, written as a block is, the numbers of the list and a full stop.
+#![tactic(auto)]
+
 ghost use Rattle.std.specs.Prelude.{◌≡◌, length};
 ghost use Rattle.lists.specs.Sizes.{slots_size};
 
 use block::layout;
 use casefile::{blocks, out, reading};
+use std::io;
 
 // A list has at most this many calls.
 const MOST_CALLS: usize = 200;
@@ -30,7 +33,7 @@ const SIGNED: i32 = -7;
 const TOO_LONG: u32 = 99;
 
 // The lengths of the list and of the three buffers.
-#[derive(Drop)]
+#[derive(Clone, Copy)]
 struct Sizes {
     numbers: usize,
     blocks: usize,
@@ -39,14 +42,14 @@ struct Sizes {
 }
 
 // How many numbers were read, and where the text goes on.
-#[derive(Drop)]
+#[derive(Clone, Copy)]
 struct Numbers {
     count: usize,
     after: usize,
 }
 
 // Where the next line begins, 0 where a line cannot be read, and the length of the texts that are left.
-#[derive(Drop)]
+#[derive(Clone, Copy)]
 struct Place {
     at: usize,
     size: usize,
@@ -57,65 +60,73 @@ fn nowhere() -> Place {
 }
 
 // Runs every line; false where one cannot be read.
-pub fn run_lines(text: &[u8]) -> bool {
+pub fn run_lines(rt: &impl Print, text: &[u8]) -> io::Result<bool> {
     let mut texts = [0u8; MOST_TEXTS];
-    run_each(text, &mut texts)
+    run_each(rt, text, &mut texts)
 }
 
 // Each is lent the texts that it gives, or those of the line before.
-fn run_each(text: &[u8], texts: &mut [u8]) -> bool {
+fn run_each(rt: &impl Print, text: &[u8], texts: &mut [u8]) -> io::Result<bool> {
     let mut at = 0;
     let mut size = 0;
     while at < text.len() {
-        let next = run_line(text, at, texts, size);
+        let next = run_line(rt, text, at, texts, size)?;
         if next.at <= at {
-            return false;
+            return Ok(false);
         }
         at = next.at;
         size = next.size;
     }
-    true
+    Ok(true)
 }
 
 // Runs the list on the line at `from`, lent the first `size` bytes of the texts where it says `=`.
-fn run_line(text: &[u8], from: usize, texts: &mut [u8], size: usize) -> Place {
+fn run_line(
+    rt: &impl Print,
+    text: &[u8],
+    from: usize,
+    texts: &mut [u8],
+    size: usize,
+) -> io::Result<Place> {
     let blocks = reading::read_number(text, from, b' ');
     let refusals = reading::next_column(text, blocks);
     let answers = reading::next_column(text, refusals);
     if !answers.is_read {
-        return nowhere();
+        return Ok(nowhere());
     }
     let lent = blocks::read_block(text, answers.after, texts, size, b' ');
     if !lent.is_read {
-        return nowhere();
+        return Ok(nowhere());
     }
     let n = reading::within(lent.size, texts);
     let next = run_numbers(
+        rt,
         text,
         lent.after,
         &texts[..n],
         blocks.value as usize,
         refusals.value as usize,
         answers.value as usize,
-    );
-    Place { at: next, size: n }
+    )?;
+    Ok(Place { at: next, size: n })
 }
 
 // Runs the list whose numbers begin at `from`, on buffers of these lengths; where the next line begins, 0 where this one cannot be read.
 fn run_numbers(
+    rt: &impl Print,
     text: &[u8],
     from: usize,
     texts: &[u8],
     blocks: usize,
     refusals: usize,
     answers: usize,
-) -> usize {
+) -> io::Result<usize> {
     let mut numbers = [0u32; NUMBERS];
     let read = read_numbers(text, from, &mut numbers);
     let dot = reading::step_over(text, read.after, b'.');
     let end = reading::step_over(text, dot.after, b'\n');
     if !dot.is_read || !end.is_read {
-        return 0;
+        return Ok(0);
     }
     let sizes = Sizes {
         numbers: read.count,
@@ -123,8 +134,8 @@ fn run_numbers(
         refusals,
         answers,
     };
-    run_list(&numbers, texts, sizes);
-    end.after
+    run_list(rt, &numbers, texts, sizes)?;
+    Ok(end.after)
 }
 
 // Puts the numbers from `from` on, a space after each, into the list.
@@ -147,7 +158,7 @@ fn read_numbers(text: &[u8], from: usize, numbers: &mut [u32]) -> Numbers {
 }
 
 // Makes the calls and prints what every buffer holds afterwards, a line for each call.
-fn run_list(numbers: &[u32], texts: &[u8], sizes: Sizes) {
+fn run_list(rt: &impl Print, numbers: &[u32], texts: &[u8], sizes: Sizes) -> io::Result<()> {
     let mut blocks = unwritten();
     let mut refusals = [NUMBER; MOST_CALLS];
     let mut answers = [SIGNED; ANSWERS];
@@ -159,13 +170,14 @@ fn run_list(numbers: &[u32], texts: &[u8], sizes: Sizes) {
         &mut refusals,
         &mut answers,
     );
-    print_first(refusal, &blocks);
+    print_first(rt, refusal, &blocks)?;
     print_rows(
+        rt,
         sizes.numbers / replay::NUMBERS_PER_CALL,
         &blocks,
         &refusals,
         &answers,
-    );
+    )
 }
 
 // A slot more than calls.
@@ -201,42 +213,56 @@ fn make(
 }
 
 // Prints the refusal and slot 0, `=` where it was not written.
-fn print_first(refusal: u32, blocks: &[u8]) {
+fn print_first(rt: &impl Print, refusal: u32, blocks: &[u8]) -> io::Result<()> {
     let before = [BYTE; layout::BLOCK_SIZE];
-    out::print_number(refusal as u64);
-    out::print(b" ");
+    out::print_number(rt, refusal as u64)?;
+    out::print(rt, b" ")?;
     let n = reading::within(layout::BLOCK_SIZE, blocks);
-    out::print_left(&before, &blocks[..n]);
-    out::print(b"\n");
+    out::print_left(rt, &before, &blocks[..n])?;
+    out::print(rt, b"\n")
 }
 
-fn print_rows(n: usize, blocks: &[u8], refusals: &[u32], answers: &[i32]) {
+fn print_rows(
+    rt: &impl Print,
+    n: usize,
+    blocks: &[u8],
+    refusals: &[u32],
+    answers: &[i32],
+) -> io::Result<()> {
     let mut i = 0;
     while i < n {
-        print_row(i, blocks, refusals, answers);
+        print_row(rt, i, blocks, refusals, answers)?;
         i += 1;
     }
+    Ok(())
 }
 
 // What is kept of call `i`: its answer, and its slot, `=` where that is the slot before.
-fn print_row(i: usize, blocks: &[u8], refusals: &[u32], answers: &[i32]) {
+fn print_row(
+    rt: &impl Print,
+    i: usize,
+    blocks: &[u8],
+    refusals: &[u32],
+    answers: &[i32],
+) -> io::Result<()> {
     if i >= MOST_CALLS {
-        return;
+        return Ok(());
     }
     let from = layout::BLOCK_SIZE * i;
     let to = from + layout::BLOCK_SIZE;
     let end = to + layout::BLOCK_SIZE;
     if end > blocks.len() {
-        return;
+        return Ok(());
     }
     out::print_outcome(
+        rt,
         number_at(refusals, i),
         signed_at(answers, replay::ANSWERS_PER_CALL * i),
         signed_at(answers, replay::ANSWERS_PER_CALL * i + 1),
         signed_at(answers, replay::ANSWERS_PER_CALL * i + 2),
         &blocks[from..to],
         &blocks[to..end],
-    );
+    )
 }
 
 fn number_at(numbers: &[u32], i: usize) -> u32 {

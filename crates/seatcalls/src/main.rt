@@ -1,47 +1,63 @@
 // Runs the call file on standard input and writes what it prints to standard output. Where the one
 // can't be read to its end, which counts as an empty input, or the other can't be written, it says so
 // on standard error.
-ghost use Rattle.io.specs.Counts.{IsPrefixLen};
+#![tactic(auto)]
 
-use libc::{STDIN_FILENO, STDOUT_FILENO};
+ghost use Rattle.std.specs.Io.{ReadsAtMost};
+
+use std::fmt::InlineText;
+use std::io;
+use std::io::Read;
 
 // Reads one byte more than a call file may have.
-fn main() {
+fn main(rt: HostRuntime) {
     let mut space = [0u8; callfile::MOST_TEXT + 1];
-    let mut failed = false;
-    let got = read_input(&mut space, &mut failed);
-    if failed {
-        os::fail(b"seatcalls: standard input");
-        run_text(&space[..0]);
-        return;
+    match read_input(&mut rt.stdin(), &mut space) {
+        Ok(got) => run_text(&rt, &space[..got]),
+        Err(error) => {
+            fail(&rt, "standard input", &error);
+            run_text(&rt, &[]);
+        }
     }
-    run_text(&space[..got]);
 }
 
-// Reads until the space is full, the input ends or a read fails, which it notes, and answers how many
-// bytes it put at the start of the space.
-fn read_input(space: &mut [u8], failed: &mut bool) -> usize
-    ensures { IsPrefixLen result space.new }
+// Reads until the space is full or the input ends, and answers how many bytes it put at the start of
+// the space; why, where a read fails.
+fn read_input<R: Read>(input: &mut R, space: &mut [u8]) -> io::Result<usize>
+    ensures { ReadsAtMost result space.new }
 {
     let mut n = 0;
     while n < space.len() {
-        let got = libc::read(STDIN_FILENO, &mut space[n..]);
-        let more = io::count(got, &space[n..]);
+        let more = input.read(&mut space[n..])?;
         if more == 0 {
-            *failed = got < 0;
             break;
         }
         n += more;
     }
-    n
+    Ok(n)
 }
 
 // Runs a text and writes what it prints.
-fn run_text(text: &[u8]) {
+fn run_text(rt: &(impl Print + Eprint), text: &[u8]) {
     let mut out = [0u8; callfile::OUT_SIZE];
     let r = callfile::run(text, &mut out);
     let n = r.length;
-    if !io::write_all(STDOUT_FILENO, &out[..n]) {
-        os::fail(b"seatcalls: standard output");
+    if let Err(error) = rt.write_all(&out[..n]) {
+        fail(rt, "standard output", &error);
+    }
+}
+
+// Says on standard error what failed, and why.
+fn fail(rt: &impl Eprint, what: &str, error: &io::Error) {
+    let text = InlineText::<256>::of(error);
+    let why = words_of(text.as_str());
+    let _ = eprintln!(rt; "seatcalls: {what}: {why}");
+}
+
+// The system's words of an error's text, without the number that std puts after them.
+fn words_of(text: &str) -> &str {
+    match text.split_once(" (os error ") {
+        Some((words, _)) => words,
+        None => text,
     }
 }
