@@ -12,7 +12,7 @@ use borrow.Author.Tests.{ltb-true, ltb-false}
 use Rattle.rules.specs.Call.{Call}
 use Rattle.steptable.specs.TableText.{ours}
 use Rattle.register.specs.CallOn.{call_on}
-use Rattle.text.specs.Text.{line, AllAllowed}
+use Rattle.text.specs.Text.{AllAllowed}
 use Rattle.text.specs.Write.{Room, Written}
 use Rattle.text.proofs.Sizes.{line_short, line_long}
 use Rattle.text.proofs.Reading.{clash}

@@ -1,7 +1,6 @@
 pub mod Rows
 pub mod Lines
 pub mod Answers
-pub mod Lends
 pub mod Going
 pub mod Whole
 pub mod Determined

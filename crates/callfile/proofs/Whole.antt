@@ -16,7 +16,7 @@ use Rattle.block.specs.Block.{encode}
 use Rattle.register.specs.CallOn.{Result, open_on}
 use Rattle.register.specs.Made.{MadeOpen}
 use Rattle.register.specs.declared.Answer.{Answer}
-use Rattle.text.specs.Text.{line, AllAllowed}
+use Rattle.text.specs.Text.{AllAllowed}
 use Rattle.text.specs.Read.{Begins}
 use Rattle.text.specs.Write.{put, Room, Written}
 use Rattle.text.proofs.Sizes.{line_short}
