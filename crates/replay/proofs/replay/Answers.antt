@@ -22,8 +22,8 @@ sizes c =
     let a = c.args in
     sized a.calls.now a.blocks.now a.refusals.now a.answers.now (sym c.is_sized.ensures ∙ c.if-not-is_sized.false)
 
-all-within : (c : Else-not-all_texts) → let a = c.args in all_texts a.calls.now a.texts.now ≡ true
-all-within c = sym c.all_texts.ensures ∙ c.if-not-all_texts.false
+all_within : (c : Else-not-all_texts) → let a = c.args in all_texts a.calls.now a.texts.now ≡ true
+all_within c = sym c.all_texts.ensures ∙ c.if-not-all_texts.false
 
 all_known : (c : Else-not-all_calls) → all_calls c.args.calls.now ≡ true
 all_known c = sym c.all_calls.ensures ∙ c.if-not-all_calls.false
@@ -51,7 +51,7 @@ all_calls-requires c = tt
 pub returns-then-not-all_calls : goal.returns-then-not-all_calls
 returns-then-not-all_calls c =
     let a = c.args in
-    made_number a.calls.now a.texts.now a.blocks.now a.refusals.now a.answers.now (fit (goal.at.returns-then-not-all_calls c).Else-not-is_sized) (all-within (goal.at.returns-then-not-all_calls c).Else-not-all_texts)
+    made_number a.calls.now a.texts.now a.blocks.now a.refusals.now a.answers.now (fit (goal.at.returns-then-not-all_calls c).Else-not-is_sized) (all_within (goal.at.returns-then-not-all_calls c).Else-not-all_texts)
     (sym c.all_calls.ensures ∙ c.if-not-all_calls.true)
 
 pub slice_bounds-open-end : goal.slice_bounds-open-end
@@ -80,7 +80,7 @@ turn-requires c =
     record {
       place = omega arith;
       number = passes_at (λ k. is_call (number_at a.calls.now k)) n (all_known (goal.at.turn-requires c).Else-not-all_calls) l.i (omega arith);
-      text = passes_at (text_fits_at a.calls.now a.texts.now) n (all-within (goal.at.turn-requires c).Else-not-all_texts) l.i (omega arith);
+      text = passes_at (text_fits_at a.calls.now a.texts.now) n (all_within (goal.at.turn-requires c).Else-not-all_texts) l.i (omega arith);
       sizes = l.invariant.2;
     }
 
@@ -108,5 +108,5 @@ pub returns : goal.returns
 returns c =
     let l = c.loop-i in
     let a = c.args in
-    made_all a.calls.now a.texts.now a.blocks.now a.refusals.now a.answers.now (fit (goal.at.returns c).Else-not-is_sized) (all-within (goal.at.returns c).Else-not-all_texts) (all_known (goal.at.returns c).Else-not-all_calls) l.blocks l.refusals l.answers
+    made_all a.calls.now a.texts.now a.blocks.now a.refusals.now a.answers.now (fit (goal.at.returns c).Else-not-is_sized) (all_within (goal.at.returns c).Else-not-all_texts) (all_known (goal.at.returns c).Else-not-all_calls) l.blocks l.refusals l.answers
     (replayed a.calls.now a.texts.now l.blocks l.refusals l.answers l.i (omega arith) l.invariant.3)

@@ -18,8 +18,8 @@ use Rattle.slips.proofs.SlipWays.{other_after, other_cut, other_refused, genuine
 use Rattle.slips.proofs.is_genuine.Goals as goal
 use Rattle.slips.proofs.is_genuine.Goals.{After-cut_by-o, After-equal, Start}
 
-abbrev with-table : Start → Given
-with-table s = lent s.args.fault s.args.table.now
+abbrev with_table : Start → Given
+with_table s = lent s.args.fault s.args.table.now
 
 -- the register is compared with the slip's after
 after_test : (c : After-equal) → let a = c.args in c.equal.result ≡ equal (slip_after a.slip.now) a.block.now
@@ -37,11 +37,11 @@ made_again c =
 
 pub returns-then-not-equal : goal.returns-then-not-equal
 returns-then-not-equal c =
-    other_after (with-table (goal.at.returns-then-not-equal c).Start) c.args.block.now c.args.slip.now c.requires.2 (sym (after_test (goal.at.returns-then-not-equal c).After-equal) ∙ c.if-not-equal.true)
+    other_after (with_table (goal.at.returns-then-not-equal c).Start) c.args.block.now c.args.slip.now c.requires.2 (sym (after_test (goal.at.returns-then-not-equal c).After-equal) ∙ c.if-not-equal.true)
 
 pub returns-then-not-is_cut : goal.returns-then-not-is_cut
 returns-then-not-is_cut c =
-    other_cut (with-table (goal.at.returns-then-not-is_cut c).Start) c.args.block.now c.args.slip.now c.requires.2 (sym c.is_cut.ensures ∙ c.if-not-is_cut.true)
+    other_cut (with_table (goal.at.returns-then-not-is_cut c).Start) c.args.block.now c.args.slip.now c.requires.2 (sym c.is_cut.ensures ∙ c.if-not-is_cut.true)
 
 pub slice_bounds-copy-end : goal.slice_bounds-copy-end
 slice_bounds-copy-end c = sym (length-take-le block_size c.args.slip.now (omega (arith, c.requires.2)))
@@ -63,11 +63,11 @@ overflow_cast-slip-4 c = omega (arith, fits_bytes c.args.slip.now c.shared_slice
 
 pub returns-then-o-ne0 : goal.returns-then-o-ne0
 returns-then-o-ne0 c =
-    other_refused (with-table (goal.at.returns-then-o-ne0 c).Start) c.args.block.now c.args.slip.now c.requires.2 (λ z. c.if-o-ne0.true (ap (λ (r : Result). r.refusal) (made_again (goal.at.returns-then-o-ne0 c).After-cut_by-o) ∙ z))
+    other_refused (with_table (goal.at.returns-then-o-ne0 c).Start) c.args.block.now c.args.slip.now c.requires.2 (λ z. c.if-o-ne0.true (ap (λ (r : Result). r.refusal) (made_again (goal.at.returns-then-o-ne0 c).After-cut_by-o) ∙ z))
 
 pub returns : goal.returns
 returns c =
     let b = c.args.block.now in
     c.equal-2.ensures
     ∙ ap (λ (r : Result). equal r.bytes b) (made_again (goal.at.returns c).After-cut_by-o)
-    ∙ sym (genuine_left (with-table (goal.at.returns c).Start) b c.args.slip.now c.requires.2 (sym (after_test (goal.at.returns c).After-equal) ∙ c.if-not-equal.false) (sym c.is_cut.ensures ∙ c.if-not-is_cut.false) (sym (ap (λ (r : Result). r.refusal) (made_again (goal.at.returns c).After-cut_by-o)) ∙ c.if-o-ne0.false))
+    ∙ sym (genuine_left (with_table (goal.at.returns c).Start) b c.args.slip.now c.requires.2 (sym (after_test (goal.at.returns c).After-equal) ∙ c.if-not-equal.false) (sym c.is_cut.ensures ∙ c.if-not-is_cut.false) (sym (ap (λ (r : Result). r.refusal) (made_again (goal.at.returns c).After-cut_by-o)) ∙ c.if-o-ne0.false))

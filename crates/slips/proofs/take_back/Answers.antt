@@ -21,8 +21,8 @@ abbrev table : After-read_table-g → Given
 table c = c.read_table-g.result
 
 -- no test before 20 applies
-none-applies : (c : Else-n-ne0) → let a = c.args in back_refusal (c.read_table-g.result).refusal a.block.now a.by (slip_giver a.slip.now) ≡ 0
-none-applies c = sym c.back_refusal-n.ensures ∙ c.if-n-ne0.false
+none_applies : (c : Else-n-ne0) → let a = c.args in back_refusal (c.read_table-g.result).refusal a.block.now a.by (slip_giver a.slip.now) ≡ 0
+none_applies c = sym c.back_refusal-n.ensures ∙ c.if-n-ne0.false
 
 sized : (c : Else-n-ne0) → length c.args.block.now ≡ block_size
 sized c =
@@ -48,7 +48,7 @@ is_genuine-requires c =
 pub returns-then-not-is_genuine : goal.returns-then-not-is_genuine
 returns-then-not-is_genuine c =
     let a = c.args in
-    rw (c.refused-then-not-is_genuine.ensures, ← c.read_table-g.ensures) (back_other (table (goal.at.returns-then-not-is_genuine c).After-read_table-g) a.by a.slip.now a.block.now c.if-slip-ne-SLIP_SIZE.false (none-applies (goal.at.returns-then-not-is_genuine c).Else-n-ne0) (sym c.is_genuine.ensures ∙ c.if-not-is_genuine.true))
+    rw (c.refused-then-not-is_genuine.ensures, ← c.read_table-g.ensures) (back_other (table (goal.at.returns-then-not-is_genuine c).After-read_table-g) a.by a.slip.now a.block.now c.if-slip-ne-SLIP_SIZE.false (none_applies (goal.at.returns-then-not-is_genuine c).Else-n-ne0) (sym c.is_genuine.ensures ∙ c.if-not-is_genuine.true))
 
 pub slice_bounds-copy-end : goal.slice_bounds-copy-end
 slice_bounds-copy-end c = sym (length-take-le block_size c.args.slip.now (omega (arith, c.if-slip-ne-SLIP_SIZE.false)))
@@ -60,4 +60,4 @@ copy-requires c =
 pub returns : goal.returns
 returns c =
     let a = c.args in
-    rw (c.answered.ensures, ← c.read_table-g.ensures) (back_done (table (goal.at.returns c).After-read_table-g) a.by a.slip.now a.block.now c.if-slip-ne-SLIP_SIZE.false (none-applies (goal.at.returns c).Else-n-ne0) (sym c.is_genuine.ensures ∙ c.if-not-is_genuine.false) c.copy.new.to c.copy.ensures)
+    rw (c.answered.ensures, ← c.read_table-g.ensures) (back_done (table (goal.at.returns c).After-read_table-g) a.by a.slip.now a.block.now c.if-slip-ne-SLIP_SIZE.false (none_applies (goal.at.returns c).Else-n-ne0) (sym c.is_genuine.ensures ∙ c.if-not-is_genuine.false) c.copy.new.to c.copy.ensures)

@@ -16,14 +16,14 @@ use Rattle.block.proofs.read.retired_formed.Goals as goal
 abbrev tests : ℕ → List ℕ → ℕ → Bool
 tests n b count = all_from (subject_formed n b) 0 most_subjects && all_from (λ k. is_apart n (delegation_at b k)) 0 count
 
-none-set : (b : List ℕ) (count : ℕ) → true ≡ tests 0 b count
-none-set b count = λ j. all_true (subject_formed 0 b) 0 most_subjects (none_retired_formed b) j && all_true (λ k. is_apart 0 (delegation_at b k)) 0 count (λ k. none_retired_apart (delegation_at b k)) j
+none_set : (b : List ℕ) (count : ℕ) → true ≡ tests 0 b count
+none_set b count = λ j. all_true (subject_formed 0 b) 0 most_subjects (none_retired_formed b) j && all_true (λ k. is_apart 0 (delegation_at b k)) 0 count (λ k. none_retired_apart (delegation_at b k)) j
 
 pub returns-then-retired-eq0 : goal.returns-then-retired-eq0
 returns-then-retired-eq0 c =
     let r = c.retired-retired in
     let a = c.args in
-    none-set a.b.now a.count ∙ ap (λ (n : ℕ). tests n a.b.now a.count) (sym c.if-retired-eq0.true ∙ r.ensures)
+    none_set a.b.now a.count ∙ ap (λ (n : ℕ). tests n a.b.now a.count) (sym c.if-retired-eq0.true ∙ r.ensures)
 
 pub returns-then-not-subjects_formed : goal.returns-then-not-subjects_formed
 returns-then-not-subjects_formed c =

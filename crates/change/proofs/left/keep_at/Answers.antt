@@ -14,8 +14,8 @@ use Rattle.change.proofs.left.keep_at.Goals as goal
 use Rattle.change.proofs.left.keep_at.Goals.{After-record_place-at}
 
 -- the weight where it is not -1
-weight-known : (c : After-record_place-at) → T (non_neg (kept c.args.weight)) × Fits w8 (nat_abs (kept c.args.weight))
-weight-known c =
+weight_known : (c : After-record_place-at) → T (non_neg (kept c.args.weight)) × Fits w8 (nat_abs (kept c.args.weight))
+weight_known c =
     weight_fits c.args.weight c.ranges.weight c.if-weight-lt0.false c.requires.most
 
 pub returns-then-weight-lt0 : goal.returns-then-weight-lt0
@@ -23,7 +23,7 @@ returns-then-weight-lt0 c =
     none_written c.args.weight c.ranges.weight c.if-weight-lt0.true c.args.block.now _ (delegation_at c.args.block.now c.args.from)
 
 pub overflow_cast-block : goal.overflow_cast-block
-overflow_cast-block c = weight-known (goal.at.overflow_cast-block c).After-record_place-at
+overflow_cast-block c = weight_known (goal.at.overflow_cast-block c).After-record_place-at
 
 pub overflow_add-block : goal.overflow_add-block
 overflow_add-block c = omega (arith, c.record_place-at.ensures)
@@ -37,7 +37,7 @@ returns-then-from-to c =
     rw (← c.if-from-to.true) (weight_written c.args.weight c.ranges.weight c.if-weight-lt0.false c.requires.most b _ (fits_bytes b c.slice_known-1.given) _ c.args.from (rw c.if-from-to.true c.record_place-at.ensures) refl)
 
 pub overflow_cast-weight : goal.overflow_cast-weight
-overflow_cast-weight c = weight-known (goal.at.overflow_cast-weight c).After-record_place-at
+overflow_cast-weight c = weight_known (goal.at.overflow_cast-weight c).After-record_place-at
 
 pub returns : goal.returns
 returns c =

@@ -13,8 +13,8 @@ use Rattle.change.proofs.retiring.retire.Goals as goal
 use Rattle.change.proofs.retiring.retire.Goals.{After-put_marks, After-write_left}
 
 -- the block is long enough after the first, and holds a register after the second
-left-long : (c : After-write_left) → length c.write_left.new.block ≡ block_size
-left-long c =
+left_long : (c : After-write_left) → length c.write_left.new.block ≡ block_size
+left_long c =
     fewer_size c.args.b.now (fits_bytes c.args.b.now c.slice_known-1.given) c.requires.0 c.args.subject c.requires.1 c.weights_without.new.weights c.count-n.result c.count-n.ensures c.weights_without.ensures c.write_left.new.block c.write_left.ensures
 
 marks_held : (c : After-put_marks) → Fitting c.put_marks.new.b × (c.args.subject < subjects_in c.put_marks.new.b)
@@ -34,7 +34,7 @@ write_left-requires c =
     (c.requires.0, c.weights-2-1.given, weights_most c.args.b.now (fits_bytes c.args.b.now c.slice_known-1.given) c.requires.0 c.args.subject c.requires.1 c.weights_without.new.weights c.count-n.result c.count-n.ensures c.weights_without.ensures)
 
 pub put_marks-requires : goal.put_marks-requires
-put_marks-requires c = omega (arith, left-long (goal.at.put_marks-requires c).After-write_left, has_marks c.args.b.now (fits_bytes c.args.b.now c.slice_known-1.given) c.requires.0 c.args.subject c.requires.1, size_held c.args.b.now (fits_bytes c.args.b.now c.slice_known-1.given) c.requires.0)
+put_marks-requires c = omega (arith, left_long (goal.at.put_marks-requires c).After-write_left, has_marks c.args.b.now (fits_bytes c.args.b.now c.slice_known-1.given) c.requires.0 c.args.subject c.requires.1, size_held c.args.b.now (fits_bytes c.args.b.now c.slice_known-1.given) c.requires.0)
 
 pub set_retired-requires : goal.set_retired-requires
 set_retired-requires c = marks_held (goal.at.set_retired-requires c).After-put_marks

@@ -21,10 +21,10 @@ tests s =
     let R = decode a.block.now in
     subjects_held R (a.giver ∷ a.receiver ∷ []) ++ (pair_stands R (let a = s.args in granted a.giver a.receiver a.weight a.need a.bar a.kind) ∷ all_stand R (let a = s.args in granted a.giver a.receiver a.weight a.need a.bar a.kind) ∷ [])
 
-before-reach : (c : After-no_place-n) → c.no_place-n.result ≡ first_of (let a = c.args in
+before_reach : (c : After-no_place-n) → c.no_place-n.result ≡ first_of (let a = c.args in
     let R = decode a.block.now in
     subjects_held R (a.giver ∷ a.receiver ∷ []) ++ (pair_stands R (let a = c.args in granted a.giver a.receiver a.weight a.need a.bar a.kind) ∷ all_stand R (let a = c.args in granted a.giver a.receiver a.weight a.need a.bar a.kind) ∷ []))
-before-reach c =
+before_reach c =
     let a = c.args in
     let R = decode a.block.now in
     rw (c.no_place-n.ensures, c.pair_held-n.ensures) (joined_after (subjects_held R (a.giver ∷ a.receiver ∷ [])) (pair_stands R (let a = c.args in granted a.giver a.receiver a.weight a.need a.bar a.kind) ∷ all_stand R (let a = c.args in granted a.giver a.receiver a.weight a.need a.bar a.kind) ∷ []) tt tt)
@@ -33,10 +33,10 @@ pub overweight-requires : goal.overweight-requires
 overweight-requires c =
     let a = c.args in
     let b = a.block.now in
-    (c.requires.0, c.requires.1, λ z. both_of b (fits_bytes b c.shared_slice_known-1.given) c.requires.0.formed a.giver a.receiver (passes_of (tests (goal.at.overweight-requires c).Start) tt (sym (before-reach c) ∙ z) 9))
+    (c.requires.0, c.requires.1, λ z. both_of b (fits_bytes b c.shared_slice_known-1.given) c.requires.0.formed a.giver a.receiver (passes_of (tests (goal.at.overweight-requires c).Start) tt (sym (before_reach c) ∙ z) 9))
 
 pub returns : goal.returns
 unfolding held
 returns c =
     let last = overweight c.args.table.now (decode c.args.block.now) ((let a = c.args in granted a.giver a.receiver a.weight a.need a.bar a.kind) ∷ []) in
-    c.overweight.ensures ∙ ap (λ (n : ℕ). or_else n last) (before-reach (goal.at.returns c).After-no_place-n) ∙ sym (first_of_append (tests (goal.at.returns c).Start) (last ∷ []) tt)
+    c.overweight.ensures ∙ ap (λ (n : ℕ). or_else n last) (before_reach (goal.at.returns c).After-no_place-n) ∙ sym (first_of_append (tests (goal.at.returns c).Start) (last ∷ []) tt)
