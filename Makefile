@@ -30,9 +30,8 @@ INSTALL ?= install
 
 archive := target/staticlib/libseatreg.a
 program := target/bin/seatcalls
-# Where the toolchain leaves them.
+# Where the toolchain leaves it.
 proved_archive := crates/seatreg/out/libseatreg.a
-proved_program := crates/seatcalls/out/seatcalls
 header := include/seatreg.h
 # The crates below both the archive and the program.
 below := text rules steptable block change regfile queue runs search reckoning rounds refusals order register slips transfer demands
@@ -58,23 +57,20 @@ help:
 
 lib: $(archive)
 
+# For every x86-64 processor: the toolchain's default asks for one of x86-64-v2.
 $(archive): crates.txt $(call sources,$(below) seatreg)
-	cd crates/seatreg && $(RT) lib
+	cd crates/seatreg && $(RT) lib --cpu=x86-64
 	@mkdir -p $(@D)
 	cp $(proved_archive) $@
 
 run: $(program)
 	@$(program) < examples/listing.calls
 
-$(program): $(proved_program)
+# `rt run` proves and links it, and runs it, here on an empty input.
+$(program): crates.txt $(call sources,$(below) replay callfile seatcalls)
+	cd crates/seatcalls && $(RT) run --cpu=x86-64 </dev/null >/dev/null
 	@mkdir -p $(@D)
-	cp $< $@
-
-# `rt run` proves and links it, and runs it on an empty input. So does `rt ci`, on an input of its own: after that this has nothing to do. Where
-# nothing has changed but the time of a file, `rt run` leaves the program as it is.
-$(proved_program): crates.txt $(call sources,$(below) replay callfile seatcalls)
-	cd crates/seatcalls && $(RT) run </dev/null >/dev/null
-	touch $@
+	cp crates/seatcalls/out/seatcalls $@
 
 host: $(hosts)
 	@for host in $(notdir $(hosts)); do \
