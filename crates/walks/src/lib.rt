@@ -1,2 +1,2 @@
-// What the proofs by hand of functions that the borrow checker does not cover have in common; no code.
+// Lemmas on the parts of a function's code, for proofs by hand; no code.
 #![tactic(auto)]
