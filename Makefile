@@ -67,7 +67,7 @@ run: $(program)
 	@$(program) < examples/listing.calls
 
 # `rt run` proves and links it, and runs it, here on an empty input.
-$(program): crates.txt $(call sources,$(below) replay callfile seatcalls)
+$(program): crates.txt $(call sources,$(below) replay callfile casefile seatcalls)
 	cd crates/seatcalls && $(RT) run --cpu=x86-64 </dev/null >/dev/null
 	@mkdir -p $(@D)
 	cp crates/seatcalls/out/seatcalls $@

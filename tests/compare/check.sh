@@ -37,7 +37,8 @@ header() {
          /^#define SEATREG_[A-Z_]+ / { sub(/SEATREG_/, ""); constants = constants $2 " " $3 "\n" }
          END { printf "%s", constants }' include/seatreg.h >"$out/header" &&
         "$out/compare" header | diff - "$out/header" &&
-        sed -nE 's/^pub const ([A-Z_]+): u32 = ([0-9]+);$/\1 \2/p' crates/rules/src/refusal.rt >"$out/refusals" &&
+        sed -nE 's/^    ([A-Z][A-Za-z]+) = ([0-9]+),$/\1 \2/p' crates/rules/src/refusal.rt |
+            sed -E 's/([a-z])([A-Z])/\1_\2/g; s/.*/\U&/' >"$out/refusals" &&
         sed -nE '/ACCEPTED/d; s/^    SEATREG_([A-Z_]+) = ([0-9]+).*/\1 \2/p' include/seatreg.h | diff "$out/refusals" - &&
         test -s "$out/refusals"
 }

@@ -83,31 +83,36 @@ found() {
     ended differs && says "expected \"$3" && says "found \"$4"
 }
 
-end='    let end = LINK_SIZE * written.links;'
-after='    if written.refusal == 0 && end < buf.len() {
-        buf[end] = 0;
+end='    let links = write_chain(block, giver, receiver, buf)?;'
+after='    if LINK_SIZE * links < buf.len() {
+        buf[LINK_SIZE * links] = 0;
     }'
-filled='    if written.refusal == 0 && end < buf.len() {
-        buf[end] = 170;
+filled='    if LINK_SIZE * links < buf.len() {
+        buf[LINK_SIZE * links] = 170;
     }'
-front='    if written.refusal != 0 && buf.len() > 0 {
+front='    let written = write_chain(block, giver, receiver, buf);
+    if written.is_err() && buf.len() > 0 {
         buf[0] = 0;
-    }'
-tabled='    let written = write_chain_table(block, giver, receiver, table, buf);'
-past='    if written.refusal == 0 && LINK_SIZE * written.links < buf.len() {
-        buf[LINK_SIZE * written.links] = 0;
-    }'
-by_text='    write_chain_by(block, &g.steps, g.refusal, giver, receiver, buf)'
+    }
+    let links = written?;'
+tabled='    let links = write_chain_table(block, giver, receiver, table, buf)?;'
+by_text='    write_chain_by(block, &read_table(table), giver, receiver, buf)'
 by_ours='    write_chain(block, giver, receiver, buf)'
-text='    if text.len() == 0 {'
-file_end='    let end = written.length;'
-order_end='    let end = ITEM_SIZE * written.subjects;'
+text='    if text.is_empty() {'
+file_end='    let length = write_file(block, buf)?;'
+file_after='    if length < buf.len() {
+        buf[length] = 0;
+    }'
+order_end='    let subjects = write_order(block, receiver, table, buf)?;'
+order_after='    if ITEM_SIZE * subjects < buf.len() {
+        buf[ITEM_SIZE * subjects] = 0;
+    }'
 marks='    change::set_marks(block, subject as u8, marks as u16);'
 bit='    set_retired(b, subject);'
 five='    let cut = [number, by as u8, giver as u8, receiver as u8, weight as u8];'
 exchanged='    let cut = [number, by as u8, receiver as u8, giver as u8, weight as u8];'
 restored='    change::copy(&slip[..layout::BLOCK_SIZE], block);'
-kind='    b[at + KIND] = kind;'
+kind='    b[at + KIND] = delegation.kind;'
 sized='    if !is_sized(calls.len(), blocks.len(), refusals.len(), answers.len()) {'
 first='        if blocks.len() > 0 {
             blocks[0] = 0;
@@ -116,12 +121,12 @@ first='        if blocks.len() > 0 {
 step "no fault" unharmed
 step "chain spoils the byte after its part" found "$end" "$end"$'\n'"$after" '1 1 =' '0 1 ='
 step "chain writes the byte that a buffer was filled with" found "$end" "$end"$'\n'"$filled" '1 1 =' '2 1 ='
-step "a refused chain spoils a byte" found "$end" "$end"$'\n'"$front" '0 0 =' '1 0 ='
-step "chain_table spoils the byte after its part" found "$tabled" "$tabled"$'\n'"$past" '1 1 =' '0 1 ='
+step "a refused chain spoils a byte" found "$end" "$front" '0 0 =' '1 0 ='
+step "chain_table spoils the byte after its part" found "$tabled" "$tabled"$'\n'"$after" '1 1 =' '0 1 ='
 step "chain_table goes by our table" found "$by_text" "$by_ours" '16 0 0 0 =' '0 0 0 0 ='
 step "a table's text is left out" found "$text" '    if text.len() + 1 > 0 {' '7 0 0 =' '8 0 0 ='
-step "file spoils the byte after its part" found "$file_end" "$file_end"$'\n'"$after" '1 1 65:' '0 1 65:'
-step "order spoils the byte after its part" found "$order_end" "$order_end"$'\n'"$after" '1 1 12:' '0 1 12:'
+step "file spoils the byte after its part" found "$file_end" "$file_end"$'\n'"$file_after" '1 1 65:' '0 1 65:'
+step "order spoils the byte after its part" found "$order_end" "$order_end"$'\n'"$order_after" '1 1 12:' '0 1 12:'
 step "the marks stay as they were" found "$marks" '' '1 1 3 2188:' '0 0 1 ='
 step "a retired subject's bit stays unset" found "$bit" '' '02........0302' '.........0302'
 step "giver and receiver are exchanged on a slip" found "$five" "$exchanged" '10301/=' '30101/='

@@ -10,4 +10,5 @@ pub mod Left
 pub mod Older
 pub mod Fields
 pub mod Loops
+pub mod Chains
 pub mod Rise

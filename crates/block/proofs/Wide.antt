@@ -1,11 +1,12 @@
 -- Numbers of any width: read, written and read back. Assumes nothing.
 use mathlib.Core.Path.{◌≡◌, refl, sym, ap, ◌∙◌}
-use mathlib.Core.List.{List, ◌∷◌, ◌++◌}
+use mathlib.Core.List.{List, [], ◌∷◌, ◌++◌}
 use Prim.Native.Nat.{ℕ, zero, suc, ◌+◌, ◌*◌, ◌/◌, ◌%◌, ◌^◌, ◌≤◌, ◌<◌}
-use native.Mathlib.Nat.{mod-lt, pow-suc}
+use native.Mathlib.Nat.{mod-lt, pow-suc, add-zero}
 use native.Mathlib.Omega.{arith}
 use lib.ListN.{length, get_or, take, drop}
-use lib.Seq.{get_or-drop, drop-cons}
+use lib.Seq.{get_or-take, get_or-drop, drop-cons}
+use Rattle.std.specs.Int.{w64, from_le_bytes, to_le_bytes}
 use Rattle.block.specs.Bytes.{IsBytes, wide, wide_bytes}
 
 -- the number at i is the first of what begins there
@@ -55,3 +56,28 @@ wide_zeros (suc k) s i h =
   where
     next : (j : ℕ) → suc i + j ≡ i + suc j
     next j = omega arith
+
+-- eight bytes, read as one number
+pub wide_eight : (s : List ℕ) (i : ℕ) → from_le_bytes w64 (take 8 (drop i s)) ≡ wide 8 s i
+wide_eight s i =
+    let r = drop i s in
+    digits (λ j. get_or (take 8 r) j 0)
+    ∙ (λ x. at 0 (omega arith) x + 256 * (at 1 (omega arith) x + 256 * (at 2 (omega arith) x + 256 * (at 3 (omega arith) x + 256 * (at 4 (omega arith) x + 256 * (at 5 (omega arith) x + 256 * (at 6 (omega arith) x + 256 * (at 7 (omega arith) x + 256 * 0))))))))
+    ∙ wide_drop 8 s i 0 ∙ ap (wide 8 s) (add-zero i)
+  where
+    digits : (d : ℕ → ℕ) → d 0 + d 1 * 256 + d 2 * 65536 + d 3 * 16777216 + d 4 * 4294967296 + d 5 * 1099511627776 + d 6 * 281474976710656 + d 7 * 72057594037927936 ≡ d 0 + 256 * (d 1 + 256 * (d 2 + 256 * (d 3 + 256 * (d 4 + 256 * (d 5 + 256 * (d 6 + 256 * (d 7 + 256 * 0)))))))
+    digits d = omega arith
+
+    at : (j : ℕ) → j < 8 → get_or (take 8 (drop i s)) j 0 ≡ get_or (drop i s) j 0
+    at j h = get_or-take 8 (drop i s) j 0 h
+
+-- the eight bytes of a number
+pub eight_bytes : (n : ℕ) → to_le_bytes w64 n ≡ wide_bytes 8 n
+eight_bytes n =
+    let b : n / 65536 ≡ n / 256 / 256 = omega arith in
+    let c : n / 16777216 ≡ n / 256 / 256 / 256 = omega arith in
+    let d : n / 4294967296 ≡ n / 256 / 256 / 256 / 256 = omega arith in
+    let e : n / 1099511627776 ≡ n / 256 / 256 / 256 / 256 / 256 = omega arith in
+    let f : n / 281474976710656 ≡ n / 256 / 256 / 256 / 256 / 256 / 256 = omega arith in
+    let g : n / 72057594037927936 ≡ n / 256 / 256 / 256 / 256 / 256 / 256 / 256 = omega arith in
+    λ x. (n % 256) ∷ (n / 256 % 256) ∷ (b x % 256) ∷ (c x % 256) ∷ (d x % 256) ∷ (e x % 256) ∷ (f x % 256) ∷ (g x % 256) ∷ []

@@ -21,21 +21,15 @@ pub fn read_two(s: &[u8], at: usize) -> u16
     requires { at + 2 ≤ length s.now }
     ensures { result ≡ two s.now at }
 {
-    (s[at] as u16) + (s[at + 1] as u16) * 256
+    u16::from_le_bytes([s[at], s[at + 1]])
 }
 
-// The bytes from `from` up to `to` are zero.
+// The bytes from `from` up to `to` are zero. They are joined and tested once, which is faster than a test of each.
 fn zero_range(s: &[u8], from: usize, to: usize) -> bool
-    requires { to ≤ length s.now }
+    requires { (from ≤ to) × (to ≤ length s.now) }
     ensures { result ≡ zeros s.now from (to - from) }
 {
-    let mut any: u8 = 0;
-    let mut i = from;
-    while i < to {
-        any = any | s[i];
-        i += 1;
-    }
-    any == 0
+    s[from..to].iter().fold(0, |any, byte| any | *byte) == 0
 }
 
 // How many subjects are enrolled.
@@ -67,9 +61,7 @@ pub fn retired(b: &[u8]) -> u64
     requires { HasRetired b.now }
     ensures { result ≡ retired_in b.now }
 {
-    let low = (read_two(b, RETIRED_AT) as u64) + (read_two(b, RETIRED_AT + 2) as u64) * 65536;
-    let high = (read_two(b, RETIRED_AT + 4) as u64) + (read_two(b, RETIRED_AT + 6) as u64) * 65536;
-    low + high * 4294967296
+    u64::from_le_bytes(b[RETIRED_AT..RECORDS_AT].try_into().unwrap())
 }
 
 // The bit of a subject is set; none is past the last bit.
@@ -159,6 +151,7 @@ pub fn kind(b: &[u8], k: usize) -> u8
 }
 
 // Record `k` is formed, but for its giver and its kind, which may be any.
+#[tactic(auto, unfolding(crate::specs::Pass::formed_otherwise))]
 fn formed_otherwise(b: &[u8], k: usize, subjects: u8) -> bool
     requires { HasRecord b.now k }
     ensures { result ≡ formed_otherwise subjects (delegation_at b.now k) }
@@ -185,9 +178,8 @@ fn records_formed(b: &[u8], count: usize, subjects: u8) -> bool
 {
     let mut last: u16 = 0;
     let mut kinds: u8 = 0;
-    let mut k: usize = 0;
-    while k < count {
-        let pair = (giver(b, k) as u16) * 256 + (receiver(b, k) as u16);
+    for k in 0..count {
+        let pair = u16::from_be_bytes([giver(b, k), receiver(b, k)]);
         if pair <= last {
             return false;
         }
@@ -195,8 +187,7 @@ fn records_formed(b: &[u8], count: usize, subjects: u8) -> bool
             return false;
         }
         last = pair;
-        kinds = kinds | kind(b, k);
-        k += 1;
+        kinds |= kind(b, k);
     }
     if kinds > rules::kind::PASS_ONLY {
         return false;
@@ -226,14 +217,7 @@ fn subjects_formed(b: &[u8], retired: u64) -> bool
     requires { HasRetired b.now }
     ensures { result ≡ all_from (subject_formed retired b.now) 0 most_subjects }
 {
-    let mut s: u8 = 0;
-    while s < MOST_SUBJECTS {
-        if !subject_formed(b, retired, s) {
-            return false;
-        }
-        s += 1;
-    }
-    true
+    (0..MOST_SUBJECTS).all(|s| subject_formed(b, retired, s))
 }
 
 // Record `k` is neither to nor from a retired subject.
@@ -252,14 +236,7 @@ fn records_apart(b: &[u8], count: usize, retired: u64) -> bool
     requires { HasRecords b.now count }
     ensures { result ≡ all_from (λ k. is_apart retired (delegation_at b.now k)) 0 count }
 {
-    let mut k: usize = 0;
-    while k < count {
-        if !is_apart(b, k, retired) {
-            return false;
-        }
-        k += 1;
-    }
-    true
+    (0..count).all(|k| is_apart(b, k, retired))
 }
 
 // The bits are formed: where somebody is retired, every subject is formed, and none of the first `count` records is to or from a retired one.
@@ -282,9 +259,7 @@ pub fn is_pair(b: &[u8], k: usize, giver: u8, receiver: u8) -> bool
     requires { HasRecord b.now k }
     ensures { result ≡ is_pair giver receiver (delegation_at b.now k) }
 {
-    let g = self::giver(b, k);
-    let r = self::receiver(b, k);
-    g == giver && r == receiver
+    (self::giver(b, k), self::receiver(b, k)) == (giver, receiver)
 }
 
 // This pair comes before record `k`: by giver, then receiver.
@@ -292,12 +267,7 @@ fn is_before(b: &[u8], k: usize, giver: u8, receiver: u8) -> bool
     requires { HasRecord b.now k }
     ensures { result ≡ before (granted giver receiver 0 0 0 0) (delegation_at b.now k) }
 {
-    let g = self::giver(b, k);
-    let r = self::receiver(b, k);
-    if giver < g {
-        return true;
-    }
-    giver == g && receiver < r
+    (giver, receiver) < (self::giver(b, k), self::receiver(b, k))
 }
 
 // The first four bytes are formed.
@@ -351,14 +321,9 @@ pub fn find(b: &[u8], count: usize, giver: u8, receiver: u8) -> usize
     requires { HasRecords b.now count }
     ensures { result ≡ leading (λ d. not (is_pair giver receiver d)) (delegations_to b.now count) }
 {
-    let mut k: usize = 0;
-    while k < count {
-        if is_pair(b, k, giver, receiver) {
-            return k;
-        }
-        k += 1;
-    }
-    k
+    (0..count)
+        .position(|k| is_pair(b, k, giver, receiver))
+        .unwrap_or(count)
 }
 
 // How many records at the front this pair does not come before: its place.
@@ -366,14 +331,9 @@ pub fn place(b: &[u8], count: usize, giver: u8, receiver: u8) -> usize
     requires { HasRecords b.now count }
     ensures { result ≡ leading (λ e. not (before (granted giver receiver 0 0 0 0) e)) (delegations_to b.now count) }
 {
-    let mut k: usize = 0;
-    while k < count {
-        if is_before(b, k, giver, receiver) {
-            return k;
-        }
-        k += 1;
-    }
-    k
+    (0..count)
+        .position(|k| is_before(b, k, giver, receiver))
+        .unwrap_or(count)
 }
 
 // Record `k` is ordinary and to this receiver.
@@ -392,12 +352,5 @@ pub fn opens(b: &[u8], count: usize, receiver: u8) -> bool
     requires { HasRecords b.now count }
     ensures { result ≡ opens receiver (delegations_to b.now count) }
 {
-    let mut k: usize = 0;
-    while k < count {
-        if opens_to(b, k, receiver) {
-            return true;
-        }
-        k += 1;
-    }
-    false
+    (0..count).any(|k| opens_to(b, k, receiver))
 }

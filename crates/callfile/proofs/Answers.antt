@@ -8,18 +8,19 @@ use lib.IntN.{ℤ, pos, negsuc}
 use lib.ListN.{length}
 use mir.Syntax.{w32, w64}
 use mir.Val.{SFits, of_z, to_z}
-use mir.Facts.{to_z-of_z, to_z_pos, sfits_widen}
+use mir.Facts.{to_z-of_z, to_z_pos}
 use Rattle.rules.specs.Call.{Call}
 use Rattle.steptable.specs.TableText.{ours}
-use Rattle.steptable.specs.declared.Given.{Given}
+use Rattle.steptable.specs.TableText.{Given}
 use Rattle.register.specs.CallOn.{Result, call_on}
 use Rattle.register.specs.Made.{Made}
-use Rattle.register.specs.declared.Answer.{Answer}
+use Rattle.register.specs.Answer.{Answer}
 use Rattle.demands.specs.History.{lent_to}
 use Rattle.demands.proofs.History.{lent_ours}
 use Rattle.text.specs.Text.{line, most, Allowed, AllAllowed}
 use Rattle.text.specs.Write.{Room, Written}
 use Rattle.text.proofs.Sizes.{line_short}
+use Rattle.text.proofs.Signed.{held}
 use Rattle.callfile.specs.CallFile.{answer_line}
 use Rattle.callfile.specs.Row.{Answered}
 
@@ -27,42 +28,35 @@ use Rattle.callfile.specs.Row.{Answered}
 line_room : (at : ℕ) (zs : List ℤ) (out : List ℕ) → AllAllowed true zs → at + 12 * length zs ≤ length out → Room at (line zs) out
 line_room at zs out a h = omega (arith, line_short zs a)
 
--- ── values as the machine holds them ──
-pub wide : (z : ℤ) → SFits w32 z → SFits w64 (to_z w32 (of_z w32 z))
-wide z f = rw (to_z-of_z f) (sfits_widen tt f)
-
-wide_is : (z : ℤ) → SFits w32 z → to_z w64 (of_z w64 (to_z w32 (of_z w32 z))) ≡ z
-wide_is z f = to_z-of_z (wide z f) ∙ to_z-of_z f
-
+-- ── the values of an answer ──
 wide_allowed : (z : ℤ) → SFits w32 z → Allowed true z
 wide_allowed (pos n) f = omega (arith, f.sfits)
 wide_allowed (negsuc n) f = omega (arith, f.sfits)
 
-abbrev given : Answer → List ℤ
+abbrev pub given : Answer → List ℤ
 given o = pos o.refusal ∷ o.first ∷ o.second ∷ o.third ∷ []
 
-abbrev machine : Answer → List ℤ
-machine o = to_z w64 o.refusal ∷ to_z w64 (of_z w64 (to_z w32 (of_z w32 o.first))) ∷ to_z w64 (of_z w64 (to_z w32 (of_z w32 o.second))) ∷ to_z w64 (of_z w64 (to_z w32 (of_z w32 o.third))) ∷ []
-
 module _ (o : Answer) (a : o.refusal ≤ most) (f : SFits w32 o.first) (g : SFits w32 o.second) (h : SFits w32 o.third) where
-  machine_is : machine o ≡ given o
-  machine_is = λ p. to_z_pos w64 {n = o.refusal} (omega arith) p ∷ wide_is o.first f p ∷ wide_is o.second g p ∷ wide_is o.third h p ∷ []
-
   given_allowed : AllAllowed true (given o)
   given_allowed = (a, (wide_allowed o.first f, (wide_allowed o.second g, (wide_allowed o.third h, tt))))
 
-  pub answer_room : (at : ℕ) (out : List ℕ) → at + 48 ≤ length out → AllAllowed true (machine o) × Room at (line (machine o)) out
-  answer_room at out l = subst (λ (s : List ℤ). AllAllowed true s × Room at (line s) out) (sym machine_is) (given_allowed, line_room at (given o) out given_allowed (omega arith))
+  -- as the machine holds them
+  pub machine_is : {p q r s : ℤ} → p ≡ pos o.refusal → q ≡ to_z w32 (of_z w32 o.first) → r ≡ to_z w32 (of_z w32 o.second) → s ≡ to_z w32 (of_z w32 o.third) → to_z w64 (of_z w64 p) ∷ to_z w64 (of_z w64 q) ∷ to_z w64 (of_z w64 r) ∷ to_z w64 (of_z w64 s) ∷ [] ≡ given o
+  machine_is e k l m = λ i. held e a i ∷ held (k ∙ to_z-of_z f) (wide_allowed o.first f) i ∷ held (l ∙ to_z-of_z g) (wide_allowed o.second g) i ∷ held (m ∙ to_z-of_z h) (wide_allowed o.third h) i ∷ []
 
-  pub answered : (c : Call) (b out : List ℕ) (at n : ℕ) (b' out' : List ℕ) → Made (lent_to c []) c b o b' → Written at (line (machine o)) out n out' → Answered c b out at n b' out'
-  answered c b out at n b' out' lent w =
-      let m : Made ours c b o b' = lent ∙ ap (λ (g : Given). call_on g b c) (lent_ours c) in
-      let v : Written at (line (given o)) out n out' = subst (λ (s : List ℤ). Written at (line s) out n out') machine_is w in
-      record {
-        block = ap (λ (x : Result). x.bytes) m;
-        line = subst (λ (x : Result). Written at (answer_line x) out n out') m v;
-        short = omega (arith, v.next, line_short (given o) given_allowed);
-      }
+  module _ (zs : List ℤ) (e : zs ≡ given o) (at : ℕ) (out : List ℕ) where
+    pub answer_room : at + 48 ≤ length out → AllAllowed true zs × Room at (line zs) out
+    answer_room l = subst (λ (s : List ℤ). AllAllowed true s × Room at (line s) out) (sym e) (given_allowed, line_room at (given o) out given_allowed (omega arith))
+
+    pub answered : (c : Call) (b : List ℕ) (n : ℕ) (b' out' : List ℕ) → Made (lent_to c []) c b o b' → Written at (line zs) out n out' → Answered c b out at n b' out'
+    answered c b n b' out' lent w =
+        let m : Made ours c b o b' = lent ∙ ap (λ (g : Given). call_on g b c) (lent_ours c) in
+        let v : Written at (line (given o)) out n out' = subst (λ (s : List ℤ). Written at (line s) out n out') e w in
+        record {
+          block = ap (λ (x : Result). x.bytes) m;
+          line = subst (λ (x : Result). Written at (answer_line x) out n out') m v;
+          short = omega (arith, v.next, line_short (given o) given_allowed);
+        }
 
 -- ── a malformed line ──
 module _ (n : ℕ) (h : n ≤ 65536) where

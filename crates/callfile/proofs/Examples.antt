@@ -14,7 +14,7 @@ use Rattle.rules.specs.Examples.{Line, Shown, P1}
 use Rattle.rules.proofs.Lists.{T_left, T_right}
 use Rattle.block.specs.Block.{encode}
 use Rattle.steptable.specs.TableText.{ours}
-use Rattle.steptable.specs.declared.Given.{Given}
+use Rattle.steptable.specs.TableText.{Given}
 use Rattle.register.specs.CallOn.{call_on}
 use Rattle.demands.specs.History.{asks, asked_on, bytes_left}
 use Rattle.demands.specs.Examples.{line_on}

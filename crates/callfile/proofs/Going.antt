@@ -1,26 +1,25 @@
 -- The run over a text, line by line: the calls made so far, and what is left of the text. Assumes nothing.
 use mathlib.Core.Path.{◌≡◌, refl, sym, ap, subst, ◌∙◌}
-use mathlib.Core.Bool.{Bool, true, false}
+use mathlib.Core.Bool.{true}
 use mathlib.Core.List.{List, [], ◌∷◌, ◌++◌, append_assoc, append-nil}
-use Prim.Native.Nat.{ℕ, suc, ◌+◌, ◌-◌, ◌*◌, ◌≤◌, ◌<◌}
+use Prim.Native.Nat.{ℕ, ◌+◌, ◌*◌, ◌≤◌, ◌<◌}
 use native.Mathlib.Omega.{arith}
-use lib.Dec.{ltb}
+use lib.Dec.{T}
 use lib.IntN.{pos}
 use lib.ListN.{length, drop, length-append, length-drop, drop_of_length-le}
 use lib.Seq.{drop-cons}
-use borrow.Author.Tests.{ltb-true, ltb-false}
+use Rattle.replay.specs.Replay.{is_call}
 use Rattle.rules.specs.Call.{Call}
 use Rattle.steptable.specs.TableText.{ours}
 use Rattle.register.specs.CallOn.{call_on}
 use Rattle.text.specs.Text.{AllAllowed}
 use Rattle.text.specs.Write.{Room, Written}
 use Rattle.text.proofs.Sizes.{line_short, line_long}
-use Rattle.text.proofs.Reading.{clash}
+use Rattle.std.specs.Prelude.{Some}
 use Rattle.text.proofs.Writing.{put_nil, then_written}
 use Rattle.callfile.specs.CallFile.{FileCall, meant, values, Writable, AllWritable, call_line, call_lines, answer_line, answer_lines, malformed, ending, NoCall, most_text, out_size}
-use Rattle.callfile.specs.Row.{call_of_row, made_of_row, CallRead, Answered, Answerable, RowAnswered, Finished}
+use Rattle.callfile.specs.Row.{call_of_row, made_of_row, CallRead, Answered, Finished}
 use Rattle.callfile.specs.declared.Row.{Row}
-use Rattle.callfile.specs.declared.Place.{Place}
 use Rattle.callfile.proofs.Lines.{seven_values}
 
 -- the block that calls leave
@@ -57,165 +56,88 @@ no_call_end c rest a e = absurd (omega (arith, line_min c, ap length e, length-a
 -- ── the loop ──
 
 -- what `run_calls` asks
-abbrev pub Asked : (text : List ℕ) (at : ℕ) (out : List ℕ) (to : ℕ) → Type 0
-Asked text at out to = (2 ≤ at) × (at ≤ length text) × (length text ≤ most_text) × (to + 24 ≤ 4 * at) × (out_size ≤ length out)
+abbrev pub Asked : (lines out : List ℕ) (to : ℕ) → Type 0
+Asked lines out to = (length lines + 39 ≤ most_text) × (to ≤ 132) × (out_size ≤ length out)
 
 -- the calls that were made on the block and answered, up to the line at next
-pub record Going (text : List ℕ) (at : ℕ) (b out : List ℕ) (to next end number : ℕ) (b' out' : List ℕ) : Type 0 where
+pub record Going (lines b out : List ℕ) (to next end number : ℕ) (b' out' : List ℕ) : Type 0 where
   pub calls : List FileCall
   pub ranges : AllWritable calls
-  pub lines : drop at text ≡ call_lines calls ++ drop next text
+  pub front : lines ≡ call_lines calls ++ drop next lines
   pub count : number ≡ 2 + length calls
   pub block : b' ≡ left_by b calls
   pub answers : Written to (answer_lines b calls) out end out'
-  pub within : next ≤ length text
-  pub room : end + 24 ≤ 4 * next
-  pub few : number ≤ next
-  pub block_size : length b' ≡ length b
+  pub within : next ≤ length lines
+  pub room : end ≤ 4 * next + 132
+  pub few : number ≤ next + 2
   pub size : length out' ≡ length out
 
-module _ (text : List ℕ) (at : ℕ) (b out : List ℕ) (to : ℕ) (h : Asked text at out to) where
-  going_start : Going text at b out to at to 2 b out
-  going_start = record { calls = []; ranges = tt; lines = refl; count = refl; block = refl; answers = record { next = omega arith; bytes = sym (put_nil to out) }; within = h.1; room = h.3; few = h.0; block_size = refl; size = refl }
+module _ (lines b out : List ℕ) (to : ℕ) (h : Asked lines out to) where
+  pub going_start : Going lines b out to 0 to 2 b out
+  going_start = record { calls = []; ranges = tt; front = refl; count = refl; block = refl; answers = record { next = omega arith; bytes = sym (put_nil to out) }; within = omega arith; room = omega (arith, h.1); few = omega arith; size = refl }
 
-  module _ (next end number : ℕ) (b' out' : List ℕ) (g : Going text at b out to next end number b' out') where
-    going_stop : next < length text → (r : Row) → CallRead text next r → r.found ≡ false → (k : ℕ) (last : List ℕ) → Written end (malformed number) out' k last → Finished text at b out to k last
-    going_stop l r c f k last w =
-        let a : AllAllowed true (pos 7 ∷ pos number ∷ []) = (omega arith, (omega (arith, g.few, h.2), tt)) in
-        let q : ending (2 + length g.calls) (drop next text) ≡ malformed number = ap (λ (s : List ℕ). ending (2 + length g.calls) s) (drop-cons text next 0 l) ∙ ap malformed (sym g.count) in
+  module _ (next end number : ℕ) (b' out' : List ℕ) (g : Going lines b out to next end number b' out') where
+    pub going_room : (number ≤ most_text) × (end + 24 ≤ length out')
+    going_room = (omega (arith, g.few, g.within, h.0), omega (arith, g.room, g.within, g.size, h.0, h.2))
+
+    pub going_stop : next < length lines → NoCall (drop next lines) → (k : ℕ) (last : List ℕ) → Written end (malformed number) out' k last → Finished lines b out to k last
+    going_stop l c k last w =
+        let a : AllAllowed true (pos 7 ∷ pos number ∷ []) = (omega arith, (omega (arith, going_room.0), tt)) in
+        let q : ending (2 + length g.calls) (drop next lines) ≡ malformed number = ap (λ (s : List ℕ). ending (2 + length g.calls) s) (drop-cons lines next 0 l) ∙ ap malformed (sym g.count) in
         let m : Room to (answer_lines b g.calls ++ malformed number) out =
-        omega (arith, length-append (answer_lines b g.calls) (malformed number), line_short (pos 7 ∷ pos number ∷ []) a, g.answers.next, g.room, h.2, h.4) in
+        omega (arith, length-append (answer_lines b g.calls) (malformed number), line_short (pos 7 ∷ pos number ∷ []) a, g.answers.next, g.room, g.within, h.0, h.2) in
         record {
           calls = g.calls;
-          rest = drop next text;
+          rest = drop next lines;
           ranges = g.ranges;
-          lines = g.lines;
-          none = (c.none f).0;
+          same = g.front;
+          none = c;
           line = rw q (then_written to (answer_lines b g.calls) (malformed number) out end out' k last m g.answers w);
           fits = omega (arith, m, (then_written to (answer_lines b g.calls) (malformed number) out end out' k last m g.answers w).next);
         }
 
-    going_end : length text ≤ next → Finished text at b out to end out'
+    pub going_end : length lines ≤ next → Finished lines b out to end out'
     going_end l =
-        let e : drop next text ≡ [] = drop_of_length-le text l in
+        let e : drop next lines ≡ [] = drop_of_length-le lines l in
         record {
           calls = g.calls;
           rest = [];
           ranges = g.ranges;
-          lines = g.lines ∙ ap (λ (s : List ℕ). call_lines g.calls ++ s) e;
+          same = g.front ∙ ap (λ (s : List ℕ). call_lines g.calls ++ s) e;
           none = no_call_end;
           line = subst (λ (s : List ℕ). Written to s out end out') (sym (append-nil (answer_lines b g.calls))) g.answers;
-          fits = omega (arith, g.room, g.within, h.2, h.4);
+          fits = omega (arith, g.room, g.within, h.0, h.2);
         }
 
-    module _ (r : Row) (c : CallRead text next r) (f : r.found ≡ true) where
+    module _ (r : Row) (onward : ℕ) (c : CallRead lines next (Some r) onward) where
       -- the line lies within the text
-      line_inside : (next + 14 ≤ r.next) × (r.next ≤ length text)
+      pub line_inside : (next + 14 ≤ onward) × (onward ≤ length lines)
       line_inside =
-          let q = c.read f in
-          let w : length (drop next text) ≡ length (call_line (call_of_row r)) + length (drop r.next text) = ap length q.2 ∙ length-append (call_line (call_of_row r)) (drop r.next text) in
-          (omega (arith, q.1, line_min (call_of_row r)), omega (arith, q.1, w, length-drop next text, length-drop r.next text, g.within, line_min (call_of_row r)))
+          let q = c.read in
+          let w : length (drop next lines) ≡ length (call_line (call_of_row r)) + length (drop onward lines) = ap length q.2 ∙ length-append (call_line (call_of_row r)) (drop onward lines) in
+          (omega (arith, q.1, line_min (call_of_row r)), omega (arith, q.1, w, length-drop next lines, length-drop onward lines, g.within, line_min (call_of_row r)))
 
-      going_more : (n : ℕ) (b'' out'' : List ℕ) → Answered (made_of_row r) b' out' end n b'' out'' → length b'' ≡ length b' → length out'' ≡ length out' → Going text at b out to r.next n (number + 1) b'' out''
-      going_more n b'' out'' made x y =
+      -- what making the call asks
+      pub going_asks : T (is_call r.call) × (end + 48 ≤ length out')
+      going_asks = (c.known.0, omega (arith, g.room, g.size, h.0, h.2, line_inside.0, line_inside.1))
+
+      pub going_more : (n : ℕ) (b'' out'' : List ℕ) → Answered (made_of_row r) b' out' end n b'' out'' → length out'' ≡ length out' → Going lines b out to onward n (number + 1) b'' out''
+      going_more n b'' out'' made y =
           let d = call_of_row r in
-          let w = subst (λ (k : Call). Answered k b' out' end n b'' out'') (sym (c.known f).1) made in
-          let q = c.read f in
+          let w = subst (λ (k : Call). Answered k b' out' end n b'' out'') (sym c.known.1) made in
+          let q = c.read in
           let v : Written end (answer_line (call_on ours (left_by b g.calls) (meant d))) out' n out'' = subst (λ (s : List ℕ). Written end (answer_line (call_on ours s (meant d))) out' n out'') g.block w.line in
           let m : Room to (answer_lines b g.calls ++ answer_line (call_on ours (left_by b g.calls) (meant d))) out =
-          omega (arith, length-append (answer_lines b g.calls) (answer_line (call_on ours (left_by b g.calls) (meant d))), g.answers.next, v.next, w.short, g.room, h.2, h.4, line_inside.0, line_inside.1) in
+          omega (arith, length-append (answer_lines b g.calls) (answer_line (call_on ours (left_by b g.calls) (meant d))), g.answers.next, v.next, w.short, g.room, h.0, h.2, line_inside.0, line_inside.1) in
           record {
             calls = g.calls ++ (d ∷ []);
             ranges = ranges_join g.calls d g.ranges q.0;
-            lines = g.lines ∙ ap (λ (s : List ℕ). call_lines g.calls ++ s) q.2 ∙ sym (append_assoc (call_lines g.calls) (call_line d) (drop r.next text)) ∙ ap (λ (s : List ℕ). s ++ drop r.next text) (sym (lines_join g.calls d));
+            front = g.front ∙ ap (λ (s : List ℕ). call_lines g.calls ++ s) q.2 ∙ sym (append_assoc (call_lines g.calls) (call_line d) (drop onward lines)) ∙ ap (λ (s : List ℕ). s ++ drop onward lines) (sym (lines_join g.calls d));
             count = omega (arith, g.count, length-append g.calls (d ∷ []));
             block = w.block ∙ ap (λ (s : List ℕ). (call_on ours s (meant d)).bytes) g.block ∙ sym (left_join b g.calls d);
             answers = subst (λ (s : List ℕ). Written to s out n out'') (sym (answers_join b g.calls d)) (then_written to (answer_lines b g.calls) (answer_line (call_on ours (left_by b g.calls) (meant d))) out end out' n out'' m g.answers v);
             within = line_inside.1;
             room = omega (arith, w.short, g.room, line_inside.0);
             few = omega (arith, g.few, line_inside.0);
-            block_size = x ∙ g.block_size;
             size = y ∙ g.size;
           }
-
--- ── a turn ──
-
--- the run goes on at a line of the text, or is over
-pub record Turn (text : List ℕ) (at : ℕ) (b out : List ℕ) (to next : ℕ) (p : Place) (b' out' : List ℕ) : Type 0 where
-  pub block_size : length b' ≡ length b
-  pub size : length out' ≡ length out
-  pub on : p.more ≡ true → (next < length text) × Going text at b out to next p.to p.number b' out'
-  pub over : p.more ≡ false → Finished text at b out to p.to out'
-
--- how many turns are left at most, where n bytes are
-abbrev pub turns : Bool → ℕ → ℕ
-turns true n = suc n
-turns false n = 0
-
-turns_most : (m : Bool) (n : ℕ) → turns m n ≤ suc n
-turns_most true n = omega arith
-turns_most false n = omega arith
-
-module _ (text : List ℕ) (at : ℕ) (b out : List ℕ) (to : ℕ) (h : Asked text at out to) where
-  -- a line was read, and the run goes on where bytes are left
-  placed : (next : ℕ) (p : Place) (b' out' : List ℕ) → p.more ≡ ltb next (length text) → Going text at b out to next p.to p.number b' out' → Turn text at b out to next p b' out'
-  placed next p b' out' m g = record {
-    block_size = g.block_size;
-    size = g.size;
-    on = λ t. (ltb-true next (length text) (sym m ∙ t), g);
-    over = λ f. going_end text at b out to h next p.to p.number b' out' g (ltb-false next (length text) (sym m ∙ f));
-  }
-
-  pub turn_start : Turn text at b out to at record { to = to; number = 2; more = ltb at (length text) } b out
-  turn_start = placed at _ b out refl (going_start text at b out to h)
-
-  module _ (next : ℕ) (p : Place) (b' out' : List ℕ) (u : Turn text at b out to next p b' out') (m : p.more ≡ true) (r : Row) (c : CallRead text next r) where
-    pub turn_asks : Answerable r p (length out')
-    turn_asks =
-        let g = (u.on m).1 in (
-          omega (arith, g.few, g.within, h.2),
-          omega (arith, g.room, g.within, g.size, h.2, h.4),
-          λ f.
-              let i = line_inside text at b out to h next p.to p.number b' out' g r c f in
-              ((c.known f).0, omega (arith, g.room, g.size, h.2, h.4, i.0, i.1)),
-        )
-
-    module _ (p' : Place) (b'' out'' : List ℕ) (a : RowAnswered r p (length text) b' out' p' b'' out'') (x : length b'' ≡ length b') (y : length out'' ≡ length out') where
-      abbrev After : Type 0
-      After = Turn text at b out to r.next p' b'' out'' × (turns p'.more (length text - r.next) < turns p.more (length text - next))
-
-      after_call : r.found ≡ true → After
-      after_call f =
-          let g = (u.on m).1 in
-          let d = a.made f in
-          let i = line_inside text at b out to h next p.to p.number b' out' g r c f in
-          let w = going_more text at b out to h next p.to p.number b' out' g r c f p'.to b'' out'' d.0 x y in
-          (placed r.next p' b'' out'' d.2 (subst (λ (k : ℕ). Going text at b out to r.next p'.to k b'' out'') (sym d.1) w), rw m (omega (arith, turns_most p'.more (length text - r.next), i.0, i.1)))
-
-      after_none : r.found ≡ false → After
-      after_none f =
-          let g = u.on m in
-          let d = a.none f in (
-            record {
-              block_size = x ∙ u.block_size;
-              size = y ∙ u.size;
-              on = λ t. clash (sym d.1 ∙ t);
-              over = λ t. going_stop text at b out to h next p.to p.number b' out' g.1 g.0 r c f p'.to out'' d.0;
-            },
-            rw (m, d.1) (omega arith),
-          )
-
-      pub turn_made : After
-      turn_made = go r.found refl
-        where
-          go : (z : Bool) → r.found ≡ z → After
-          go true f = after_call f
-          go false f = after_none f
-
--- where a run stands between two turns
-pub record Stand (text : List ℕ) (at : ℕ) (b out : List ℕ) (to : ℕ) : Type 0 where
-  pub next : ℕ
-  pub place : Place
-  pub block : List ℕ
-  pub output : List ℕ
-  pub turn : Turn text at b out to next place block output

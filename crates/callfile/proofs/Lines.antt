@@ -1,6 +1,7 @@
 -- One line of a call file: its row, and its call. Assumes nothing.
 use mathlib.Core.Path.{◌≡◌, refl, sym, ap, subst, ◌∙◌}
 use mathlib.Core.Bool.{true, false}
+use Rattle.std.proofs.lemmas.Option.{none-some}
 use mathlib.Core.List.{List, [], ◌∷◌, ◌++◌}
 use Prim.Native.Nat.{ℕ, ◌+◌, ◌≤◌, ◌<◌}
 use native.Mathlib.Omega.{arith}
@@ -11,12 +12,11 @@ use mir.Syntax.{w64}
 use mir.Val.{of_z, to_z}
 use Rattle.text.specs.Text.{line, Allowed, AllAllowed}
 use Rattle.text.specs.Read.{LineRead}
-use Rattle.text.specs.declared.Line.{Line}
-use Rattle.text.proofs.Reading.{clash}
+use Rattle.std.specs.Prelude.{None, Some}
 use Rattle.text.proofs.Signed.{kept, allowed_fits}
 use Rattle.text.proofs.Lines.{allowed_at}
 use Rattle.callfile.specs.CallFile.{FileCall, enrols, grants, revokes, downgrades, asks_reach, asks_use, values}
-use Rattle.callfile.specs.Row.{is_row, row_of, RowRead, CallRead}
+use Rattle.callfile.specs.Row.{is_row, row_of, call_of_row, CallRead}
 use Rattle.callfile.specs.declared.Row.{Row}
 use Rattle.callfile.proofs.Rows.{row_none, row_call, row_named}
 
@@ -43,19 +43,6 @@ seven vs e =
     (drop-cons vs 5 (pos 0) (omega arith) ∙ ap (λ (s : List ℤ). get_or vs 5 (pos 0) ∷ s)
     (drop-cons vs 6 (pos 0) (omega arith) ∙ ap (λ (s : List ℤ). get_or vs 6 (pos 0) ∷ s) (drop_of_length-le vs l)))))))
 
--- ── a row ──
-module _ (text : List ℕ) (at : ℕ) (before : List ℤ) (o : Line) (after : List ℤ) (l : LineRead text at false before o after) (r : Row) where
-  pub row_missing : length before ≡ 7 → o.found ≡ false → r.found ≡ false → RowRead text at r
-  row_missing h f g = record { read = λ t. clash (sym g ∙ t); each = λ zs rest k a d. clash (sym f ∙ (l.each zs rest (k ∙ sym h) a d).0) }
-
-  pub row_there : length before ≡ 7 → o.found ≡ true → row_of r ≡ after → r.next ≡ o.next → r.found ≡ true → RowRead text at r
-  row_there h f e n g =
-      let q = l.read f in
-      record {
-        read = λ t. (subst (λ (s : List ℤ). AllAllowed false s) (sym e) q.0, n ∙ q.1 ∙ ap (λ (s : List ℤ). at + length (line s)) (sym e), q.2 ∙ (λ p. line (sym e p) ++ drop (sym n p) text));
-        each = λ zs rest k a d. (g, e ∙ (l.each zs rest (k ∙ sym h) a d).1);
-      }
-
 -- ── a call ──
 pub seven_values : (c : FileCall) → length (values c) ≡ 7
 seven_values (enrols m) = refl
@@ -65,28 +52,29 @@ seven_values (downgrades y g r w) = refl
 seven_values (asks_reach g r) = refl
 seven_values (asks_use r) = refl
 
-module _ (text : List ℕ) (at : ℕ) (w : Row) (l : RowRead text at w) where
-  pub call_missing : (r : Row) → w.found ≡ false → (r.found ≡ false) × (r.next ≡ at) → CallRead text at r
-  call_missing r f g = record {
-    known = λ t. clash (sym g.0 ∙ t);
-    read = λ t. clash (sym g.0 ∙ t);
-    none = λ t. (λ c rest a d. clash (sym f ∙ (l.each (values c) rest (seven_values c) a d).0), g.1);
+module _ (text : List ℕ) (at : ℕ) (before after : List ℤ) (h : length before ≡ 7) where
+  pub call_missing : LineRead text at false before None after → CallRead text at None at
+  call_missing l = record {
+    known = tt;
+    read = tt;
+    none = λ t. (λ c rest a d. l.each (values c) rest (seven_values c ∙ sym h) a d, refl);
   }
 
-  pub call_other : (r : Row) → is_row w.call w.by w.giver w.receiver w.weight w.need w.bar ≡ false → (r.found ≡ false) × (r.next ≡ at) → CallRead text at r
-  call_other r f g = record {
-    known = λ t. clash (sym g.0 ∙ t);
-    read = λ t. clash (sym g.0 ∙ t);
-    none = λ t. (λ c rest a d. row_none w.call w.by w.giver w.receiver w.weight w.need w.bar f c (l.each (values c) rest (seven_values c) a d).1, g.1);
-  }
+  module _ (next : ℕ) (l : LineRead text at false before (Some next) after) (w : Row) (same : row_of w ≡ after) where
+    pub call_other : is_row w.call w.by w.giver w.receiver w.weight w.need w.bar ≡ false → CallRead text at None at
+    call_other f = record {
+      known = tt;
+      read = tt;
+      none = λ t. (λ c rest a d. row_none w.call w.by w.giver w.receiver w.weight w.need w.bar f c (same ∙ (l.each (values c) rest (seven_values c ∙ sym h) a d).0), refl);
+    }
 
-  pub call_there : is_row w.call w.by w.giver w.receiver w.weight w.need w.bar ≡ true → w.found ≡ true → CallRead text at w
-  call_there e g =
-      let (v, m) = row_named w.call w.by w.giver w.receiver w.weight w.need w.bar e in
-      record {
-        known = λ t. (row_call w.call w.by w.giver w.receiver w.weight w.need w.bar e, m);
-        read = λ t.
-            let q = l.read t in
-            (subst (λ (s : List ℤ). AllAllowed false s) v q.0, q.1 ∙ ap (λ (s : List ℤ). at + length (line s)) v, q.2 ∙ ap (λ (s : List ℤ). line s ++ drop w.next text) v);
-        none = λ t. clash (sym t ∙ g);
-      }
+    pub call_there : is_row w.call w.by w.giver w.receiver w.weight w.need w.bar ≡ true → CallRead text at (Some w) next
+    call_there e =
+        let (v, m) = row_named w.call w.by w.giver w.receiver w.weight w.need w.bar e in
+        let q = l.read in
+        let s : after ≡ values (call_of_row w) = sym same ∙ v in
+        record {
+          known = (row_call w.call w.by w.giver w.receiver w.weight w.need w.bar e, m);
+          read = (subst (λ (s : List ℤ). AllAllowed false s) s q.0, q.1 ∙ ap (λ (s : List ℤ). at + length (line s)) s, q.2 ∙ ap (λ (s : List ℤ). line s ++ drop next text) s);
+          none = λ t. absurd (none-some _ (sym t));
+        }

@@ -1,8 +1,9 @@
 -- Seven values are a call's exactly where its number is known and the columns that it does not use are 0. Assumes nothing.
+use Rattle.std.proofs.lemmas.Bool.{false≢true}
 use mathlib.Core.Path.{◌≡◌, refl, sym, ap, subst, ◌∙◌}
 use mathlib.Core.Logic.{◌≢◌, ◌⊎◌, inl, inr}
 use mathlib.Core.Bool.{Bool, true, false, not, ◌&&◌}
-use mathlib.Core.List.{List}
+use mathlib.Core.List.{List, [], ◌∷◌}
 use Prim.Native.Nat.{ℕ, zero, suc, ◌≤◌}
 use native.Mathlib.Omega.{arith}
 use borrow.Author.Tests.{eqb-true, le-leb, ne_eqb}
@@ -10,7 +11,6 @@ use lib.Dec.{T, eqb, leb, leb→le, nleb→lt}
 use lib.IntN.{ℤ, pos, nat_abs}
 use lib.ListN.{get_or}
 use Rattle.rules.proofs.Lists.{either}
-use Rattle.text.proofs.Reading.{clash}
 use Rattle.replay.specs.Replay.{is_call, call_of}
 use Rattle.callfile.specs.CallFile.{row, FileCall, enrols, grants, revokes, downgrades, asks_reach, asks_use, meant, values}
 use Rattle.callfile.specs.Row.{all_zero, is_row, file_call_of}
@@ -35,23 +35,23 @@ read_back (asks_reach g r) = (refl, refl)
 read_back (asks_use r) = (refl, refl)
 
 pub row_none : (number by giver receiver weight need bar : ℕ) → is_row number by giver receiver weight need bar ≡ false → (c : FileCall) → row number by giver receiver weight need bar ≢ values c
-row_none number by giver receiver weight need bar e c q = clash (sym e ∙ ap test q ∙ (read_back c).0)
+row_none number by giver receiver weight need bar e c q = absurd (false≢true (sym e ∙ ap test q ∙ (read_back c).0))
 
 pub values_inj : (c d : FileCall) → values c ≡ values d → c ≡ d
 values_inj c d e = sym (read_back c).1 ∙ ap call_in e ∙ (read_back d).1
 
 -- ── what passes the test is a call's values ──
-zero_each : (a b c d e : ℕ) → all_zero a b c d e ≡ true → (a ≡ 0) × (b ≡ 0) × (c ≡ 0) × (d ≡ 0) × (e ≡ 0)
-zero_each a b c d e h =
-    let p = both (eqb a 0) (eqb b 0 && (eqb c 0 && (eqb d 0 && eqb e 0))) h in
-    let q = both (eqb b 0) (eqb c 0 && (eqb d 0 && eqb e 0)) p.1 in
-    let r = both (eqb c 0) (eqb d 0 && eqb e 0) q.1 in
-    let s = both (eqb d 0) (eqb e 0) r.1 in
-    (eqb-true a 0 p.0, eqb-true b 0 q.0, eqb-true c 0 r.0, eqb-true d 0 s.0, eqb-true e 0 s.1)
+abbrev AllZero : List ℕ → Type 0
+AllZero [] = Unit {0}
+AllZero (n ∷ ns) = (n ≡ 0) × AllZero ns
+
+zero_each : (ns : List ℕ) → all_zero ns ≡ true → AllZero ns
+zero_each [] h = tt
+zero_each (n ∷ ns) h = let p = both (eqb n 0) (all_zero ns) h in (eqb-true n 0 p.0, zero_each ns p.1)
   where
     both : (x y : Bool) → x && y ≡ true → (x ≡ true) × (y ≡ true)
     both true y h = (refl, h)
-    both false y h = clash h
+    both false y h = absurd (false≢true h)
 
 module _ (by giver receiver weight need bar : ℕ) where
   -- the values of the call that a number names, and its meaning
@@ -62,27 +62,27 @@ module _ (by giver receiver weight need bar : ℕ) where
 
   named_0 : Named 0
   unfolding is_row file_call_of call_of
-  named_0 e = let z = zero_each by giver receiver weight bar e in (λ p. row 0 (z.0 p) (z.1 p) (z.2 p) (z.3 p) need (z.4 p), refl)
+  named_0 e = let z = zero_each (by ∷ giver ∷ receiver ∷ weight ∷ bar ∷ []) e in (λ p. row 0 (z.0 p) (z.1.0 p) (z.1.1.0 p) (z.1.1.1.0 p) need (z.1.1.1.1.0 p), refl)
 
   named_1 : Named 1
   unfolding is_row file_call_of call_of
-  named_1 e = let z = zero_each by 0 0 0 0 e in (λ p. row 1 (z.0 p) giver receiver weight need bar, refl)
+  named_1 e = let z = eqb-true by 0 e in (λ p. row 1 (z p) giver receiver weight need bar, refl)
 
   named_2 : Named 2
   unfolding is_row file_call_of call_of
-  named_2 e = let z = zero_each weight need bar 0 0 e in (λ p. row 2 by giver receiver (z.0 p) (z.1 p) (z.2 p), refl)
+  named_2 e = let z = zero_each (weight ∷ need ∷ bar ∷ []) e in (λ p. row 2 by giver receiver (z.0 p) (z.1.0 p) (z.1.1.0 p), refl)
 
   named_3 : Named 3
   unfolding is_row file_call_of call_of
-  named_3 e = let z = zero_each need bar 0 0 0 e in (λ p. row 3 by giver receiver weight (z.0 p) (z.1 p), refl)
+  named_3 e = let z = zero_each (need ∷ bar ∷ []) e in (λ p. row 3 by giver receiver weight (z.0 p) (z.1.0 p), refl)
 
   named_4 : Named 4
   unfolding is_row file_call_of call_of
-  named_4 e = let z = zero_each by weight need bar 0 e in (λ p. row 4 (z.0 p) giver receiver (z.1 p) (z.2 p) (z.3 p), refl)
+  named_4 e = let z = zero_each (by ∷ weight ∷ need ∷ bar ∷ []) e in (λ p. row 4 (z.0 p) giver receiver (z.1.0 p) (z.1.1.0 p) (z.1.1.1.0 p), refl)
 
   named_5 : Named 5
   unfolding is_row file_call_of call_of
-  named_5 e = let z = zero_each by giver weight need bar e in (λ p. row 5 (z.0 p) (z.1 p) receiver (z.2 p) (z.3 p) (z.4 p), refl)
+  named_5 e = let z = zero_each (by ∷ giver ∷ weight ∷ need ∷ bar ∷ []) e in (λ p. row 5 (z.0 p) (z.1.0 p) receiver (z.1.1.0 p) (z.1.1.1.0 p) (z.1.1.1.1.0 p), refl)
 
   named : (n : ℕ) → n ≤ 5 → Named n
   named zero l = named_0
@@ -101,7 +101,7 @@ module _ (by giver receiver weight need bar : ℕ) where
       go (inl q) = leb→le n 5 q
       go (inr q) =
           let l = nleb→lt n 5 q in
-          clash (sym (rw (ne_eqb n 0 (λ e. omega arith), ne_eqb n 1 (λ e. omega arith), ne_eqb n 2 (λ e. omega arith), ne_eqb n 3 (λ e. omega arith), ne_eqb n 4 (λ e. omega arith), ne_eqb n 5 (λ e. omega arith))) ∙ h)
+          absurd (false≢true (sym (rw (ne_eqb n 0 (λ e. omega arith), ne_eqb n 1 (λ e. omega arith), ne_eqb n 2 (λ e. omega arith), ne_eqb n 3 (λ e. omega arith), ne_eqb n 4 (λ e. omega arith), ne_eqb n 5 (λ e. omega arith))) ∙ h))
 
 pub row_call : (number by giver receiver weight need bar : ℕ) → is_row number by giver receiver weight need bar ≡ true → T (is_call number)
 row_call number by giver receiver weight need bar e = subst T (sym (le-leb number 7 (omega (arith, row_known by giver receiver weight need bar number e)))) tt

@@ -15,15 +15,14 @@ use Rattle.block.specs.Layout.{block_size}
 use Rattle.block.specs.Block.{encode}
 use Rattle.register.specs.CallOn.{Result, open_on}
 use Rattle.register.specs.Made.{MadeOpen}
-use Rattle.register.specs.declared.Answer.{Answer}
+use Rattle.register.specs.Answer.{Answer}
 use Rattle.text.specs.Text.{AllAllowed}
-use Rattle.text.specs.Read.{Begins}
 use Rattle.text.specs.Write.{put, Room, Written}
 use Rattle.text.proofs.Sizes.{line_short}
 use Rattle.text.proofs.Writing.{put_length, then_written}
-use Rattle.callfile.specs.CallFile.{call_names, answer_names, answer_lines, malformed, ending, most_text, out_size, Prints, unnamed, named, printed_to, RunMade}
+use Rattle.callfile.specs.CallFile.{call_names, answer_names, answer_lines, malformed, ending, most_text, out_size, Prints, unnamed, named, RunMade}
 use Rattle.callfile.specs.Row.{Finished}
-use Rattle.callfile.specs.declared.Printed.{Printed}
+use Rattle.callfile.specs.Printed.{Printed, printed_to}
 
 pub run_short : (text before : List ℕ) → length before < out_size → RunMade text before (record { refusal = 1; length = 0 }) before
 run_short text before h = record { short = λ l. (refl, refl); ran = λ l. absurd (omega arith) }
@@ -64,17 +63,13 @@ module _ (text before : List ℕ) (h : out_size ≤ length before) (start : ℕ)
       let u = then_written 0 answer_names (malformed 1) before start mid n last m w v in
       front text before h (answer_names ++ malformed 1) n last (unnamed q refl) (omega (arith, m, u.next)) u r e
 
-  pub run_named : length text ≤ most_text → text ≡ call_names ++ drop 39 text → (n : ℕ) (last : List ℕ) → Finished text 39 (encode fresh) mid start n last → (r : Printed) → r ≡ printed_to n → RunMade text before r last
-  run_named l d n last f r e =
+  pub run_named : length text ≤ most_text → (lines : List ℕ) → text ≡ call_names ++ lines → (n : ℕ) (last : List ℕ) → Finished lines (encode fresh) mid start n last → (r : Printed) → r ≡ printed_to n → RunMade text before r last
+  run_named l lines d n last f r e =
       let m : Room 0 (answer_names ++ (answer_lines (encode fresh) f.calls ++ ending (2 + length f.calls) f.rest)) before =
       omega (arith, length-append answer_names (answer_lines (encode fresh) f.calls ++ ending (2 + length f.calls) f.rest), w.next, f.line.next, f.fits, mid_length.1) in
       let u = then_written 0 answer_names (answer_lines (encode fresh) f.calls ++ ending (2 + length f.calls) f.rest) before start mid n last m w f.line in
       front text before h (answer_names ++ (answer_lines (encode fresh) f.calls ++ ending (2 + length f.calls) f.rest)) n last
-      (named f.calls f.rest l f.ranges (d ∙ ap (λ (s : List ℕ). call_names ++ s) f.lines) f.none refl) (omega (arith, m, u.next)) u r e
-
--- the names are there, or not
-pub names_there : (text : List ℕ) (r : Bool) → Begins text call_names r → r ≡ true → text ≡ call_names ++ drop 39 text
-names_there text r b e = b.yes e ∙ ap (λ (n : ℕ). call_names ++ drop n text) names_length
+      (named f.calls f.rest l f.ranges (d ∙ ap (λ (s : List ℕ). call_names ++ s) f.same) f.none refl) (omega (arith, m, u.next)) u r e
 
 -- a fresh register
 pub opened : (b : List ℕ) (o : Answer) (b' : List ℕ) → length b ≡ block_size → MadeOpen b o b' → b' ≡ encode fresh

@@ -9,7 +9,7 @@ use Rattle.steptable.specs.TableText.{ours}
 use Rattle.register.specs.CallOn.{Result, call_on}
 use Rattle.text.specs.Text.{line, AllAllowed}
 use Rattle.text.specs.Bytes.{bytes_of}
-use Rattle.callfile.specs.declared.Printed.{Printed}
+use Rattle.callfile.specs.Printed.{Printed, printed_to}
 
 -- ── lines ──
 
@@ -109,10 +109,6 @@ pub record Determined : Type 0 where
 -- an output buffer of this length always suffices
 abbrev pub out_size : ℕ
 out_size = 262144
-
--- what is returned where so many bytes were written
-abbrev pub printed_to : ℕ → Printed
-printed_to n = record { refusal = 0; length = n }
 
 -- what the text prints is the front of the buffer, and the bytes past it are kept
 pub record Ran (text before : List ℕ) (r : Printed) (after : List ℕ) : Type 0 where

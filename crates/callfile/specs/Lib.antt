@@ -1,3 +1,4 @@
+pub mod Printed
 pub mod CallFile
 pub mod Row
 pub mod Examples

@@ -1,175 +1,94 @@
-// Writing: to standard output, and into a buffer. A function that writes into a buffer answers where the text goes on; what
-// does not fit is left out.
-use crate::blocks::MOST_FILE;
-use crate::reading;
-use std::io;
+// Writing what a call left.
+use std::fmt;
 
-// Where a slip has its cut and the block after it.
+// Where a slip has its cut and the block after it; also in `slips`, but this crate is of text alone and stands on no crate of the library.
 const CUT_AT: usize = 2188;
 
 const AFTER_AT: usize = 2193;
 
-pub fn print(rt: &impl Print, bytes: &[u8]) -> io::Result<()> {
-    rt.write_all(bytes)
+// The length, `:` and the bytes without the zeros at the end, each `.` for zero or else two hex digits.
+#[derive(Drop)]
+struct Block<'a> {
+    bytes: &'a [u8],
 }
 
-pub fn print_number(rt: &impl Print, n: u64) -> io::Result<()> {
-    rt.print(n)
-}
-
-// v where it is not below 0, else -1 - v.
-fn size(v: i32) -> u32 {
-    if v < 0 { (-1 - v) as u32 } else { v as u32 }
-}
-
-fn print_signed(rt: &impl Print, v: i32) -> io::Result<()> {
-    let n = size(v) as u64;
-    if v < 0 {
-        print(rt, b"-")?;
-        return print_number(rt, n + 1);
+impl fmt::Display for Block<'_> {
+    fn fmt<W: fmt::Write>(&self, f: &mut fmt::Formatter<W>) -> fmt::Result {
+        let bytes = self.bytes;
+        let length = bytes.len();
+        write!(f, "{length}:")?;
+        for byte in without_zeros(bytes) {
+            match byte {
+                0 => f.write_str(".")?,
+                _ => write!(f, "{byte:02x}")?,
+            }
+        }
+        Ok(())
     }
-    print_number(rt, n)
 }
 
-// The length, `:` and the bytes without the zeros at the end.
-fn print_block(rt: &impl Print, block: &[u8]) -> io::Result<()> {
-    print_number(rt, block.len() as u64)?;
-    print(rt, b":")?;
-    let mut space = [0u8; 2 * MOST_FILE];
-    let at = put_all_hex(&mut space, block, used(block));
-    let n = reading::within(at, &space);
-    print(rt, &space[..n])
-}
-
-// How many bytes the block has up to its last that is not zero.
-fn used(block: &[u8]) -> usize {
-    let mut n = block.len();
-    while n > 0 && reading::byte_at(block, n - 1) == 0 {
-        n -= 1;
+// The bytes up to the last that is not zero.
+fn without_zeros(bytes: &[u8]) -> &[u8] {
+    match bytes.iter().rposition(|byte| *byte != 0) {
+        Some(last) => &bytes[..last + 1],
+        None => &[],
     }
-    n
 }
 
-// The first n bytes of the block.
-fn put_all_hex(out: &mut [u8], block: &[u8], n: usize) -> usize {
-    let mut at = 0;
-    let mut i = 0;
-    while i < n {
-        at = put_hex(out, at, reading::byte_at(block, i));
-        i += 1;
+// The bytes that a call left, or `=` if none has changed; `before` may be longer by zeros.
+#[derive(Drop)]
+pub struct Left<'a> {
+    pub before: &'a [u8],
+    pub bytes: &'a [u8],
+}
+
+impl fmt::Display for Left<'_> {
+    fn fmt<W: fmt::Write>(&self, f: &mut fmt::Formatter<W>) -> fmt::Result {
+        let bytes = self.bytes;
+        if is_same(self.before, bytes) {
+            return f.write_str("=");
+        }
+        let block = Block { bytes };
+        write!(f, "{block}")
     }
-    at
-}
-
-// A byte of a block: `.` for zero, else two hex digits.
-fn put_hex(out: &mut [u8], at: usize, byte: u8) -> usize {
-    if byte == 0 {
-        return put_byte(out, at, b'.');
-    }
-    let at = put_byte(out, at, hex_digit(byte / 16));
-    put_byte(out, at, hex_digit(byte % 16))
-}
-
-// A lower-case hex digit for a number up to 15.
-fn hex_digit(n: u8) -> u8 {
-    if n < 10 {
-        return b'0' + n;
-    }
-    if n < 16 {
-        return b'a' + (n - 10);
-    }
-    b'?'
-}
-
-pub fn put_byte(out: &mut [u8], at: usize, byte: u8) -> usize {
-    if at >= out.len() {
-        return at;
-    }
-    out[at] = byte;
-    at + 1
-}
-
-pub fn put_bytes(out: &mut [u8], from: usize, bytes: &[u8]) -> usize {
-    let mut at = from;
-    let mut i = 0;
-    while i < bytes.len() {
-        at = put_byte(out, at, bytes[i]);
-        i += 1;
-    }
-    at
-}
-
-// Prints the line `refusal first second third BLOCK`.
-pub fn print_outcome(
-    rt: &impl Print,
-    refusal: u32,
-    first: i32,
-    second: i32,
-    third: i32,
-    before: &[u8],
-    block: &[u8],
-) -> io::Result<()> {
-    print_answer(rt, refusal, first, second, third, before, block)?;
-    print(rt, b"\n")
-}
-
-// Prints `refusal first second third BLOCK`, and no end of a line.
-pub fn print_answer(
-    rt: &impl Print,
-    refusal: u32,
-    first: i32,
-    second: i32,
-    third: i32,
-    before: &[u8],
-    block: &[u8],
-) -> io::Result<()> {
-    print_number(rt, refusal as u64)?;
-    print(rt, b" ")?;
-    print_signed(rt, first)?;
-    print(rt, b" ")?;
-    print_signed(rt, second)?;
-    print(rt, b" ")?;
-    print_signed(rt, third)?;
-    print(rt, b" ")?;
-    print_left(rt, before, block)
-}
-
-// The bytes that the call left, or `=` if none has changed; `before` may be longer by zeros.
-pub fn print_left(rt: &impl Print, before: &[u8], block: &[u8]) -> io::Result<()> {
-    if is_same(before, block) {
-        return print(rt, b"=");
-    }
-    print_block(rt, block)
 }
 
 // Whether the bytes are those of before, which may be longer by zeros.
 fn is_same(before: &[u8], bytes: &[u8]) -> bool {
-    let n = reading::within(bytes.len(), before);
-    &before[..n] == bytes && used(before) <= bytes.len()
+    before
+        .strip_prefix(bytes)
+        .is_some_and(|rest| rest.iter().all(|byte| *byte == 0))
 }
 
-// The slip that the call left: `=` if no byte of it has changed, else BEFORE/CUT/AFTER, the first `=` if it is the block before the
+// The slip that a call left: `=` if no byte of it has changed, else BEFORE/CUT/AFTER, the first `=` if it is the block before the
 // call, which may be longer by zeros, as the slip before may, and the last if it is the block after it.
-pub fn print_slip(
-    rt: &impl Print,
-    slip_before: &[u8],
-    slip: &[u8],
-    before: &[u8],
-    after: &[u8],
-) -> io::Result<()> {
-    if is_same(slip_before, slip) {
-        return print(rt, b"=");
-    }
-    let n = reading::within(AFTER_AT, slip);
-    print_front(rt, &slip[..n], before)?;
-    print_left(rt, after, &slip[n..])
+#[derive(Drop)]
+pub struct LeftSlip<'a> {
+    pub slip_before: &'a [u8],
+    pub slip: &'a [u8],
+    pub before: &'a [u8],
+    pub after: &'a [u8],
 }
 
-// BEFORE/CUT/ of a slip.
-fn print_front(rt: &impl Print, front: &[u8], before: &[u8]) -> io::Result<()> {
-    let n = reading::within(CUT_AT, front);
-    print_left(rt, before, &front[..n])?;
-    print(rt, b"/")?;
-    print_block(rt, &front[n..])?;
-    print(rt, b"/")
+impl fmt::Display for LeftSlip<'_> {
+    fn fmt<W: fmt::Write>(&self, f: &mut fmt::Formatter<W>) -> fmt::Result {
+        let slip = self.slip;
+        if is_same(self.slip_before, slip) {
+            return f.write_str("=");
+        }
+        let n = AFTER_AT.min(slip.len());
+        let (front, bytes) = slip.split_at(n);
+        let after = Left {
+            before: self.after,
+            bytes,
+        };
+        let n = CUT_AT.min(n);
+        let (bytes, cut) = front.split_at(n);
+        let before = Left {
+            before: self.before,
+            bytes,
+        };
+        let cut = Block { bytes: cut };
+        write!(f, "{before}/{cut}/{after}")
+    }
 }

@@ -1,123 +1,77 @@
-// Reading text: numbers and single bytes at a position, each tested against the text's end.
-ghost use Rattle.std.specs.Prelude.{◌≤◌, ◌≡◌, length, take};
+// Reading: a line's columns, each up to the byte that ends it, and a reader to its end.
+ghost use Rattle.std.specs.Prelude.{◌<◌, ⊤, MatchOption};
+ghost use Rattle.std.specs.Io.{ReadsAtMost};
 
-// Where the text goes on, unless what was wanted is not there.
-#[derive(Clone, Copy)]
-pub struct Step {
-    pub after: usize,
-    pub is_read: bool,
+use crate::blocks;
+use std::io;
+use std::io::Read;
+
+// What is left of a line.
+#[derive(Drop)]
+pub struct Line<'a> {
+    pub rest: &'a [u8],
 }
 
-// A number, and where the text goes on.
-#[derive(Clone, Copy)]
-pub struct Number {
-    pub value: u32,
-    pub after: usize,
-    pub is_read: bool,
-}
+impl<'a> Line<'a> {
+    pub fn new(text: &'a [u8]) -> Line<'a> {
+        Line { rest: text }
+    }
 
-// What stands for any byte that is no hex digit.
-pub const NO_DIGIT: u8 = 16;
+    // The column that `end` follows; the line goes on after that.
+    pub fn column(&mut self, end: u8) -> Option<&'a [u8]> {
+        let rest = self.rest;
+        let n = rest.iter().position(|byte| *byte == end)?;
+        let (column, after) = rest.split_at(n);
+        let (_, after) = after.split_first()?;
+        self.rest = after;
+        Some(column)
+    }
 
-const MOST_NUMBER: u64 = 4294967295;
+    // A column that is a decimal number.
+    pub fn number(&mut self, end: u8) -> Option<u32> {
+        number(self.column(end)?)
+    }
 
-fn lost() -> Step {
-    Step {
-        after: 0,
-        is_read: false,
+    // A column that is a block, put into `block`, whose first `size` bytes are the one before; how many bytes it has.
+    pub fn block(&mut self, block: &mut [u8], size: usize, end: u8) -> Option<usize> {
+        blocks::read_block(self.column(end)?, block, size)
     }
 }
 
-fn no_number() -> Number {
-    Number {
-        value: 0,
-        after: 0,
-        is_read: false,
+// The decimal number that a column is.
+pub fn number(column: &[u8]) -> Option<u32> {
+    if column.is_empty() {
+        return None;
     }
+    column.iter().try_fold(0u32, |value, byte| {
+        let digit = char::from(*byte).to_digit(10)?;
+        value.checked_mul(10)?.checked_add(digit)
+    })
 }
 
-// n, or the buffer's length where that is less: how many bytes of the buffer to lend.
-pub fn within(n: usize, buffer: &[u8]) -> usize
-    ensures in_bounds { result ≤ length buffer.now }
-    ensures front { result ≡ length (take result buffer.now) }
+// The value of a lower-case hex digit.
+pub fn hex_digit(byte: u8) -> Option<u8>
+    ensures { MatchOption result ⊤ (λ digit. digit < 16) }
 {
-    if n < buffer.len() { n } else { buffer.len() }
-}
-
-// The byte at a position; 0 past the end.
-pub fn byte_at(text: &[u8], at: usize) -> u8 {
-    if at < text.len() { text[at] } else { 0 }
-}
-
-// Steps over one byte that must be `wanted`.
-pub fn step_over(text: &[u8], from: usize, wanted: u8) -> Step {
-    if from >= text.len() {
-        return lost();
-    }
-    if text[from] != wanted {
-        return lost();
-    }
-    Step {
-        after: from + 1,
-        is_read: true,
+    match byte {
+        b'0'..=b'9' => Some(byte - b'0'),
+        b'a'..=b'f' => Some(byte - b'a' + 10),
+        _ => None,
     }
 }
 
-// The value of a lower-case hex digit, or NO_DIGIT.
-pub fn digit_of(byte: u8) -> u8
-    ensures { result ≤ 16 }
+// Reads until the space is full or the reader ends, and answers how many bytes it put at the start of the space. A loop over reads,
+// since the library's own reading to the end allocates.
+pub fn read_full<R: Read>(reader: &mut R, space: &mut [u8]) -> io::Result<usize>
+    ensures { ReadsAtMost result space.new }
 {
-    if byte < b'0' {
-        return NO_DIGIT;
-    }
-    if byte <= b'9' {
-        return byte - b'0';
-    }
-    if byte < b'a' {
-        return NO_DIGIT;
-    }
-    if byte <= b'f' {
-        return byte - b'a' + 10;
-    }
-    NO_DIGIT
-}
-
-fn wide(digit: u8) -> u64
-    ensures { result ≡ digit }
-{
-    digit as u64
-}
-
-// The decimal number from `from` on, which `end` must follow; the text goes on after that.
-pub fn read_number(text: &[u8], from: usize, end: u8) -> Number {
-    let mut value: u64 = 0;
-    let mut at = from;
-    while at < text.len() {
-        let digit = digit_of(text[at]);
-        if digit >= 10 {
+    let mut n = 0;
+    while n < space.len() {
+        let more = reader.read(&mut space[n..])?;
+        if more == 0 {
             break;
         }
-        value = value * 10 + wide(digit);
-        if value > MOST_NUMBER {
-            return no_number();
-        }
-        at += 1;
+        n += more;
     }
-    if at == from {
-        return no_number();
-    }
-    let step = step_over(text, at, end);
-    Number {
-        value: value as u32,
-        after: step.after,
-        is_read: step.is_read,
-    }
-}
-
-// The column after another, where that one was read.
-pub fn next_column(text: &[u8], last: Number) -> Number {
-    if !last.is_read {
-        return last;
-    }
-    read_number(text, last.after, b' ')
+    Ok(n)
 }

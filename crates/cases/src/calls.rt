@@ -1,9 +1,10 @@
-// The columns of a line, and the register's call that they ask for.
-use casefile::reading;
-use judge::Asked;
-use register::Answer;
+// The columns of a line, and the register's calls that they ask for.
+use casefile::reading::Line;
+use judge::Outcome;
+use register::Answers;
+use rules::Refusal;
 
-// The seven numbers of a line, whether a table's text follows them, and where the text goes on.
+// The seven numbers of a line.
 #[derive(Clone, Copy)]
 pub struct Columns {
     pub call: u32,
@@ -13,143 +14,179 @@ pub struct Columns {
     pub weight: u32,
     pub need: u32,
     pub bar: u32,
-    pub has_table: bool,
-    pub after: usize,
-    pub is_read: bool,
 }
 
-// The numbers of the calls that fill a lent buffer, which are made elsewhere, since they leave what they fill in the place of a file.
-pub const WRITE: u32 = 8;
+pub fn read_columns(line: &mut Line) -> Option<Columns> {
+    Some(Columns {
+        call: line.number(b' ')?,
+        by: line.number(b' ')?,
+        giver: line.number(b' ')?,
+        receiver: line.number(b' ')?,
+        weight: line.number(b' ')?,
+        need: line.number(b' ')?,
+        bar: line.number(b' ')?,
+    })
+}
 
-pub const ORDER: u32 = 10;
+// A call, by what is lent to it beside the block: a table's text or a file, a buffer that it fills, or a slip.
+#[derive(Clone, Copy)]
+pub enum Call {
+    Plain(Plain),
+    Fill(Fill),
+    Slip(Slip),
+}
 
-// The numbers of the calls that are lent a slip: the first two write it, the last reads it.
-const REVOKE_SLIP: u32 = 14;
+#[derive(Clone, Copy)]
+pub enum Plain {
+    Enrol,
+    Grant,
+    Revoke,
+    Downgrade,
+    Reach,
+    UseRight,
+    Open,
+    Chain,
+    Read,
+    SetMarks,
+    Retire,
+    BringOver,
+    GrantKind,
+}
 
-const DOWNGRADE_SLIP: u32 = 15;
+#[derive(Clone, Copy)]
+pub enum Fill {
+    Write,
+    Order,
+}
 
-const TAKE_BACK: u32 = 16;
+#[derive(Clone, Copy)]
+pub enum Slip {
+    Revoke,
+    Downgrade,
+    TakeBack,
+}
 
-// What stands for the refusal where there is no such call.
-const NO_CALL: u32 = 99;
+// The number of no call.
+#[derive(Clone, Copy)]
+pub struct NoCall;
 
-pub fn read_columns(text: &[u8], from: usize, has_table: bool) -> Columns {
-    let call = reading::read_number(text, from, b' ');
-    let by = reading::next_column(text, call);
-    let giver = reading::next_column(text, by);
-    let receiver = reading::next_column(text, giver);
-    let weight = reading::next_column(text, receiver);
-    let need = reading::next_column(text, weight);
-    let bar = reading::next_column(text, need);
-    Columns {
-        call: call.value,
-        by: by.value,
-        giver: giver.value,
-        receiver: receiver.value,
-        weight: weight.value,
-        need: need.value,
-        bar: bar.value,
-        has_table: has_table,
-        after: bar.after,
-        is_read: bar.is_read,
+// By the call's number in the files.
+impl TryFrom<u32> for Call {
+    type Error = NoCall;
+
+    fn try_from(number: u32) -> Result<Call, NoCall> {
+        match number {
+            0 => Ok(Call::Plain(Plain::Enrol)),
+            1 => Ok(Call::Plain(Plain::Grant)),
+            2 => Ok(Call::Plain(Plain::Revoke)),
+            3 => Ok(Call::Plain(Plain::Downgrade)),
+            4 => Ok(Call::Plain(Plain::Reach)),
+            5 => Ok(Call::Plain(Plain::UseRight)),
+            6 => Ok(Call::Plain(Plain::Open)),
+            7 => Ok(Call::Plain(Plain::Chain)),
+            8 => Ok(Call::Fill(Fill::Write)),
+            9 => Ok(Call::Plain(Plain::Read)),
+            10 => Ok(Call::Fill(Fill::Order)),
+            11 => Ok(Call::Plain(Plain::SetMarks)),
+            12 => Ok(Call::Plain(Plain::Retire)),
+            13 => Ok(Call::Plain(Plain::BringOver)),
+            14 => Ok(Call::Slip(Slip::Revoke)),
+            15 => Ok(Call::Slip(Slip::Downgrade)),
+            16 => Ok(Call::Slip(Slip::TakeBack)),
+            17 => Ok(Call::Plain(Plain::GrantKind)),
+            _ => Err(NoCall),
+        }
     }
 }
 
-// One arm for each call that reckons reach, by its number in the files; it is lent the table's text where the line has one. Only read
-// takes a file. Marks has its subject under receiver, the marks under need; retire has its subject under receiver; a grant with a kind has
-// that under by.
-pub fn make(c: Columns, file: &[u8], table: &[u8], block: &mut [u8]) -> Answer {
-    let call = c.call;
-    match call {
-        1 => grant(c, table, block),
-        2 => revoke(c, table, block),
-        3 => downgrade(c, table, block),
-        4 => reach(c, table, block),
-        7 => chain(c, table, block),
-        9 => transfer::read_file(block, file, table),
-        11 => register::set_marks(block, c.by, c.receiver, c.need, table),
-        12 => register::retire(block, c.by, c.receiver, table),
-        17 => grant_kind(c, table, block),
-        _ => make_other(c, table, block),
+// Lent the table's text where the line has one. Only read takes a file. To bring an old block over, it stands in the table's place.
+// Marks has its subject under receiver, the marks under need; retire has its subject under receiver; a grant with a kind has that under by.
+pub fn make(
+    call: Plain,
+    c: Columns,
+    file: &[u8],
+    table: Option<&[u8]>,
+    block: &mut [u8],
+) -> Outcome {
+    let text = or_empty(table);
+    let returned = match call {
+        Plain::Enrol => register::enrol(block, c.need),
+        Plain::Grant => grant(c, table, block),
+        Plain::Revoke => revoke(c, table, block),
+        Plain::Downgrade => downgrade(c, table, block),
+        Plain::Reach => reach(c, table, block),
+        Plain::UseRight => register::use_right(block, c.receiver),
+        Plain::Open => register::open(block),
+        Plain::Chain => return chain(c, table, block),
+        Plain::Read => transfer::read_file(block, file, text),
+        Plain::SetMarks => register::set_marks(block, c.by, c.receiver, c.need, text),
+        Plain::Retire => register::retire(block, c.by, c.receiver, text),
+        Plain::BringOver => register::bring_over(text, block),
+        Plain::GrantKind => grant_kind(c, text, block),
+    };
+    Outcome::from(returned)
+}
+
+// The text that is lent, empty where the line has none.
+pub fn or_empty(table: Option<&[u8]>) -> &[u8] {
+    table.unwrap_or(&[])
+}
+
+// Each is lent a slip: the first two write it, the last reads it.
+pub fn make_slip(
+    call: Slip,
+    c: Columns,
+    slip: &mut [u8],
+    table: &[u8],
+    block: &mut [u8],
+) -> Outcome {
+    let returned = match call {
+        Slip::Revoke => slips::revoke_slip(block, c.by, c.giver, c.receiver, table, slip),
+        Slip::Downgrade => {
+            slips::downgrade_slip(block, c.by, c.giver, c.receiver, c.weight, table, slip)
+        }
+        Slip::TakeBack => slips::take_back(block, c.by, table, slip),
+    };
+    Outcome::from(returned)
+}
+
+fn grant(c: Columns, table: Option<&[u8]>, block: &mut [u8]) -> Result<Answers, Refusal> {
+    match table {
+        Some(text) => {
+            register::grant_table(block, c.giver, c.receiver, c.weight, c.need, c.bar, text)
+        }
+        None => register::grant(block, c.giver, c.receiver, c.weight, c.need, c.bar),
     }
 }
 
-// The calls that take no table. To bring an old block over, it stands in the table's place.
-fn make_other(c: Columns, old: &[u8], block: &mut [u8]) -> Answer {
-    let call = c.call;
-    match call {
-        0 => register::enrol(block, c.need),
-        5 => register::use_right(block, c.receiver),
-        6 => register::open(block),
-        13 => register::bring_over(old, block),
-        _ => no_answer(),
-    }
-}
-
-pub fn has_slip(call: u32) -> bool {
-    call == REVOKE_SLIP || call == DOWNGRADE_SLIP || call == TAKE_BACK
-}
-
-// A call that is lent a slip.
-pub fn make_slip(c: Columns, slip: &mut [u8], table: &[u8], block: &mut [u8]) -> Answer {
-    if c.call == REVOKE_SLIP {
-        return slips::revoke_slip(block, c.by, c.giver, c.receiver, table, slip);
-    }
-    if c.call == DOWNGRADE_SLIP {
-        return slips::downgrade_slip(block, c.by, c.giver, c.receiver, c.weight, table, slip);
-    }
-    slips::take_back(block, c.by, table, slip)
-}
-
-fn grant(c: Columns, table: &[u8], block: &mut [u8]) -> Answer {
-    if c.has_table {
-        return register::grant_table(block, c.giver, c.receiver, c.weight, c.need, c.bar, table);
-    }
-    register::grant(block, c.giver, c.receiver, c.weight, c.need, c.bar)
-}
-
-fn grant_kind(c: Columns, table: &[u8], block: &mut [u8]) -> Answer {
+fn grant_kind(c: Columns, text: &[u8], block: &mut [u8]) -> Result<Answers, Refusal> {
     register::grant_kind(
-        block, c.giver, c.receiver, c.weight, c.need, c.bar, c.by, table,
+        block, c.giver, c.receiver, c.weight, c.need, c.bar, c.by, text,
     )
 }
 
-fn revoke(c: Columns, table: &[u8], block: &mut [u8]) -> Answer {
-    if c.has_table {
-        return register::revoke_table(block, c.by, c.giver, c.receiver, table);
+fn revoke(c: Columns, table: Option<&[u8]>, block: &mut [u8]) -> Result<Answers, Refusal> {
+    match table {
+        Some(text) => register::revoke_table(block, c.by, c.giver, c.receiver, text),
+        None => register::revoke(block, c.by, c.giver, c.receiver),
     }
-    register::revoke(block, c.by, c.giver, c.receiver)
 }
 
-fn downgrade(c: Columns, table: &[u8], block: &mut [u8]) -> Answer {
-    if c.has_table {
-        return register::downgrade_table(block, c.by, c.giver, c.receiver, c.weight, table);
+fn downgrade(c: Columns, table: Option<&[u8]>, block: &mut [u8]) -> Result<Answers, Refusal> {
+    match table {
+        Some(text) => register::downgrade_table(block, c.by, c.giver, c.receiver, c.weight, text),
+        None => register::downgrade(block, c.by, c.giver, c.receiver, c.weight),
     }
-    register::downgrade(block, c.by, c.giver, c.receiver, c.weight)
 }
 
-fn reach(c: Columns, table: &[u8], block: &[u8]) -> Answer {
-    if c.has_table {
-        return register::reach_table(block, c.giver, c.receiver, table);
+fn reach(c: Columns, table: Option<&[u8]>, block: &[u8]) -> Result<Answers, Refusal> {
+    match table {
+        Some(text) => register::reach_table(block, c.giver, c.receiver, text),
+        None => register::reach(block, c.giver, c.receiver),
     }
-    register::reach(block, c.giver, c.receiver)
 }
 
 // The lent buffer has as many bytes as the weight says.
-fn chain(c: Columns, table: &[u8], block: &[u8]) -> Answer {
-    let asked = Asked {
-        giver: c.giver,
-        receiver: c.receiver,
-        is_lent: c.has_table,
-    };
-    judge::judge_call(block, table, asked, c.weight as usize)
-}
-
-fn no_answer() -> Answer {
-    Answer {
-        refusal: NO_CALL,
-        first: 0,
-        second: 0,
-        third: 0,
-    }
+fn chain(c: Columns, table: Option<&[u8]>, block: &[u8]) -> Outcome {
+    judge::chains::judge_chain(block, c.giver, c.receiver, table, c.weight as usize)
 }

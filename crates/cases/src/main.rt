@@ -8,13 +8,21 @@ ghost use Rattle.std.specs.Prelude.{◌≡◌, length};
 ghost use Rattle.std.specs.Io.{ReadsAtMost};
 ghost use Rattle.callfile.specs.CallFile.{out_size};
 
-use casefile::{blocks, out, reading};
-use std::io::Read;
+use crate::run::Given;
+use casefile::reading;
 use std::rt::Files;
 use std::{env, fs, io};
 
 // A file of cases or of lists has at most this many bytes.
 const MOST_TEXT: usize = callfile::MOST_TEXT;
+
+// What a file has.
+#[derive(Clone, Copy)]
+enum Kind {
+    Calls,
+    Lists,
+    Cases(Given),
+}
 
 // Each argument's file, in order.
 fn main(rt: HostRuntime) -> io::Result<()> {
@@ -29,7 +37,7 @@ fn run_argument(rt: &(impl Files + Print), name: &str) -> io::Result<()> {
     if run_file(rt, name)? {
         Ok(())
     } else {
-        out::print(rt, b"unreadable\n")
+        rt.write_all(b"unreadable\n")
     }
 }
 
@@ -47,57 +55,38 @@ fn read_file(rt: &impl Files, name: &str, space: &mut [u8]) -> io::Result<usize>
     ensures { ReadsAtMost result space.new }
 {
     let mut file = fs::open(rt, name)?;
-    read_full(&mut file, space)
+    reading::read_full(&mut file, space)
 }
 
-// Reads until the space is full or the reader ends, and answers how many bytes it put at the start of the space.
-fn read_full<R: Read>(reader: &mut R, space: &mut [u8]) -> io::Result<usize>
-    ensures { ReadsAtMost result space.new }
-{
-    let mut n = 0;
-    while n < space.len() {
-        let more = reader.read(&mut space[n..])?;
-        if more == 0 {
-            break;
+// By the file's name: a digit begins that of a call file, `l` that of lists, and any other that of cases.
+fn kind_of(name: &[u8]) -> Kind {
+    match name {
+        [] | [..=b'9', ..] => Kind::Calls,
+        [b'l', ..] => Kind::Lists,
+        [b'f' | b's' | b'p', ..] => Kind::Cases(Given::FileAndTable),
+        [b't' | b'o' | b'm', ..] | [b'r', _, b't', ..] => Kind::Cases(Given::Table),
+        _ => Kind::Cases(Given::Nothing),
+    }
+}
+
+// Runs a text; false where it cannot be read to its end.
+fn run_text(rt: &impl Print, kind: Kind, text: &[u8]) -> io::Result<bool> {
+    match kind {
+        Kind::Calls => {
+            print_calls(rt, text)?;
+            Ok(true)
         }
-        n += more;
+        _ if text.len() > MOST_TEXT => Ok(false),
+        Kind::Lists => lists::run_lines(rt, text),
+        Kind::Cases(given) => run::run_lines(rt, text, given),
     }
-    Ok(n)
-}
-
-// The first byte of a file's name; `t` for those of the kind `retire`, which have tables and begin as kinds without them do.
-fn kind_of(name: &[u8]) -> u8 {
-    let first = reading::byte_at(name, 0);
-    if first == b'r' && reading::byte_at(name, 2) == b't' {
-        return b't';
-    }
-    first
-}
-
-// Runs a text by its kind, a digit for a call file, `l` for lists, else cases, `t`, `o` and `m` for those with tables, `f` for those with files, `s` for those with slips and `p` for those with either; false where it cannot be read to its end.
-fn run_text(rt: &impl Print, kind: u8, text: &[u8]) -> io::Result<bool> {
-    if kind <= b'9' {
-        print_calls(rt, text)?;
-        return Ok(true);
-    }
-    if text.len() > MOST_TEXT {
-        return Ok(false);
-    }
-    if kind == b'l' {
-        return lists::run_lines(rt, text);
-    }
-    let mut file = [0u8; blocks::MOST_FILE];
-    let mut table = [0u8; blocks::MOST_BLOCK];
-    let mut block = [0u8; blocks::MOST_BLOCK];
-    run::run_lines(rt, text, kind, &mut file, &mut table, &mut block)
 }
 
 // What the program prints for a call file.
 fn print_calls(rt: &impl Print, text: &[u8]) -> io::Result<()> {
     let mut space = zeros();
-    let length = run_calls(text, &mut space);
-    let n = reading::within(length, &space);
-    out::print(rt, &space[..n])
+    let n = callfile::run(text, &mut space).unwrap_or(0);
+    rt.write_all(&space[..n])
 }
 
 // The `ensures` hides the bytes, so that no caller's proof computes them.
@@ -105,9 +94,4 @@ fn zeros() -> [u8; callfile::OUT_SIZE]
     ensures { out_size ≡ length result }
 {
     [0; callfile::OUT_SIZE]
-}
-
-fn run_calls(text: &[u8], space: &mut [u8]) -> usize {
-    let printed = callfile::run(text, space);
-    printed.length
 }

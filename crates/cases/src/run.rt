@@ -1,221 +1,194 @@
 // Runs the lines of a text, each on the block that it gives or that the line before left, and, where lines have a table's text, a
 // register's file or a slip, on the one that it gives or that the line before left. A slip is in the place of a file.
-ghost use Rattle.std.specs.Prelude.{◌≡◌, length};
-ghost use Rattle.casefile.specs.Sizes.{most_block, most_file};
-
 use crate::calls;
-use crate::calls::Columns;
-use casefile::blocks::Block;
-use casefile::{blocks, out, reading};
-use judge::files;
-use judge::files::Fill;
+use crate::calls::{Call, Columns, Fill, NoCall, Plain, Slip};
+use casefile::blocks::{MOST_BLOCK, MOST_FILE};
+use casefile::out::{Left, LeftSlip};
+use casefile::reading::Line;
+use judge::{Asked, files};
 use std::io;
 
-// Where the next line begins, 0 where a line cannot be read, and the lengths of the file, of the table's text and of the block that
-// are left.
+// What stands for the refusal where there is no such call.
+const NO_CALL: u32 = 99;
+
+// What a line gives beside its block; a file may be a slip.
 #[derive(Clone, Copy)]
-struct Place {
-    at: usize,
-    file_size: usize,
-    table_size: usize,
+pub enum Given {
+    Nothing,
+    Table,
+    FileAndTable,
+}
+
+// The bytes that a line gave or left, at the front of their place.
+#[derive(Clone, Copy)]
+struct Held<const N: usize> {
+    bytes: [u8; N],
     size: usize,
 }
 
-fn nowhere() -> Place {
-    Place {
-        at: 0,
-        file_size: 0,
-        table_size: 0,
-        size: 0,
+impl<const N: usize> Held<N> {
+    fn empty() -> Held<N> {
+        Held {
+            bytes: [0; N],
+            size: 0,
+        }
+    }
+
+    // Reads the column that `end` follows, which may say `=` for the bytes of the line before.
+    fn read(&mut self, line: &mut Line, end: u8) -> Option<()> {
+        self.size = line.block(&mut self.bytes, self.size, end)?;
+        Some(())
+    }
+
+    fn front(&self) -> &[u8] {
+        let n = self.size.min(N);
+        &self.bytes[..n]
+    }
+
+    fn front_mut(&mut self) -> &mut [u8] {
+        let n = self.size.min(N);
+        &mut self.bytes[..n]
     }
 }
 
-// Runs every line, by the text's kind: `t`, `o` and `m` where lines have a table's text, `f` where they have a file and a table's text,
-// `s` where they have a slip and a table's text, `p` where they have either and a table's text; false where one cannot be read.
-pub fn run_lines(
-    rt: &impl Print,
-    text: &[u8],
-    kind: u8,
-    file: &mut [u8],
-    table: &mut [u8],
-    block: &mut [u8],
-) -> io::Result<bool> {
-    let mut place = Place {
-        at: 0,
-        file_size: 0,
-        table_size: 0,
-        size: 0,
-    };
-    while place.at < text.len() {
-        let next = run_line(rt, text, kind, place, file, table, block)?;
-        if next.at <= place.at {
+// Runs every line; false where one cannot be read.
+pub fn run_lines(rt: &impl Print, text: &[u8], given: Given) -> io::Result<bool> {
+    let mut file = Held::empty();
+    let mut table = Held::empty();
+    let mut block = Held::empty();
+    for line in text.split_inclusive(|byte| *byte == b'\n') {
+        let Some(columns) = read_line(line, given, &mut file, &mut table, &mut block) else {
             return Ok(false);
-        }
-        place = next;
+        };
+        let lent = match given {
+            Given::Nothing => None,
+            Given::Table | Given::FileAndTable => Some(table.front()),
+        };
+        run_line(rt, columns, &mut file, lent, &mut block)?;
     }
     Ok(true)
 }
 
-// Runs the line at a place, on the bytes that are left where it says `=`.
-fn run_line(
-    rt: &impl Print,
-    text: &[u8],
-    kind: u8,
-    from: Place,
-    file: &mut [u8],
-    table: &mut [u8],
-    block: &mut [u8],
-) -> io::Result<Place> {
-    let has_file = kind == b'f' || kind == b's' || kind == b'p';
-    let has_table = has_file || kind == b't' || kind == b'o' || kind == b'm';
-    let columns = calls::read_columns(text, from.at, has_table);
-    if !columns.is_read {
-        return Ok(nowhere());
+// The numbers of a line. What it gives is put in the place of what the line before left; a text without files has an empty one.
+fn read_line(
+    line: &[u8],
+    given: Given,
+    file: &mut Held<MOST_FILE>,
+    table: &mut Held<MOST_BLOCK>,
+    block: &mut Held<MOST_BLOCK>,
+) -> Option<Columns> {
+    let mut line = Line::new(line);
+    let columns = calls::read_columns(&mut line)?;
+    match given {
+        Given::Nothing => file.size = 0,
+        Given::Table => {
+            file.size = 0;
+            table.read(&mut line, b' ')?;
+        }
+        Given::FileAndTable => {
+            file.read(&mut line, b' ')?;
+            table.read(&mut line, b' ')?;
+        }
     }
-    let filed = read_part(text, columns.after, has_file, file, from.file_size);
-    let lent = read_part(text, filed.after, has_table, table, from.table_size);
-    let read = blocks::read_block(text, lent.after, block, from.size, b'\n');
-    if !filed.is_read || !lent.is_read || !read.is_read {
-        return Ok(nowhere());
-    }
-    let left = run_fronts(
-        rt, columns, file, filed.size, table, lent.size, block, read.size,
-    )?;
-    Ok(Place {
-        at: read.after,
-        file_size: left,
-        table_size: lent.size,
-        size: read.size,
-    })
-}
-
-// A column of bytes, empty where the line has none.
-fn read_part(text: &[u8], from: usize, is_there: bool, part: &mut [u8], size: usize) -> Block {
-    if is_there {
-        return blocks::read_block(text, from, part, size, b' ');
-    }
-    Block {
-        size: 0,
-        after: from,
-        is_read: true,
-    }
-}
-
-// The call on the first bytes of each; how many bytes of the file are left.
-fn run_fronts(
-    rt: &impl Print,
-    columns: Columns,
-    file: &mut [u8],
-    file_size: usize,
-    table: &[u8],
-    table_size: usize,
-    block: &mut [u8],
-    size: usize,
-) -> io::Result<usize> {
-    let n = reading::within(size, block);
-    let m = reading::within(table_size, table);
-    if columns.call == calls::WRITE || columns.call == calls::ORDER {
-        return run_fill(rt, columns, file, file_size, &table[..m], &block[..n]);
-    }
-    let k = reading::within(file_size, file);
-    if calls::has_slip(columns.call) {
-        run_slip(rt, columns, &mut file[..k], &table[..m], &mut block[..n])?;
-        return Ok(file_size);
-    }
-    run_call(rt, columns, &file[..k], &table[..m], &mut block[..n])?;
-    Ok(file_size)
+    block.read(&mut line, b'\n')?;
+    Some(columns)
 }
 
 // Makes the call and prints what comes out.
-fn run_call(
+fn run_line(
     rt: &impl Print,
-    columns: Columns,
-    file: &[u8],
-    table: &[u8],
-    block: &mut [u8],
+    c: Columns,
+    file: &mut Held<MOST_FILE>,
+    table: Option<&[u8]>,
+    block: &mut Held<MOST_BLOCK>,
 ) -> io::Result<()> {
-    let before = kept(block);
-    let answer = calls::make(columns, file, table, block);
-    out::print_outcome(
-        rt,
-        answer.refusal,
-        answer.first,
-        answer.second,
-        answer.third,
-        &before,
-        block,
+    match Call::try_from(c.call) {
+        Ok(Call::Plain(call)) => run_plain(rt, call, c, file.front(), table, block),
+        Ok(Call::Fill(call)) => run_fill(rt, call, c, file, table, block.front()),
+        Ok(Call::Slip(call)) => run_slip(rt, call, c, file, table, block),
+        Err(NoCall) => println!(rt; "{NO_CALL} 0 0 0 ="),
+    }
+}
+
+fn run_plain(
+    rt: &impl Print,
+    call: Plain,
+    c: Columns,
+    file: &[u8],
+    table: Option<&[u8]>,
+    block: &mut Held<MOST_BLOCK>,
+) -> io::Result<()> {
+    let before = *block;
+    let answer = calls::make(call, c, file, table, block.front_mut());
+    let left = Left {
+        before: before.front(),
+        bytes: block.front(),
+    };
+    println!(rt;
+        "{} {} {} {} {left}",
+        answer.refusal, answer.first, answer.second, answer.third
     )
 }
 
-// Makes a call that is lent a slip and prints what comes out, the slip too.
+// Prints the slip too.
 fn run_slip(
     rt: &impl Print,
-    columns: Columns,
-    slip: &mut [u8],
-    table: &[u8],
-    block: &mut [u8],
+    call: Slip,
+    c: Columns,
+    slip: &mut Held<MOST_FILE>,
+    table: Option<&[u8]>,
+    block: &mut Held<MOST_BLOCK>,
 ) -> io::Result<()> {
-    let before = kept(block);
-    let slip_before = kept_file(slip);
-    let answer = calls::make_slip(columns, slip, table, block);
-    out::print_answer(
-        rt,
-        answer.refusal,
-        answer.first,
-        answer.second,
-        answer.third,
-        &before,
-        block,
-    )?;
-    out::print(rt, b" ")?;
-    out::print_slip(rt, &slip_before, slip, &before, block)?;
-    out::print(rt, b"\n")
+    let before = *block;
+    let slip_before = *slip;
+    let text = calls::or_empty(table);
+    let answer = calls::make_slip(call, c, slip.front_mut(), text, block.front_mut());
+    let left = Left {
+        before: before.front(),
+        bytes: block.front(),
+    };
+    let left_slip = LeftSlip {
+        slip_before: slip_before.front(),
+        slip: slip.front(),
+        before: before.front(),
+        after: block.front(),
+    };
+    println!(rt;
+        "{} {} {} {} {left} {left_slip}",
+        answer.refusal, answer.first, answer.second, answer.third
+    )
 }
 
 // Writes the block's file, or an order, into a buffer of as many bytes as the weight says, and prints what comes out.
 fn run_fill(
     rt: &impl Print,
-    columns: Columns,
-    file: &mut [u8],
-    file_size: usize,
-    table: &[u8],
+    call: Fill,
+    c: Columns,
+    file: &mut Held<MOST_FILE>,
+    table: Option<&[u8]>,
     block: &[u8],
-) -> io::Result<usize> {
-    let before = kept_file(file);
-    let fill = Fill {
-        is_order: columns.call == calls::ORDER,
-        receiver: columns.receiver,
+) -> io::Result<()> {
+    let before = *file;
+    let call = match call {
+        Fill::Write => judge::Call::Write,
+        Fill::Order => judge::Call::Order {
+            receiver: c.receiver,
+            table: calls::or_empty(table),
+        },
     };
-    let size = columns.weight as usize;
-    let written = files::judge_fill(fill, block, table, size, file, file_size);
-    let m = reading::within(file_size, &before);
-    let n = reading::within(written.length, file);
-    out::print_outcome(
-        rt,
-        written.refusal,
-        written.first,
-        written.second,
-        written.third,
-        &before[..m],
-        &file[..n],
-    )?;
-    Ok(n)
-}
-
-// A copy of the block.
-fn kept(block: &[u8]) -> [u8; blocks::MOST_BLOCK]
-    ensures { most_block ≡ length result }
-{
-    let mut copy = [0u8; blocks::MOST_BLOCK];
-    out::put_bytes(&mut copy, 0, block);
-    copy
-}
-
-// A copy of the file.
-fn kept_file(file: &[u8]) -> [u8; blocks::MOST_FILE]
-    ensures { most_file ≡ length result }
-{
-    let mut copy = [0u8; blocks::MOST_FILE];
-    out::put_bytes(&mut copy, 0, file);
-    copy
+    let asked = Asked {
+        call,
+        block,
+        size: c.weight as usize,
+    };
+    let (answer, n) = files::judge_fill(asked, &mut file.bytes, before.size);
+    file.size = n;
+    let left = Left {
+        before: before.front(),
+        bytes: file.front(),
+    };
+    println!(rt;
+        "{} {} {} {} {left}",
+        answer.refusal, answer.first, answer.second, answer.third
+    )
 }

@@ -42,10 +42,10 @@ use Rattle.rules.proofs.Signed.{below_weight}
 use Rattle.chain.proofs.LinkBytes.{bytes_length}
 use Rattle.chain.proofs.Ready.{limit_reach, traceable}
 use Rattle.search.proofs.Searching.{reach_marks, records_held, lent_held, reach_found, chain_found}
-use Rattle.steptable.specs.declared.Given.{Given}
+use Rattle.steptable.specs.TableText.{Given}
 use Rattle.refusals.specs.Early.{text_refused, not_well_formed, early}
-use Rattle.chain.specs.ChainOn.{chain_refusal_on, unwritten_by, ChainLeft, ChainMade, ChainFront}
-use Rattle.chain.specs.declared.ChainAnswer.{ChainAnswer}
+use Rattle.chain.specs.ChainOn.{chain_refusal_on, ChainLeft, ChainMade, ChainFront}
+use Rattle.chain.specs.Answer.{ChainAnswer, unwritten_by}
 use Rattle.refusals.proofs.Holding.{or_false, weight_stands}
 
 -- a refused call leaves the buffer

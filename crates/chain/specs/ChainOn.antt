@@ -6,17 +6,13 @@ use Rattle.rules.specs.Pair.{weight_at}
 use Rattle.rules.specs.Refusal.{first_of, chain_passed, chain_held}
 use Rattle.block.specs.Block.{decode}
 use Rattle.chain.specs.Links.{link_bytes, link_size, chain_size}
-use Rattle.steptable.specs.declared.Given.{Given}
+use Rattle.steptable.specs.TableText.{Given}
 use Rattle.refusals.specs.Early.{wrong_lengths, text_refused, not_well_formed}
-use Rattle.chain.specs.declared.ChainAnswer.{ChainAnswer}
+use Rattle.chain.specs.Answer.{ChainAnswer}
 
 -- the first that applies of 1, what was passed, 7 and 17 by the step table's text, 8, what the register holds
 unfoldable pub chain_refusal_on : Given → List ℕ → ℕ → ℕ → List ℕ → ℕ
 chain_refusal_on k b g r buf = first_of (wrong_lengths chain_size b buf ∷ (chain_passed g r ++ (text_refused k.refusal ++ (not_well_formed b ∷ chain_held k.steps (decode b) g r))))
-
--- what a refused chain call returns
-abbrev pub unwritten_by : ℕ → ChainAnswer
-unwritten_by n = record { refusal = n; links = 0 }
 
 -- what is returned, and what the buffer holds afterwards, where the refusal is n and the pair's weight is w
 pub record ChainLeft (t : List ℤ) (R : Register) (g r : ℕ) (w : ℤ) (n : ℕ) (before : List ℕ) (o : ChainAnswer) (after : List ℕ) : Type 0 where

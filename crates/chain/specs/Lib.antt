@@ -1,3 +1,4 @@
 pub mod Links
+pub mod Answer
 pub mod ChainOn
 pub mod Lent

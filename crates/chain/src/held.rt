@@ -11,13 +11,14 @@ ghost use Rattle.block.specs.Block.{records_in, decode};
 ghost use Rattle.refusals.specs.Checked.{Checked, BothEnrolled};
 ghost use Rattle.search.specs.Found.{Searched};
 ghost use Rattle.chain.specs.Links.{chain_size};
+ghost use Rattle.chain.specs.Answer.{chain_answer};
 ghost use Rattle.chain.specs.ChainOn.{ChainLeft};
 ghost use Rattle.chain.specs.Lent.{LimitsLent};
 
-use crate::{ChainAnswer, links, unwritten};
+use crate::links;
 use block::layout;
 use refusals::pair_held;
-use rules::refusal;
+use rules::Refusal;
 
 // The most links of a chain.
 pub const MOST_LINKS: usize = layout::SUBJECTS - 1;
@@ -40,22 +41,18 @@ fn write_carrying(
     receiver: usize,
     weight: u8,
     buf: &mut [u8],
-) -> ChainAnswer
+) -> Result<usize, Refusal>
     requires { BothEnrolled block.now giver receiver × TableRule table.now × (chain_size ≤ length buf.old) }
-    ensures { ChainLeft table.now (decode block.now) giver receiver (pos weight) (cond (lt_z (reach table.now (decode block.now) giver receiver) (pos weight)) 16 0) buf.old result buf.new }
+    ensures { ChainLeft table.now (decode block.now) giver receiver (pos weight) (cond (lt_z (reach table.now (decode block.now) giver receiver) (pos weight)) 16 0) buf.old (chain_answer result) buf.new }
 {
     let mut limits = [-1i16; layout::SUBJECTS];
     let mut parents = [0u16; layout::SUBJECTS];
     limits_for(block, table, receiver, &mut limits, &mut parents);
     if limits[giver] < weight as i16 {
-        return unwritten(refusal::OVERWEIGHT);
+        return Err(Refusal::Overweight);
     }
     let records = block::records(block);
-    let links = links::write_links(records, &parents, giver, MOST_LINKS, buf);
-    ChainAnswer {
-        refusal: 0,
-        links: links,
-    }
+    Ok(links::write_links(records, &parents, giver, MOST_LINKS, buf))
 }
 
 // The chain call past the refusals by what was passed: those by what the register holds, then the chain.
@@ -65,18 +62,15 @@ pub fn write_held(
     giver: u32,
     receiver: u32,
     buf: &mut [u8],
-) -> ChainAnswer
+) -> Result<usize, Refusal>
     requires { Checked block.now (ask_reach giver receiver) × TableRule table.now × (chain_size ≤ length buf.old) }
-    ensures { ChainLeft table.now (decode block.now) giver receiver (weight_at (decode block.now).delegations giver receiver) (first_of (chain_held table.now (decode block.now) giver receiver)) buf.old result buf.new }
+    ensures { ChainLeft table.now (decode block.now) giver receiver (weight_at (decode block.now).delegations giver receiver) (first_of (chain_held table.now (decode block.now) giver receiver)) buf.old (chain_answer result) buf.new }
 {
-    let number = pair_held(block, giver, receiver);
-    if number != 0 {
-        return unwritten(number);
-    }
+    pair_held(block, giver, receiver)?;
     let n = block::count(block);
     let k = block::find(block, n, giver as u8, receiver as u8);
     if k >= n {
-        return unwritten(refusal::NO_PAIR);
+        return Err(Refusal::NoPair);
     }
     let weight = block::weight(block, k);
     write_carrying(block, table, giver as usize, receiver as usize, weight, buf)

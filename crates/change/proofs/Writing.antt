@@ -18,7 +18,7 @@ use lib.ListN.{length, get_or, take, drop, set, replicate, length-append, length
 use lib.Seq.{sets, sets-eq, length-take-le, take_at, drop-drop, drop-append-add, get_or-drop, get_or-set_other, set-get_or}
 use Rattle.rules.specs.List.{tabulate, concat_map}
 use Rattle.rules.specs.Limit.{code, ◌≼◌}
-use Rattle.rules.specs.Register.{Delegation, granted, no_delegation, reweigh, with_delegations}
+use Rattle.rules.specs.Register.{Delegation, no_delegation, reweigh, with_delegations}
 use Rattle.rules.specs.Round.{placed}
 use Rattle.rules.proofs.Lists.{clash}
 use Rattle.rules.proofs.Signed.{kept}
@@ -80,13 +80,9 @@ module _ (z : ℤ) (f : SFits w16 z) where
     weight_fits = rw as_is (let q = other z (rw as_is at e) l no_delegation in (q.0, record { fits = q.1 }))
 
     -- the record at its new weight
-    pub one_written : (b c : List ℕ) (at g r n m k : ℕ) (d : Delegation) → g ≡ d.giver → r ≡ d.receiver → n ≡ d.need → m ≡ d.bar → k ≡ d.kind
-        → c ≡ sets b at (record_bytes (granted g r (nat_abs (kept z)) n m k)) → (true ≡ ltb 0 (code z)) × (c ≡ sets b at (concat_map record_bytes (placed d z)))
-    one_written b c at g r n m k d eg er en em ek ec =
-        let q = other z (rw as_is at e) l d in (
-          q.2,
-          ec ∙ (λ i. sets b at (record_bytes (granted (eg i) (er i) (nat_abs (as_is i)) (en i) (em i) (ek i)))) ∙ ap (sets b at) q.3,
-        )
+    pub one_written : (b c : List ℕ) (at : ℕ) (x d : Delegation) → x ≡ d → c ≡ sets b at (record_bytes (reweigh x (nat_abs (kept z)))) → (true ≡ ltb 0 (code z)) × (c ≡ sets b at (concat_map record_bytes (placed d z)))
+    one_written b c at x d ed ec =
+        let q = other z (rw as_is at e) l d in (q.2, ec ∙ (λ i. sets b at (record_bytes (reweigh (ed i) (nat_abs (as_is i))))) ∙ ap (sets b at) q.3)
 
     -- the record in its place, at its new weight
     pub weight_written : (b c : List ℕ) → IsBytes b → (at k : ℕ) → at ≡ record_place k → c ≡ set b (at + weight_byte) (nat_abs (kept z))

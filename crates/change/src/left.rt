@@ -11,6 +11,7 @@ ghost use Rattle.block.specs.WellFormed.{well_formed};
 ghost use Rattle.block.specs.Records.{record_place, delegation_at, left_to};
 ghost use Rattle.change.specs.Left.{Movable, Weighed, LeftWritten};
 
+use crate::record::Record;
 use crate::write::{put_record, put_two, zero_all};
 use block::layout;
 
@@ -27,12 +28,11 @@ fn keep_at(block: &mut [u8], from: usize, to: usize, weight: i16) -> bool
         block[at + layout::WEIGHT] = weight as u8;
         return true;
     }
-    let giver = block::giver(block, from);
-    let receiver = block::receiver(block, from);
-    let need = block::need(block, from);
-    let bar = block::bar(block, from);
-    let kind = block::kind(block, from);
-    put_record(block, at, giver, receiver, weight as u8, need, bar, kind);
+    let delegation = Record {
+        weight: weight as u8,
+        ..Record::at(block, from)
+    };
+    put_record(block, at, delegation);
     true
 }
 
@@ -42,13 +42,11 @@ fn keep_left(block: &mut [u8], n: usize, weights: &[i16]) -> usize
     ensures { LeftWritten block.old weights.now n result block.new }
 {
     let mut kept: usize = 0;
-    let mut k: usize = 0;
-    while k < n {
+    for k in 0..n {
         let weight = weights[k];
         if keep_at(block, k, kept, weight) {
             kept += 1;
         }
-        k += 1;
     }
     kept
 }

@@ -2,6 +2,7 @@
 #![tactic(auto)]
 
 mod left;
+mod record;
 mod retiring;
 mod write;
 
@@ -18,20 +19,22 @@ ghost use Rattle.block.specs.WellFormed.{well_formed};
 ghost use Rattle.block.specs.Fits.{Fitting, empty};
 ghost use Rattle.block.specs.Older.{old_size, brought};
 ghost use Rattle.change.specs.Place.{IsPlace};
+ghost use Rattle.change.specs.Record.{delegation_of};
 
-use block::layout::{COUNT_AT, RECORDS_AT, RETIRED_AT, WEIGHT};
+use block::layout::{COUNT_AT, RECORD_SIZE, RECORDS_AT, RETIRED_AT, WEIGHT};
 use block::{count, find, is_pair, place, record_place, subjects};
 pub use left::write_left;
+use record::Record;
 pub use retiring::retire;
 pub use write::copy;
-use write::{put_marks, put_record, put_retired, put_two, shift_down, shift_up, zero_all};
+use write::{put_marks, put_record, put_retired, put_two, shift_down, shift_up};
 
 // The fresh register, over any bytes.
 pub fn write_fresh(b: &mut [u8])
     requires { length b.old ≡ block_size }
     ensures { b.new ≡ encode fresh }
 {
-    zero_all(b);
+    b.fill(0);
     b[0] = 1;
 }
 
@@ -40,7 +43,7 @@ pub fn write_empty(b: &mut [u8])
     requires { length b.old ≡ block_size }
     ensures { b.new ≡ encode empty }
 {
-    zero_all(b);
+    b.fill(0);
 }
 
 // A block of the layout before, in the present one, over any bytes.
@@ -48,9 +51,9 @@ pub fn write_brought(old: &[u8], b: &mut [u8])
     requires { (length old.now ≡ old_size) × (length b.old ≡ block_size) }
     ensures { b.new ≡ brought old.now }
 {
-    copy(&old[..RETIRED_AT], &mut b[..RETIRED_AT]);
-    zero_all(&mut b[RETIRED_AT..RECORDS_AT]);
-    copy(&old[RETIRED_AT..], &mut b[RECORDS_AT..]);
+    b[..RETIRED_AT].copy_from_slice(&old[..RETIRED_AT]);
+    b[RETIRED_AT..RECORDS_AT].fill(0);
+    b[RECORDS_AT..].copy_from_slice(&old[RETIRED_AT..]);
 }
 
 // One more subject.
@@ -80,13 +83,21 @@ pub fn set_retired(b: &mut [u8], subject: u8)
     put_retired(b, retired | (1u64 << subject));
 }
 
-// One more delegation, after all others.
+// One more delegation, after all others. The crates above give its fields as parameters, here and in `put_granted`.
 pub fn append(b: &mut [u8], giver: u8, receiver: u8, weight: u8, need: u16, bar: u16, kind: u8)
     requires { Fitting b.old × (count_in b.old < most_records) }
     ensures { b.new ≡ encode (with_delegations (decode b.old) ((decode b.old).delegations ++ (granted giver receiver weight need bar kind ∷ []))) }
 {
     let n = count(b);
-    put_record(b, record_place(n), giver, receiver, weight, need, bar, kind);
+    let delegation = Record {
+        giver,
+        receiver,
+        weight,
+        kind,
+        need,
+        bar,
+    };
+    put_record(b, record_place(n), delegation);
     put_two(b, COUNT_AT, (n + 1) as u16);
 }
 
@@ -102,23 +113,14 @@ fn stands_before(b: &[u8], at: usize, giver: u8, receiver: u8) -> bool
 }
 
 // One more delegation, at its place.
-fn insert(
-    b: &mut [u8],
-    at: usize,
-    giver: u8,
-    receiver: u8,
-    weight: u8,
-    need: u16,
-    bar: u16,
-    kind: u8,
-)
-    requires { (well_formed b.old ≡ true) × (count_in b.old < most_records) × IsPlace b.old giver receiver at }
-    ensures { b.new ≡ encode (with_delegations (decode b.old) (insert (granted giver receiver weight need bar kind) (decode b.old).delegations)) }
+fn insert(b: &mut [u8], at: usize, delegation: Record)
+    requires { (well_formed b.old ≡ true) × (count_in b.old < most_records) × IsPlace b.old delegation.giver delegation.receiver at }
+    ensures { b.new ≡ encode (with_delegations (decode b.old) (insert (delegation_of delegation) (decode b.old).delegations)) }
 {
     let n = count(b);
     let start = record_place(at);
     shift_up(b, start, record_place(n));
-    put_record(b, start, giver, receiver, weight, need, bar, kind);
+    put_record(b, start, delegation);
     put_two(b, COUNT_AT, (n + 1) as u16);
 }
 
@@ -131,7 +133,8 @@ pub fn remove(b: &mut [u8], giver: u8, receiver: u8)
     let at = record_place(find(b, n, giver, receiver));
     shift_down(b, at, record_place(n));
     let last = n - 1;
-    put_record(b, record_place(last), 0, 0, 0, 0, 0, 0);
+    let start = record_place(last);
+    b[start..start + RECORD_SIZE].fill(0);
     put_two(b, COUNT_AT, last as u16);
 }
 
@@ -156,5 +159,13 @@ pub fn put_granted(b: &mut [u8], giver: u8, receiver: u8, weight: u8, need: u16,
         set_weight(b, giver, receiver, weight);
         return;
     }
-    insert(b, at, giver, receiver, weight, need, bar, kind);
+    let delegation = Record {
+        giver,
+        receiver,
+        weight,
+        kind,
+        need,
+        bar,
+    };
+    insert(b, at, delegation);
 }

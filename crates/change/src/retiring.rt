@@ -11,7 +11,7 @@ use crate::set_retired;
 use crate::write::put_marks;
 use block::layout;
 
-// The weight that record `k` keeps: -1 where it is to or from the subject.
+// The weight that record `k` keeps: -1 where it is to or from the subject, as the public `write_left` takes weights.
 fn weight_without(b: &[u8], k: usize, subject: u8) -> i16
     requires { HasRecord b.now k }
     ensures { result ≡ weight_without subject (delegation_at b.now k) }
@@ -30,10 +30,8 @@ fn weights_without(b: &[u8], n: usize, subject: u8, weights: &mut [i16])
     requires { HasRecords b.now n × (n ≤ length weights.old) }
     ensures { WeightsWithout b.now subject n weights.new }
 {
-    let mut k: usize = 0;
-    while k < n {
-        weights[k] = weight_without(b, k, subject);
-        k += 1;
+    for (k, weight) in weights[..n].iter_mut().enumerate() {
+        *weight = weight_without(b, k, subject);
     }
 }
 

@@ -31,7 +31,7 @@ use Rattle.block.specs.Block.{decode, encode}
 use Rattle.block.proofs.Bytes.{bytes_append}
 use Rattle.block.proofs.Encode.{length_encode, decode_encode, bytes_encode}
 use Rattle.steptable.specs.TableText.{table_text, AreNexts, passing, given}
-use Rattle.steptable.specs.declared.Given.{Given}
+use Rattle.steptable.specs.TableText.{Given}
 use Rattle.steptable.proofs.Right.{given_right, test_entries}
 use Rattle.regfile.specs.FileText.{file_text}
 use Rattle.register.specs.CallOn.{Result}

@@ -40,7 +40,7 @@ use Rattle.block.specs.WellFormed.{well_formed}
 use Rattle.block.proofs.Encode.{length_encode, decode_encode, bytes_encode}
 use Rattle.block.proofs.Form.{encode_formed}
 use Rattle.steptable.specs.TableText.{passing, ours}
-use Rattle.steptable.specs.declared.Given.{Given}
+use Rattle.steptable.specs.TableText.{Given}
 use Rattle.refusals.proofs.EarlyTests.{EarlyBy, none_back}
 use Rattle.register.specs.CallOn.{Result, turned, call_on}
 use Rattle.register.proofs.OnBytes.{on_bytes, call_on_encode}

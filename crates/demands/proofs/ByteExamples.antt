@@ -32,7 +32,7 @@ use Rattle.block.specs.Block.{record_bytes, decode, encode}
 use Rattle.block.proofs.Wide.{length_wide_bytes}
 use Rattle.block.proofs.Fitting.{records_part, records_encode, retired_drop, formed_fits}
 use Rattle.block.proofs.Encode.{decode_encode}
-use Rattle.steptable.specs.declared.Given.{Given}
+use Rattle.steptable.specs.TableText.{Given}
 use Rattle.register.specs.CallOn.{call_on}
 use Rattle.slips.specs.Slip.{Effect}
 use Rattle.demands.specs.History.{Asked, asks, plain, asked_on, bytes_left, trace_on, block_at}

@@ -34,7 +34,7 @@ use Rattle.block.specs.Block.{decode}
 use Rattle.block.specs.WellFormed.{well_formed}
 use Rattle.block.proofs.Held.{held_formed, held_written}
 use Rattle.steptable.specs.TableText.{ours, given}
-use Rattle.steptable.specs.declared.Given.{Given}
+use Rattle.steptable.specs.TableText.{Given}
 use Rattle.steptable.proofs.Right.{given_keeps}
 use Rattle.register.specs.CallOn.{Result, written, call_on}
 use Rattle.demands.specs.Exactly.{Grantable, GrantExactly, Before11, Raisable, RaiseAnswer, RaiseExactly, GrantKeeps, RaiseByte, ReachAnswer, ReachExactly, MayUse, UseAnswer, UseExactly, MarksStill}

@@ -32,13 +32,13 @@ use Rattle.block.proofs.Encode.{bytes_encode, decode_encode}
 use Rattle.block.proofs.Form.{encode_formed}
 use Rattle.block.proofs.Held.{held_formed}
 use Rattle.steptable.specs.TableText.{ours, given}
-use Rattle.steptable.specs.declared.Given.{Given}
+use Rattle.steptable.specs.TableText.{Given}
 use Rattle.steptable.proofs.Right.{given_right, given_keeps, given_number}
 use Rattle.refusals.specs.Early.{text_refused}
 use Rattle.register.specs.CallOn.{Result, turned, call_on, open_on}
 use Rattle.register.specs.Made.{result_of, MadeOpen}
 use Rattle.register.specs.Cuts.{CutsLeft}
-use Rattle.register.specs.declared.Answer.{Answer}
+use Rattle.register.specs.Answer.{Answer}
 use Rattle.register.proofs.CutWays.{register_left, cuts_left}
 use Rattle.register.proofs.Through.{accepted_through}
 use Rattle.slips.specs.Slip.{slip_before, slipped_on}

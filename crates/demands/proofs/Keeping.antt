@@ -35,7 +35,7 @@ use Rattle.block.proofs.Encode.{bytes_encode}
 use Rattle.block.proofs.Form.{encode_formed}
 use Rattle.block.proofs.Held.{size_held, held_formed}
 use Rattle.steptable.specs.TableText.{ours, given}
-use Rattle.steptable.specs.declared.Given.{Given}
+use Rattle.steptable.specs.TableText.{Given}
 use Rattle.steptable.proofs.Right.{given_keeps}
 use Rattle.regfile.specs.FileText.{file_text, filed}
 use Rattle.regfile.proofs.Sizes.{file_some, file_short}
@@ -47,13 +47,13 @@ use Rattle.slips.specs.Slip.{cut_bytes, slip, slip_size, Effect, slipped_on}
 use Rattle.slips.specs.TakeBack.{take_back_on}
 use Rattle.slips.proofs.Parts.{slip_long}
 use Rattle.transfer.specs.FileOn.{WriteMade}
-use Rattle.transfer.specs.declared.Filled.{Filled}
+use Rattle.transfer.specs.Filled.{Filled}
 use Rattle.transfer.proofs.Writing.{write_through}
 use Rattle.transfer.proofs.Reading.{read_turned}
 use Rattle.transfer.proofs.RoundTrip.{read_passed, read_formed, read_is_bytes}
 use Rattle.order.specs.Items.{item_size, order_size}
 use Rattle.order.specs.OrderOn.{OrderMade}
-use Rattle.order.specs.declared.Listed.{Listed}
+use Rattle.order.specs.Listed.{Listed}
 use Rattle.order.proofs.OrderWays.{order_through}
 use Rattle.demands.specs.Kept.{Kept, KeptOpen, KeptBring, KeptSlip, KeptBack, KeptRead, KeptFilled, most_written, KeptWrite, KeptOrder}
 use Rattle.register.proofs.Through.{accepted_through, accepted_step, accepted_left}

@@ -16,7 +16,7 @@ use Rattle.rules.proofs.Unnoticed.{one_kind, kinds_stay}
 use Rattle.block.specs.Block.{decode, encode}
 use Rattle.block.proofs.Held.{held_formed}
 use Rattle.steptable.specs.TableText.{given}
-use Rattle.steptable.specs.declared.Given.{Given}
+use Rattle.steptable.specs.TableText.{Given}
 use Rattle.steptable.proofs.Right.{given_keeps}
 use Rattle.register.specs.CallOn.{call_on}
 use Rattle.register.proofs.CutWays.{register_left}

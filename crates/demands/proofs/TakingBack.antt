@@ -33,12 +33,12 @@ use Rattle.block.proofs.Bytes.{bytes_take}
 use Rattle.block.proofs.Encode.{length_encode}
 use Rattle.block.proofs.Form.{encode_formed}
 use Rattle.block.proofs.Held.{held_formed}
-use Rattle.steptable.specs.declared.Given.{Given}
+use Rattle.steptable.specs.TableText.{Given}
 use Rattle.refusals.specs.Early.{back_refusal}
 use Rattle.refusals.proofs.EarlyTests.{EarlyBy, back_none, none_back}
 use Rattle.register.specs.CallOn.{Result, turned, call_on}
-use Rattle.register.specs.Made.{result_of, answered_by}
-use Rattle.register.specs.declared.Answer.{Answer}
+use Rattle.register.specs.Made.{result_of}
+use Rattle.register.specs.Answer.{Answer, answered_by}
 use Rattle.register.proofs.Made.{accepted_passes}
 use Rattle.register.proofs.Through.{accepted_through, accepted_left}
 use Rattle.register.proofs.CutWays.{cuts_left}

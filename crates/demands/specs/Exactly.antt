@@ -13,7 +13,7 @@ use Rattle.rules.specs.Granted.{GrantedIn, Raises}
 use Rattle.block.specs.Layout.{weight_byte}
 use Rattle.block.specs.Block.{count_in, decode}
 use Rattle.block.specs.Records.{record_place, delegation_at}
-use Rattle.steptable.specs.declared.Given.{Given}
+use Rattle.steptable.specs.TableText.{Given}
 use Rattle.refusals.specs.Early.{early}
 use Rattle.register.specs.CallOn.{call_on}
 

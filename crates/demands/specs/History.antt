@@ -12,12 +12,12 @@ use Rattle.block.specs.Bytes.{IsBytes}
 use Rattle.block.specs.Block.{decode, encode}
 use Rattle.block.specs.WellFormed.{well_formed}
 use Rattle.steptable.specs.TableText.{ours, given}
-use Rattle.steptable.specs.declared.Given.{Given}
+use Rattle.steptable.specs.TableText.{Given}
 use Rattle.regfile.specs.FileText.{file_text, filed}
 use Rattle.register.specs.CallOn.{Result, call_on}
 use Rattle.register.specs.Made.{MadeOpen}
 use Rattle.register.specs.Cuts.{CutsLeft}
-use Rattle.register.specs.declared.Answer.{Answer}
+use Rattle.register.specs.Answer.{Answer}
 use Rattle.transfer.specs.FileOn.{read_on}
 use Rattle.slips.specs.Slip.{slip_before, slip_after, Effect, slipped_on}
 use Rattle.slips.specs.TakeBack.{genuine, take_back_on}

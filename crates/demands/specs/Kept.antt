@@ -8,15 +8,15 @@ use Rattle.block.specs.Bytes.{IsBytes}
 use Rattle.block.specs.Block.{decode}
 use Rattle.block.specs.WellFormed.{well_formed}
 use Rattle.block.specs.Older.{old_decode}
-use Rattle.steptable.specs.declared.Given.{Given}
+use Rattle.steptable.specs.TableText.{Given}
 use Rattle.register.specs.CallOn.{call_on, open_on}
 use Rattle.register.specs.Bring.{bring_on}
 use Rattle.slips.specs.Slip.{slip_size, slipped_on}
 use Rattle.slips.specs.TakeBack.{take_back_on}
 use Rattle.transfer.specs.RoundTrip.{reading}
-use Rattle.transfer.specs.declared.Filled.{Filled}
+use Rattle.transfer.specs.Filled.{Filled}
 use Rattle.order.specs.Items.{item_size, order_size}
-use Rattle.order.specs.declared.Listed.{Listed}
+use Rattle.order.specs.Listed.{Listed}
 
 pub record Kept (g : Given) (b : List ℕ) (c : Call) : Type 0 where
   pub refused : (call_on g b c).refusal ≢ 0 → (call_on g b c).bytes ≡ b

@@ -10,11 +10,10 @@ use Rattle.rules.specs.Refusal.{first_of}
 use Rattle.block.specs.Layout.{block_size}
 use Rattle.block.specs.Block.{decode}
 use Rattle.block.specs.WellFormed.{well_formed}
-use Rattle.steptable.specs.declared.Given.{Given}
+use Rattle.steptable.specs.TableText.{Given}
 use Rattle.refusals.specs.Early.{text_refused}
 use Rattle.register.specs.CallOn.{turned, call_on}
-use Rattle.register.specs.Made.{answered_by}
-use Rattle.register.specs.declared.Answer.{Answer}
+use Rattle.register.specs.Answer.{Answer, answered_by}
 use Rattle.slips.specs.Slip.{slip, slip_size, slip_before, slip_giver, SlipMade}
 use Rattle.slips.specs.TakeBack.{restored, take_back_on, TakeBackMade}
 

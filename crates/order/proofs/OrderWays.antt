@@ -23,13 +23,13 @@ use Rattle.block.specs.Layout.{most_subjects}
 use Rattle.block.specs.Block.{subjects_in, decode}
 use Rattle.block.specs.WellFormed.{well_formed}
 use Rattle.block.proofs.Bytes.{two_stored}
-use Rattle.steptable.specs.declared.Given.{Given}
+use Rattle.steptable.specs.TableText.{Given}
 use Rattle.refusals.specs.Early.{order_refusal}
 use Rattle.refusals.proofs.EarlyTests.{receives}
 use Rattle.search.specs.Found.{OrderFound}
 use Rattle.order.specs.Items.{item_size, order_size, item_bytes, ItemsHeld}
-use Rattle.order.specs.OrderOn.{order_refusal_on, unlisted_by, OrderWritten, OrderMade, OrderFront}
-use Rattle.order.specs.declared.Listed.{Listed}
+use Rattle.order.specs.OrderOn.{order_refusal_on, OrderWritten, OrderMade, OrderFront}
+use Rattle.order.specs.Listed.{Listed, unlisted_by}
 
 -- ── the bytes of subjects and their limits ──
 module _ (l : List ℤ) where

@@ -3,18 +3,14 @@ use Rattle.std.specs.Prelude.{◌≡◌, ◌≢◌, cond, List, [], ◌++◌, �
 use Rattle.rules.specs.Register.{Register}
 use Rattle.rules.specs.Order.{IsOrder, order_bytes}
 use Rattle.block.specs.Block.{decode}
-use Rattle.steptable.specs.declared.Given.{Given}
+use Rattle.steptable.specs.TableText.{Given}
 use Rattle.refusals.specs.Early.{order_refusal}
 use Rattle.order.specs.Items.{item_size, order_size}
-use Rattle.order.specs.declared.Listed.{Listed}
+use Rattle.order.specs.Listed.{Listed}
 
 -- 1 where the buffer is not 128 bytes; else the first that applies of 1 for the block, what was passed, 7 and 17 by the step table's text, 8, what the register holds
 unfoldable pub order_refusal_on : Given → List ℕ → ℕ → List ℕ → ℕ
 order_refusal_on k b v buf = cond (eqb (length buf) order_size) (order_refusal k.refusal b v) 1
-
--- what a refused order call returns
-abbrev pub unlisted_by : ℕ → Listed
-unlisted_by n = record { refusal = n; subjects = 0 }
 
 -- the order for v was written, n subjects, two bytes each; the bytes past them don't change
 pub record OrderWritten (t : List ℤ) (R : Register) (v : ℕ) (before : List ℕ) (n : ℕ) (after : List ℕ) : Type 0 where

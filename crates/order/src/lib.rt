@@ -1,16 +1,18 @@
 // Document 02's order call: from whom a right can come to a receiver, heaviest first, written into a lent buffer; by document 01's own step table, or by one that the host lends as text.
 #![tactic(auto)]
 
-ghost use Rattle.std.specs.Prelude.{◌≡◌, ◌++◌, ◌*◌, length, take, drop};
+ghost use Rattle.std.specs.Prelude.{◌≡◌, ◌++◌, ◌*◌, length, take, drop, IfOk};
 ghost use Rattle.rules.specs.Table.{TableRule};
+ghost use Rattle.rules.specs.Refused.{refused_with};
 ghost use Rattle.block.specs.Block.{decode};
 ghost use Rattle.refusals.specs.Checked.{Receives};
 ghost use Rattle.steptable.specs.TableText.{given};
 ghost use Rattle.order.specs.Items.{item_size, order_size, item_bytes, ItemsHeld};
-ghost use Rattle.order.specs.OrderOn.{unlisted_by, OrderWritten, OrderMade, OrderFront};
+ghost use Rattle.order.specs.Listed.{listed_of};
+ghost use Rattle.order.specs.OrderOn.{order_refusal_on, OrderWritten, OrderMade, OrderFront};
 
 use block::layout;
-use rules::refusal;
+use rules::Refusal;
 
 // The bytes of a subject and its limit.
 pub const ITEM_SIZE: usize = 2;
@@ -18,35 +20,16 @@ pub const ITEM_SIZE: usize = 2;
 // The length of the lent buffer: room for all subjects.
 pub const ORDER_SIZE: usize = ITEM_SIZE * layout::SUBJECTS;
 
-// The refusal number of the order call, 0 when accepted, and how many subjects were written.
-#[derive(Clone, Copy)]
-pub struct Listed {
-    pub refusal: u32,
-    pub subjects: usize,
-}
-
-// Refused: no subject is written.
-fn unlisted(number: u32) -> Listed
-    ensures { result ≡ unlisted_by number }
-{
-    Listed {
-        refusal: number,
-        subjects: 0,
-    }
-}
-
 // The first `count` subjects of a list, each with its limit, two bytes a subject.
 fn write_items(limits: &[i16], order: &[u8], count: usize, buf: &mut [u8])
     requires { ItemsHeld limits.now order.now count buf.old }
     ensures { buf.new ≡ item_bytes limits.now (take count order.now) ++ drop (item_size * count) buf.old }
 {
-    let mut i: usize = 0;
-    while i < count {
+    for i in 0..count {
         let subject = order[i];
         let limit = limits[subject as usize];
         buf[ITEM_SIZE * i] = subject;
         buf[ITEM_SIZE * i + 1] = limit as u8;
-        i += 1;
     }
 }
 
@@ -62,36 +45,33 @@ fn write_found(block: &[u8], table: &[i16], receiver: usize, buf: &mut [u8]) -> 
     count
 }
 
-// Writes the order for a receiver into `buf`, by the step table of a text, ours where it is empty.
-pub fn write_order(block: &[u8], receiver: u32, table: &[u8], buf: &mut [u8]) -> Listed
-    ensures { OrderMade (given table.now) block.now receiver buf.old result buf.new }
+// Writes the order for a receiver into `buf`, by the step table of a text, ours where it is empty; how many subjects.
+pub fn write_order(
+    block: &[u8],
+    receiver: u32,
+    table: &[u8],
+    buf: &mut [u8],
+) -> Result<usize, Refusal>
+    ensures { OrderMade (given table.now) block.now receiver buf.old (listed_of result) buf.new }
 {
     if buf.len() != ORDER_SIZE {
-        return unlisted(refusal::WRONG_LENGTH);
+        return Err(Refusal::WrongLength);
     }
-    let g = steptable::read_table(table);
-    let n = refusals::order_refusal(block, g.refusal, receiver);
-    if n != 0 {
-        return unlisted(n);
-    }
-    let count = write_found(block, &g.steps, receiver as usize, buf);
-    Listed {
-        refusal: 0,
-        subjects: count,
-    }
+    let table = steptable::read_table(table);
+    let steps = refusals::order_allowed(block, &table, receiver)?;
+    Ok(write_found(block, steps, receiver as usize, buf))
 }
 
-// The same: tells the refusal, 0 when accepted, and hands back the filled front of `buf`, empty where refused.
+// The same: hands back the filled front of `buf`.
 pub fn order<'a>(
     block: &[u8],
     receiver: u32,
     table: &[u8],
-    refusal: &mut u32,
     buf: &'a mut [u8],
-) -> &'a mut [u8]
-    ensures { OrderFront (given table.now) block.now receiver buf.old refusal.new result.now × (result.ref_ptr ≡ buf.entry.ref_ptr) }
+) -> Result<&'a mut [u8], Refusal>
+    ensures refusal { refused_with result ≡ order_refusal_on (given table.now) block.now receiver buf.old }
+    ensures front { IfOk result (λ part. OrderFront (given table.now) block.now receiver buf.old 0 part.now × (part.ref_ptr ≡ buf.entry.ref_ptr)) }
 {
-    let written = write_order(block, receiver, table, buf);
-    let end = ITEM_SIZE * written.subjects;
-    refusals::front(written.refusal, end, refusal, buf)
+    let subjects = write_order(block, receiver, table, buf)?;
+    Ok(&mut buf[..ITEM_SIZE * subjects])
 }

@@ -2,33 +2,34 @@
 use mathlib.Core.Path.{◌≡◌, refl, sym, ap, subst, ◌∙◌}
 use mathlib.Core.Logic.{◌≢◌, ◌⊎◌, inl, inr}
 use mathlib.Core.Bool.{Bool, true, false, not, cond}
-use mathlib.Core.List.{List, ◌∷◌}
-use Prim.Native.Nat.{ℕ, zero, suc, ◌-◌, ◌/◌, ◌%◌, ◌^◌, ◌≤◌, ◌<◌, max}
+use mathlib.Core.List.{List}
+use Prim.Native.Nat.{ℕ, zero, suc, ◌-◌, ◌/◌, ◌%◌, ◌^◌, ◌≤◌, ◌<◌, min}
 use native.Mathlib.Nat.{zero-lt-suc, pow-suc}
 use native.Mathlib.Omega.{arith}
-use lib.Bits.{bit_or, bit_xor, differ}
+use lib.Bits.{bit_and}
+use mir.Syntax.{w64}
+use Rattle.std.specs.Int.{bit_at, bit_not}
+use Rattle.std.proofs.lemmas.Nat.Bits.{bit_at_lowest, bit_at-suc, bit_at_not}
 use lib.Count.{under, count_trailing_zeros}
 use lib.Dec.{T, eqb, eqb→eq, ltb, ltb→lt, nltb→le}
 use lib.ListN.{length, get_or, set, replicate, length-set, length-replicate, get_or-replicate, get_or-eq_default}
 use lib.Seq.{get_or-set_same, get_or-set_other}
 use Rattle.rules.proofs.Lists.{T_true, unset, either, eq_to_eqb, eq_or}
 use Rattle.rules.specs.Bits.{bit, BitPut}
-use Rattle.rules.proofs.Bits.{bit_zero, bit_small, bit_or_lem, bit_xor_lem}
-use Rattle.queue.specs.Queue.{set_bits, Without, Lowest, waits, BitSet, group_of, place_of, Covered, Taken}
+use Rattle.rules.proofs.Bits.{bit_zero, bit_small, bit_high, bit_and_lem}
+use Rattle.queue.specs.Queue.{set_bits, Without, Lowest, left, members, waits, group_of, place_of, Covered, Taken}
 
 -- what is left of a set without the members of another
-pub bits_without : (n m : ℕ) → Without n m (bit_xor (bit_or n m) m)
-bits_without n m y =
-    bit_xor_lem (bit_or n m) m y ∙ ap (λ (x : ℕ). differ x (bit m y)) (bit_or_lem n m y) ∙ go (bit n y) (bit m y) (bit_small n y) (bit_small m y)
+pub bits_without : (n m : ℕ) → n < 2 ^ set_bits → m < 2 ^ set_bits → Without n m (bit_and n (bit_not w64 m))
+bits_without n m h k y = bit_and_lem n (bit_not w64 m) y ∙ go (either (ltb y set_bits))
   where
-    go : (x z : ℕ) → x < 2 → z < 2 → differ (max x z) z ≡ x - z
-    go zero zero h k = refl
-    go zero (suc zero) h k = refl
-    go (suc zero) zero h k = refl
-    go (suc zero) (suc zero) h k = refl
-    go zero (suc (suc z)) h k = absurd (omega arith)
-    go (suc zero) (suc (suc z)) h k = absurd (omega arith)
-    go (suc (suc x)) z h k = absurd (omega arith)
+    at : (x i : ℕ) → bit x i ≡ bit_at x i
+    at x zero = sym (bit_at_lowest x)
+    at x (suc i) = at (x / 2) i ∙ sym (bit_at-suc x i)
+
+    go : T (ltb y set_bits) ⊎ T (not (ltb y set_bits)) → min (bit n y) (bit (bit_not w64 m) y) ≡ bit n y - bit m y
+    go (inl q) = omega (arith, at (bit_not w64 m) y, bit_at_not w64 m y k (ltb→lt y set_bits q), at m y, bit_small n y, bit_small m y)
+    go (inr q) = omega (arith, bit_high n set_bits y h (nltb→le y set_bits q))
 
 -- a member less
 pub put_out : (n y one m : ℕ) → BitPut 0 y 1 one → Without n one m → BitPut n y 0 m
@@ -38,44 +39,6 @@ put_out n y one m put w = record {
 }
 
 -- ── one who waits more or less ──
--- in the first set of a list
-pub put_first : (n m y b : ℕ) (q : List ℕ) → BitPut n y b m → BitSet (n ∷ q) 0 y b (m ∷ q)
-put_first n m y b q put = record { size = refl; here = put.here; others = go }
-  where
-    go : (x w : ℕ) → (0 ≢ x) ⊎ (y ≢ w) → waits (m ∷ q) x w ≡ waits (n ∷ q) x w
-    go (suc x) w d = refl
-    go zero w (inl d) = absurd (d refl)
-    go zero w (inr d) = put.others w d
-
--- in a later one
-pub put_later : (n y b g : ℕ) (q q' : List ℕ) → BitSet q g y b q' → BitSet (n ∷ q) (suc g) y b (n ∷ q')
-put_later n y b g q q' put = record { size = ap suc put.size; here = put.here; others = go }
-  where
-    past : (x : ℕ) {w : ℕ} → (suc g ≢ suc x) ⊎ (y ≢ w) → (g ≢ x) ⊎ (y ≢ w)
-    past x (inl d) = inl (λ e. d (ap suc e))
-    past x (inr d) = inr d
-
-    go : (x w : ℕ) → (suc g ≢ x) ⊎ (y ≢ w) → waits (n ∷ q') x w ≡ waits (n ∷ q) x w
-    go zero w d = refl
-    go (suc x) w d = put.others x w (past x d)
-
--- in any
-pub put_at : (y b g v : ℕ) (q : List ℕ) → g < length q → BitPut (get_or q g 0) y b v → BitSet q g y b (set q g v)
-put_at y b g v q h put = record { size = length-set q g v; here = ap (λ (n : ℕ). bit n y) (get_or-set_same q g v 0 h) ∙ put.here; others = λ x w n. go x w n (eq_or g x) }
-  where
-    go : (x w : ℕ) → (g ≢ x) ⊎ (y ≢ w) → (g ≡ x) ⊎ (g ≢ x) → waits (set q g v) x w ≡ waits q x w
-    go x w n (inr d) = ap (λ (m : ℕ). bit m w) (get_or-set_other q g x v 0 (λ e. d (sym e)))
-    go x w (inl d) (inl e) = absurd (d e)
-    go x w (inr d) (inl e) = subst (λ (i : ℕ). waits (set q g v) i w ≡ waits q i w) e (ap (λ (m : ℕ). bit m w) (get_or-set_same q g v 0 h) ∙ put.others w d)
-
--- one group more covers one who waits in it
-pub covered_join : (q : List ℕ) (g v far far' : ℕ) → Covered q far → BitPut far g 1 far' → Covered (set q g v) far'
-covered_join q g v far far' c put x w h = go (eq_or g x)
-  where
-    go : (g ≡ x) ⊎ (g ≢ x) → waits (set q g v) x w ≡ 0
-    go (inl e) = absurd (omega (arith, put.here, ap (bit far') e ∙ h))
-    go (inr n) = ap (λ (m : ℕ). bit m w) (get_or-set_other q g x v 0 (λ e. n (sym e))) ∙ c x w (sym (put.others x n) ∙ h)
-
 -- a group in which none waits needs no cover
 pub covered_take : (q q' : List ℕ) (g settled r far far' : ℕ) → Covered q far → Taken q g settled r q' → BitPut far g 0 far' → Covered q' far'
 covered_take q q' g settled r far far' c t put x w h = go (eq_or g x)
@@ -145,11 +108,6 @@ other_test m n d = go (either (eqb m n))
     go (inr h) = unset (eqb m n) h
 
 -- ── how many are open ──
--- how many of the first n numbers are not among those that f holds for
-unfoldable pub left : (ℕ → Bool) → ℕ → ℕ
-left f zero = 0
-left f (suc n) = cond (f n) (left f n) (suc (left f n))
-
 pub left_few : (f : ℕ → Bool) (n : ℕ) → left f n ≤ n
 unfolding left
 left_few f zero = omega arith
@@ -192,10 +150,6 @@ left_falls f g (suc n) u h a b o = go (eq_or u n) (left_falls f g n u)
         → cond (g n) (left g n) (suc (left g n)) < cond (f n) (left f n) (suc (left f n))
     go (inl e) more = here (f n) (g n) (subst (λ (i : ℕ). T (not (f i))) e a) (subst (λ (i : ℕ). T (g i)) e b) (left_most f g n o)
     go (inr d) more = both (f n) (g n) (o n) (more (omega (arith, d)) a b o)
-
--- how many are in a set
-abbrev pub members : ℕ → ℕ
-members n = left (λ y. eqb (bit n y) 0) set_bits
 
 pub members_few : (n : ℕ) → members n ≤ set_bits
 members_few n = left_few (λ y. eqb (bit n y) 0) set_bits

@@ -1,8 +1,8 @@
 -- The subjects that wait to be settled, by limit: a bucket queue. The levels, which are the limits, stand in groups of four, the highest group first. One level is at hand: those who wait at it wait here, the others who
 -- wait in its group wait near, each in the bits of one number, and all others wait far: entry g of the queue is the set of those who wait in group g.
 -- Assumes nothing.
-use Rattle.std.specs.Prelude.{◌≡◌, ◌≢◌, ◌⊎◌, cond, List, ℕ, suc, ◌*◌, ◌-◌, ◌/◌, ◌<◌, eqb, length, get_or}
-use Rattle.rules.specs.Bits.{bit}
+use Rattle.std.specs.Prelude.{◌≡◌, ◌≢◌, ◌⊎◌, Bool, cond, Option, MatchOption, List, ℕ, zero, suc, ◌*◌, ◌-◌, ◌/◌, ◌<◌, eqb, length, get_or}
+use Rattle.rules.specs.Bits.{bit, BitPut}
 use Rattle.queue.specs.declared.Sets.{Sets}
 
 -- the levels: the limits from 0 to 255
@@ -26,6 +26,19 @@ pub record Lowest (n y : ℕ) : Type 0 where
   pub small : y < set_bits
   pub member : bit n y ≡ 1
   pub least : (x : ℕ) → x < y → bit n x ≡ 0
+
+-- the lowest member of n is given, and m is n without it; none where n has none
+abbrev pub GivesLowest : ℕ → Option ℕ → ℕ → Type 0
+GivesLowest n r m = MatchOption r ((n ≡ 0) × (m ≡ 0)) (λ y. Lowest n y × BitPut n y 0 m)
+
+-- how many of the first n numbers are not among those that f holds for
+unfoldable pub left : (ℕ → Bool) → ℕ → ℕ
+left f zero = 0
+left f (suc n) = cond (f n) (left f n) (suc (left f n))
+
+-- how many are in a set
+abbrev pub members : ℕ → ℕ
+members n = left (λ y. eqb (bit n y) 0) set_bits
 
 -- 1 where y is a member of entry x of a list of sets, 0 where it is not
 abbrev pub waits : List ℕ → ℕ → ℕ → ℕ

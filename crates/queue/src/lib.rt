@@ -2,8 +2,9 @@
 #![tactic(auto)]
 
 ghost use Rattle.std.specs.Prelude.{◌≡◌, ◌≢◌, ◌∷◌, ◌<◌, length};
+ghost use Rattle.std.specs.Iterator.{at_most};
 ghost use Rattle.rules.specs.Bits.{BitPut};
-ghost use Rattle.queue.specs.Queue.{levels, groups, set_bits, Without, Lowest, BitSet, group_of, place_of, Covered, IsQueue, Taken, owner_here};
+ghost use Rattle.queue.specs.Queue.{levels, groups, set_bits, Without, Lowest, GivesLowest, members, BitSet, group_of, place_of, Covered, IsQueue, Taken, owner_here};
 
 // The levels: the limits from 0 to 255.
 const LEVELS: usize = 256;
@@ -14,7 +15,7 @@ const GROUP: usize = 4;
 pub const GROUPS: usize = LEVELS / GROUP;
 
 // The subjects that wait at the level at hand, the others that wait in its group, and the groups of the queue in which others may wait.
-#[derive(Drop)]
+#[derive(Clone, Copy)]
 pub struct Sets {
     pub here: u64,
     pub near: u64,
@@ -33,7 +34,7 @@ pub fn with(set: u64, member: usize) -> u64
 pub fn minus(set: u64, other: u64) -> u64
     ensures { Without set other result }
 {
-    (set | other) ^ other
+    set & !other
 }
 
 // A set without this member.
@@ -49,7 +50,28 @@ pub fn lowest(set: u64) -> usize
     requires { set ≢ 0 }
     ensures { Lowest set result }
 {
-    u64::trailing_zeros(set) as usize
+    set.trailing_zeros() as usize
+}
+
+// The members of a set, from the lowest on.
+#[derive(Clone, Copy)]
+pub struct Members(pub u64);
+
+impl Iterator for Members {
+    type Item = usize;
+
+    ghost next_gives = { λ s r t. GivesLowest s.0 r t.0 };
+
+    ghost remaining = { λ s. at_most (members s.0) };
+
+    fn next(&mut self) -> Option<usize> {
+        if self.0 == 0 {
+            return None;
+        }
+        let first = lowest(self.0);
+        self.0 = without(self.0, first);
+        Some(first)
+    }
 }
 
 // Subject 0 alone waits, here.
@@ -71,7 +93,7 @@ pub fn apart(sets: Sets, subject: usize) -> Sets
     Sets {
         here: without(sets.here, subject),
         near: without(sets.near, subject),
-        far: sets.far,
+        ..sets
     }
 }
 
@@ -90,23 +112,20 @@ pub fn join(queue: &mut [u64], at: usize, level: usize, subject: usize, sets: Se
     if level == at {
         return Sets {
             here: with(sets.here, subject),
-            near: sets.near,
-            far: sets.far,
+            ..sets
         };
     }
     let group = group_of(level);
     if group == group_of(at) {
         return Sets {
-            here: sets.here,
             near: with(sets.near, subject),
-            far: sets.far,
+            ..sets
         };
     }
     queue[group] = with(queue[group], subject);
     Sets {
-        here: sets.here,
-        near: sets.near,
         far: with(sets.far, group),
+        ..sets
     }
 }
 

@@ -1,5 +1,5 @@
 -- The table of reaches, filled row by row. Assumes nothing.
-use mathlib.Core.Path.{◌≡◌, refl, sym, ap, subst, ◌∙◌}
+use mathlib.Core.Path.{◌≡◌, sym, ap, subst, ◌∙◌}
 use mathlib.Core.Logic.{◌≢◌, ◌⊎◌, inl, inr}
 use mathlib.Core.Bool.{true, not}
 use mathlib.Core.List.{List, ◌++◌}
@@ -9,8 +9,8 @@ use native.Mathlib.Omega.{arith}
 use borrow.Author.Count.{below_more}
 use lib.Bits.{bit_and, bit_or}
 use lib.Dec.{T, ltb, ltb→lt, nltb→le}
-use lib.ListN.{length, get_or, set, take, drop, get_or-append}
-use lib.Seq.{length-take-le, get_or-append-add, get_or-take, get_or-drop, get_or-set_same, get_or-set_other}
+use lib.ListN.{length, get_or, take, drop, get_or-append}
+use lib.Seq.{length-take-le, get_or-append-add, get_or-take, get_or-drop}
 use lib.IntN.{ℤ, pos}
 use Rattle.rules.specs.List.{◌∈◌}
 use Rattle.rules.specs.Register.{Delegation, Register, marks_of}
@@ -26,7 +26,6 @@ use Rattle.block.specs.Records.{delegation_at}
 use Rattle.block.proofs.Bytes.{length_tabulate, tabulate_mem}
 use Rattle.block.proofs.Held.{delegations_held, record_held}
 use Rattle.rules.specs.Bits.{bit, BitPut}
-use Rattle.queue.specs.Queue.{Lowest}
 use Rattle.rules.proofs.Bits.{bit_zero, bit_or_lem, bit_shr}
 use Rattle.runs.specs.Lent.{delegations_in}
 use Rattle.search.specs.Search.{under_marks}
@@ -63,23 +62,6 @@ module _ {A : Type 0} (l ys : List A) (a k : ℕ) (z : A) (fits : a + k ≤ leng
       ∙ get_or-drop a l (k + (i - (a + k))) z
       ∙ ap (λ (m : ℕ). get_or l m z) f
 
--- nothing copied yet
-pub copied_none : (b a : ℕ) (l : List ℤ) → PlacesCopied b a 0 l l
-copied_none b a l = record { there = λ i h. absurd (omega arith); rest = λ i h. refl }
-
--- one more place copied, from before all that are written
-pub copied_on : (b a n : ℕ) (l m : List ℤ) (x : ℤ) → b + n < a → a + n < length m → x ≡ get_or m (b + n) (pos 0) → PlacesCopied b a n l m → PlacesCopied b a (n + 1) l (set m (a + n) x)
-copied_on b a n l m x before room e c = record {
-  there = below_more (λ i. get_or (set m (a + n) x) (a + i) (pos 0) ≡ get_or l (b + i) (pos 0)) n
-      (λ i h. get_or-set_other m (a + n) (a + i) x (pos 0) (λ q. omega arith) ∙ c.there i h)
-      (get_or-set_same m (a + n) x (pos 0) room ∙ e ∙ c.rest (b + n) (inl before));
-  rest = kept;
-}
-  where
-    kept : (i : ℕ) → (i < a) ⊎ (a + (n + 1) ≤ i) → get_or (set m (a + n) x) i (pos 0) ≡ get_or l i (pos 0)
-    kept i (inl h) = get_or-set_other m (a + n) i x (pos 0) (λ q. omega arith) ∙ c.rest i (inl h)
-    kept i (inr h) = get_or-set_other m (a + n) i x (pos 0) (λ q. omega arith) ∙ c.rest i (inr (omega arith))
-
 -- what holds of each delegation at a place holds of each delegation of the register
 pub each_held : (P : Delegation → Type 0) (b : List ℕ) (bytes : IsBytes b) (formed : well_formed b ≡ true) (n : ℕ) → n ≡ count_in b → ((k : ℕ) → k < n → P (delegation_at b k)) → (d : Delegation) → d ∈ (decode b).delegations → P d
 each_held P b bytes formed n e h d m =
@@ -94,23 +76,15 @@ held_each P b bytes formed n e h k l = h (delegation_at b k) (record_held b byte
 pub bit_read : (n k : ℕ) → n / 2 ^ k % 2 ≡ bit n k
 bit_read n k = bit_shr n k 0 ∙ ap (bit n) (add-zero k)
 
--- one more of a set
-pub set_on : (f : ℕ → ℕ) (set set' k : ℕ) → BitPut set (f k) 1 set' → ((j : ℕ) → j < k → bit set (f j) ≡ 1) → (j : ℕ) → j < k + 1 → bit set' (f j) ≡ 1
-set_on f set set' k put h = below_more (λ j. bit set' (f j) ≡ 1) k (λ j l. go j (h j l) (eq_or (f k) (f j))) put.here
-  where
-    go : (j : ℕ) → bit set (f j) ≡ 1 → (f k ≡ f j) ⊎ (f k ≢ f j) → bit set' (f j) ≡ 1
-    go j w (inl e) = ap (bit set') (sym e) ∙ put.here
-    go j w (inr d) = put.others (f j) d ∙ w
-
 -- the marks of two more numbers
 pub names_on : (f g : ℕ → ℕ) (named k : ℕ) → ((j : ℕ) → j < k → MarksAmong (f j) named × MarksAmong (g j) named) → (j : ℕ) → j < k + 1
-    → MarksAmong (f j) (bit_or (bit_or named (f k)) (g k)) × MarksAmong (g j) (bit_or (bit_or named (f k)) (g k))
-names_on f g named k h = below_more (λ j. MarksAmong (f j) (bit_or (bit_or named (f k)) (g k)) × MarksAmong (g j) (bit_or (bit_or named (f k)) (g k))) k
+    → MarksAmong (f j) (bit_or named (bit_or (f k) (g k))) × MarksAmong (g j) (bit_or named (bit_or (f k) (g k)))
+names_on f g named k h = below_more (λ j. MarksAmong (f j) (bit_or named (bit_or (f k) (g k))) × MarksAmong (g j) (bit_or named (bit_or (f k) (g k)))) k
     (λ j l. ((λ y. omega (arith, wide y, (h j l).0 y)), (λ y. omega (arith, wide y, (h j l).1 y))))
     ((λ y. omega (arith, wide y)), (λ y. omega (arith, wide y)))
   where
-    wide : (y : ℕ) → bit (bit_or (bit_or named (f k)) (g k)) y ≡ max (max (bit named y) (bit (f k) y)) (bit (g k) y)
-    wide y = bit_or_lem (bit_or named (f k)) (g k) y ∙ ap (λ (x : ℕ). max x (bit (g k) y)) (bit_or_lem named (f k) y)
+    wide : (y : ℕ) → bit (bit_or named (bit_or (f k) (g k))) y ≡ max (bit named y) (max (bit (f k) y) (bit (g k) y))
+    wide y = bit_or_lem named (bit_or (f k) (g k)) y ∙ ap (max (bit named y)) (bit_or_lem (f k) (g k) y)
 
 module _ (t : List ℤ) (R : Register) (set : ℕ) where
   -- each subject below n that is in the set has its row, or is one of the rest
@@ -118,26 +92,8 @@ module _ (t : List ℤ) (R : Register) (set : ℕ) where
     pub size : length l ≡ reach_count
     pub rows : (r : ℕ) → r < n → bit set r ≡ 1 → (bit rest r ≡ 1) ⊎ HasRow t R r l
 
-  pub filling_none : (n : ℕ) (l : List ℤ) → length l ≡ reach_count → Filling n set l
-  filling_none n l size = record { size = size; rows = λ r h w. inl w }
-
   module _ (n rest : ℕ) (l : List ℤ) (f : Filling n rest l) where
-    -- the rows before the lowest of the rest
-    pub filling_before : (v : ℕ) → Lowest rest v → v < n → Filled t R set v l
-    filling_before v low h = record { size = f.size; rows = λ r k w. go r k (f.rows r (omega arith) w) }
-      where
-        go : (r : ℕ) → r < v → (bit rest r ≡ 1) ⊎ HasRow t R r l → HasRow t R r l
-        go r k (inl w) = absurd (omega (arith, w, low.least r k))
-        go r k (inr row) = row
-
     module _ (v rest' : ℕ) (out : BitPut rest v 0 rest') where
-      pub filling_skip : n ≤ v → Filling n rest' l
-      filling_skip h = record { size = f.size; rows = λ r k w. go r k (f.rows r k w) }
-        where
-          go : (r : ℕ) → r < n → (bit rest r ≡ 1) ⊎ HasRow t R r l → (bit rest' r ≡ 1) ⊎ HasRow t R r l
-          go r k (inl w) = inl (out.others r (λ e. omega arith) ∙ w)
-          go r k (inr row) = inr row
-
       pub filling_on : (m : List ℤ) → length m ≡ length l → RowMade t R v l m → Filling n rest' m
       filling_on m kept made = record { size = kept ∙ f.size; rows = λ r k w. go r (eq_or v r) (f.rows r k w) }
         where

@@ -13,12 +13,10 @@ fn receivers(block: &[u8], n: usize) -> u64
     requires { HasRecords block.now n × ((k : ℕ) → k < n → (delegation_at block.now k).receiver < set_bits) }
     ensures { HasReceivers (delegation_at block.now) n result }
 {
-    let mut set: u64 = 0;
-    let mut k: usize = 0;
-    while k < n {
-        let receiver = block::receiver(block, k) as usize;
+    let mut set = 0;
+    for k in 0..n {
+        let receiver = usize::from(block::receiver(block, k));
         set = queue::with(set, receiver);
-        k += 1;
     }
     set
 }
@@ -28,11 +26,9 @@ fn named_marks(block: &[u8], n: usize) -> u16
     requires { HasRecords block.now n }
     ensures { FirstNamed (delegation_at block.now) n result }
 {
-    let mut named: u16 = 0;
-    let mut k: usize = 0;
-    while k < n {
-        named = named | block::need(block, k) | block::bar(block, k);
-        k += 1;
+    let mut named = 0;
+    for k in 0..n {
+        named |= block::need(block, k) | block::bar(block, k);
     }
     named
 }

@@ -15,7 +15,7 @@ pub use indexed::index_of;
 pub use reaches::REACHES;
 
 // A decoded delegation; a round lowers the weight of one that it removes to -1.
-#[derive(Clone, Copy)]
+#[derive(Clone, Copy, Default)]
 struct Delegation {
     giver: u8,
     receiver: u8,
@@ -47,6 +47,5 @@ pub fn reckon(
     ensures { Reckoned table.now block.now result weights.new × Empty waiting.new }
 {
     reaches::fill_reaches(block, starts, table, index, reaches, waiting);
-    let n = index.count;
-    lower::lower_all(block, reaches, n, weights)
+    lower::lower_all(block, reaches, index.count, weights)
 }

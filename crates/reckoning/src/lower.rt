@@ -15,11 +15,10 @@ fn decoded_at(block: &[u8], k: usize) -> Delegation
     requires { HasRecord block.now k }
     ensures { result ≡ decoded_as (delegation_at block.now k) }
 {
-    let weight = block::weight(block, k);
     Delegation {
         giver: block::giver(block, k),
         receiver: block::receiver(block, k),
-        weight: weight as i16,
+        weight: i16::from(block::weight(block, k)),
         need: block::need(block, k),
         bar: block::bar(block, k),
     }
@@ -30,19 +29,9 @@ fn decoded(block: &[u8], first: usize, n: usize) -> [Delegation; RUN]
     requires { HasRecords block.now (first + n) × (first + n ≤ most_records) × (n ≤ run_size) }
     ensures { Decoded (λ k. delegation_at block.now (first + k)) n result }
 {
-    let none = Delegation {
-        giver: 0,
-        receiver: 0,
-        weight: 0,
-        need: 0,
-        bar: 0,
-    };
-    let mut ds = [none; RUN];
-    let mut k: usize = 0;
-    while k < n {
-        let d = decoded_at(block, first + k);
-        ds[k] = d;
-        k += 1;
+    let mut ds = [Delegation::default(); RUN];
+    for k in 0..n {
+        ds[k] = decoded_at(block, first + k);
     }
     ds
 }
@@ -51,60 +40,31 @@ fn decoded(block: &[u8], first: usize, n: usize) -> [Delegation; RUN]
 fn lowered_weight(reaches: &[i16], giver: u8, receiver: u8, weight: i16) -> i16
     ensures { result ≡ lowered_to reaches.now giver receiver weight }
 {
-    let at = layout::SUBJECTS * (receiver as usize) + (giver as usize);
-    if at < reaches.len() {
-        let reach = reaches[at];
-        if reach < weight {
-            return reach;
-        }
+    let at = layout::SUBJECTS * usize::from(receiver) + usize::from(giver);
+    match reaches.get(at) {
+        Some(reach) if *reach < weight => *reach,
+        _ => weight,
     }
-    weight
 }
 
 // Every delegation of a lent run lowered to its reach, all together.
 fn lower(ds: &mut [Delegation], reaches: &[i16])
     ensures { ds.new ≡ map (lower_one reaches.now) ds.old }
 {
-    let mut i = 0;
-    while i < ds.len() {
-        let d = ds[i];
-        let w = lowered_weight(reaches, d.giver, d.receiver, d.weight);
-        ds[i].weight = w;
-        i += 1;
+    for d in ds.iter_mut() {
+        d.weight = lowered_weight(reaches, d.giver, d.receiver, d.weight);
     }
 }
 
-// The first `n` delegations of an array, lent as a run and lowered.
-fn lowered(ds: [Delegation; RUN], n: usize, reaches: &[i16]) -> [Delegation; RUN]
-    requires { n ≤ run_size }
-    ensures { result ≡ map (lower_one reaches.now) (take n ds) ++ drop n ds }
-{
-    let mut run = ds;
-    lower(&mut run[..n], reaches);
-    run
-}
-
-// The weights of `n` delegations, stored from the place `first` on; whether one is below the weight that its record has.
-fn read_weights(
-    block: &[u8],
-    ds: [Delegation; RUN],
-    first: usize,
-    n: usize,
-    weights: &mut [i16],
-) -> bool
-    requires { RunAsked block.now first n weights.old }
-    ensures { WeightsRead (delegation_at block.now) ds first n result weights.old weights.new }
+// The weights of decoded delegations, stored from the place `first` on; whether one is below the weight that its record has.
+fn read_weights(block: &[u8], ds: &[Delegation], first: usize, weights: &mut [i16]) -> bool
+    requires { RunAsked block.now first (length ds.now) weights.old }
+    ensures { WeightsRead (delegation_at block.now) ds.now first (length ds.now) result weights.old weights.new }
 {
     let mut changed = false;
-    let mut k: usize = 0;
-    while k < n {
-        let d = ds[k];
-        let weight = d.weight;
-        weights[first + k] = weight;
-        if weight < block::weight(block, first + k) as i16 {
-            changed = true;
-        }
-        k += 1;
+    for (k, d) in ds.iter().enumerate() {
+        weights[first + k] = d.weight;
+        changed |= d.weight < i16::from(block::weight(block, first + k));
     }
     changed
 }
@@ -114,9 +74,10 @@ fn lower_run(block: &[u8], reaches: &[i16], first: usize, n: usize, weights: &mu
     requires { RunAsked block.now first n weights.old }
     ensures { RunLowered reaches.now (delegation_at block.now) first n result weights.old weights.new }
 {
-    let ds = decoded(block, first, n);
-    let left = lowered(ds, n, reaches);
-    read_weights(block, left, first, n, weights)
+    let mut ds = decoded(block, first, n);
+    let run = &mut ds[..n];
+    lower(run, reaches);
+    read_weights(block, run, first, weights)
 }
 
 // The weights of the first `n` delegations, lowered to their reaches, run by run; whether one was.
@@ -125,19 +86,9 @@ pub fn lower_all(block: &[u8], reaches: &[i16], n: usize, weights: &mut [i16]) -
     ensures { RunLowered reaches.now (delegation_at block.now) 0 n result weights.old weights.new }
 {
     let mut changed = false;
-    let mut k: usize = 0;
-    while RUN <= n - k {
-        if lower_run(block, reaches, k, RUN, weights) {
-            changed = true;
-        }
-        k += RUN;
+    for run in 0..n / RUN {
+        changed |= lower_run(block, reaches, RUN * run, RUN, weights);
     }
-    let rest = n - k;
-    if rest == 0 {
-        return changed;
-    }
-    if lower_run(block, reaches, k, rest, weights) {
-        changed = true;
-    }
-    changed
+    let rest = n % RUN;
+    changed | lower_run(block, reaches, n - rest, rest, weights)
 }

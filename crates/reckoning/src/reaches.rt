@@ -42,12 +42,8 @@ fn copy_row(reaches: &mut [i16], from: usize, to: usize)
     requires { (from < to) × (to < most_subjects) × (length reaches.old ≡ reach_count) }
     ensures { PlacesCopied (most_subjects * from) (most_subjects * to) most_subjects reaches.old reaches.new }
 {
-    let mut i: usize = 0;
-    while i < layout::SUBJECTS {
-        let reach = reaches[layout::SUBJECTS * from + i];
-        reaches[layout::SUBJECTS * to + i] = reach;
-        i += 1;
-    }
+    let at = layout::SUBJECTS * from;
+    reaches.copy_within(at..at + layout::SUBJECTS, layout::SUBJECTS * to);
 }
 
 // The row of one receiver: a copy of the row of the last one before it whose marks agree with its own on all that are named, as a reach looks at nothing else of its receiver; by a search if there is none.
@@ -65,9 +61,8 @@ fn fill_row(
     ensures { RowMade table.now (decode block.now) receiver reaches.old reaches.new × Empty waiting.new }
 {
     let marks = block::marks(block, receiver) & named;
-    let mut other = receiver;
-    while other > 0 {
-        other -= 1;
+    // `for` and not `find`: the proof of what `find` asks of its closure did not close.
+    for other in (0..receiver).rev() {
         if (set >> other) % 2 == 1 && (block::marks(block, other) & named) == marks {
             copy_row(reaches, other, receiver);
             return;
@@ -88,13 +83,10 @@ pub fn fill_reaches(
     requires { Searchable table.now block.now × IndexOf block.now index starts.now × TablesLent reaches.old waiting.old }
     ensures { Tabled table.now (decode block.now) reaches.new × Empty waiting.new }
 {
-    let n = block::subjects(block) as usize;
+    let n = usize::from(block::subjects(block));
     let set = index.receivers;
     let named = index.named;
-    let mut rest = set;
-    while rest != 0 {
-        let receiver = queue::lowest(rest);
-        rest = queue::without(rest, receiver);
+    for receiver in queue::Members(set) {
         if receiver < n {
             fill_row(block, starts, table, named, set, receiver, reaches, waiting);
         }

@@ -1,5 +1,6 @@
 -- Refusals of a cut by what the register holds, test by test as the code makes them; and what a call that makes a change and is not refused may rely on. Assumes nothing.
 use mathlib.Core.Path.{◌≡◌, refl, sym, ap, ◌∙◌}
+use mathlib.Core.Logic.{◌≢◌}
 use mathlib.Core.Bool.{Bool, true, not}
 use mathlib.Core.List.{List, [], ◌∷◌, ◌++◌}
 use Prim.Native.Nat.{ℕ, suc, ◌≤◌, ◌<◌, zero-le}
@@ -12,12 +13,11 @@ use Rattle.rules.specs.Pair.{is_pair, stands}
 use Rattle.rules.specs.Call.{revoke, downgrade, set_marks, retire}
 use Rattle.rules.specs.Refusal.{first_of, subjects_held, owner_only, held, not_below}
 use Rattle.rules.proofs.Lists.{not_not, second_not, T_true}
-use Rattle.rules.proofs.Refusals.{numbered, first_of_append, passes_of}
+use Rattle.rules.proofs.Refusals.{numbered, first_of_none, first_of_some, passes_of}
 use Rattle.block.specs.Bytes.{IsBytes, leading}
 use Rattle.block.specs.Block.{count_in, decode}
 use Rattle.block.specs.WellFormed.{well_formed}
 use Rattle.block.specs.Records.{delegation_at, delegations_to}
-use Rattle.refusals.specs.Joined.{or_else}
 use Rattle.refusals.proofs.Holding.{weight_stands, weight_missing}
 
 module _ (t : List ℤ) (R : Register) (y g r : ℕ) where
@@ -36,8 +36,11 @@ module _ (t : List ℤ) (R : Register) (y g r : ℕ) where
     downgrade_list = refl
 
     -- a downgrade is refused as a revocation is, or by its weight
-    pub downgrade_joined : or_else (first_of (held t R (revoke y g r))) (not_below R g r w) ≡ first_of (held t R (downgrade y g r w))
-    downgrade_joined = sym (ap first_of downgrade_list ∙ first_of_append (held t R (revoke y g r)) (not_below R g r w ∷ []) revoke_numbered)
+    pub downgrade_early : first_of (held t R (revoke y g r)) ≢ 0 → first_of (held t R (revoke y g r)) ≡ first_of (held t R (downgrade y g r w))
+    downgrade_early n = sym (ap first_of downgrade_list ∙ first_of_some (held t R (revoke y g r)) (not_below R g r w ∷ []) (first_of (held t R (revoke y g r))) revoke_numbered refl n)
+
+    pub downgrade_late : first_of (held t R (revoke y g r)) ≡ 0 → first_of (not_below R g r w ∷ []) ≡ first_of (held t R (downgrade y g r w))
+    downgrade_late e = sym (ap first_of downgrade_list ∙ first_of_none (held t R (revoke y g r)) (not_below R g r w ∷ []) revoke_numbered e)
 
     pub downgrade_stands : first_of (held t R (downgrade y g r w)) ≡ 0 → stands R g r ≡ true
     unfolding held

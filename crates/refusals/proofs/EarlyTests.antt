@@ -9,6 +9,10 @@ use borrow.Author.Tests.{eq-eqb}
 use lib.Dec.{T, leb, eqb, eqb→eq, nleb→lt}
 use lib.ListN.{length}
 use lib.IntN.{ℤ}
+use Rattle.std.specs.Prelude.{Result, Ok, Err}
+use Rattle.rules.specs.declared.refusal.Refusal.{Refusal}
+use Rattle.rules.specs.Refused.{refusal_number, refused_with}
+use Rattle.refusals.proofs.First.{number_some}
 use Rattle.rules.specs.Call.{Call, enrol, grant, revoke, downgrade, ask_reach, ask_use, set_marks, retire}
 use Rattle.rules.specs.Refusal.{first_of, passed, held, order_passed, order_held, back_passed, back_held}
 use Rattle.rules.proofs.Refusals.{numbered, passed_numbered, passes_of, first_of_append, first_of_none, first_of_some, first_of_left}
@@ -17,7 +21,7 @@ use Rattle.block.specs.Layout.{block_size}
 use Rattle.block.specs.Block.{decode}
 use Rattle.block.specs.WellFormed.{well_formed}
 use Rattle.steptable.specs.TableText.{lent}
-use Rattle.steptable.specs.declared.Given.{Given}
+use Rattle.steptable.specs.TableText.{Given}
 use Rattle.refusals.specs.Early.{wrong_length, text_refused, not_well_formed, early_by, early, refusal_on, order_refusal, back_refusal}
 use Rattle.refusals.specs.Checked.{InLimits, Checked, Receives}
 use Rattle.refusals.proofs.InLimits.{in_limits}
@@ -144,6 +148,20 @@ early_found {x} {b} {c} {p} {n} e q = record {
     first : first_of (early x b c) ≡ n
     first = by_found x b (passed c) (passed_numbered c) e q
 
+module _ {A : Type 0} {r : Result A Refusal} (x : ℕ) (b : List ℕ) (c : Call) {p : ℕ} (e : p ≡ first_of (passed c)) (q : refused_with r ≡ first_of (early_of x b p)) where
+  pub early_refused : {f : Refusal} → r ≡ Err f → (t : List ℤ) → refusal_number f ≡ refusal_on (lent x t) b c
+  early_refused {f} w t = sym (ap refused_with w) ∙ (early_found {x = x} {b = b} {c = c} e q).refused (λ z. number_some f (sym (ap refused_with w) ∙ z)) t
+
+  pub early_checked : {a : A} → r ≡ Ok a → Checked b c
+  early_checked w = (early_found {x = x} {b = b} {c = c} e q).checked (ap refused_with w)
+
+  pub early_late : {a : A} → r ≡ Ok a → (t : List ℤ) (h : ℕ) → h ≡ first_of (held t (decode b) c) → h ≡ refusal_on (lent x t) b c
+  early_late w t h = (early_found {x = x} {b = b} {c = c} e q).late (ap refused_with w) t h
+
+-- of a call that is not refused, no test of the text applies
+pub text_allowed : (g : Given) (b : List ℕ) (c : Call) → refusal_on g b c ≡ 0 → first_of (text_refused g.refusal) ≡ refusal_on g b c
+text_allowed g b c z = (through g b c z).early.text ∙ sym z
+
 -- ── a call that is in no list: ps are its tests by what was passed, hs those by what the register holds ──
 module _ (n : ℕ) (b : List ℕ) (ps hs : List (ℕ × Bool)) (all : T (numbered ps)) (every : T (numbered (early_by n b ps))) where
   -- m is what the code finds first, from p, the refusal by what was passed
@@ -185,6 +203,11 @@ module _ (n : ℕ) (b : List ℕ) (v : ℕ) where
   receives z =
       let (h, e) = both_none n b (order_passed v) (order_held (decode b) v) tt tt z in
       record { formed = h.formed; receiver = nleb→lt (decode b).subjects v (not_or_left (leb (decode b).subjects v) false (passes_of (order_held (decode b) v) tt e 9)) }
+
+-- no test of the text applies then
+pub order_text : (n : ℕ) (b : List ℕ) (v : ℕ) → order_refusal n b v ≡ 0 → first_of (text_refused n) ≡ 0
+unfolding order_refusal
+order_text n b v z = (both_none n b (order_passed v) (order_held (decode b) v) tt tt z).0.text
 
 -- ── taking a cut back by y, where g is the giver on the slip ──
 module _ (n : ℕ) (b : List ℕ) (y g : ℕ) where

@@ -1,26 +1,22 @@
 -- Refusals by what the register holds, test by test as the code makes them. Assumes nothing.
 use mathlib.Core.Path.{◌≡◌, refl, sym, ap, subst, ◌∙◌}
 use mathlib.Core.Logic.{◌⊎◌, inl, inr}
-use mathlib.Core.Bool.{Bool, true, false, not, cond, ◌&&◌, ◌||◌}
-use mathlib.Core.List.{List, [], ◌∷◌, ◌++◌}
+use mathlib.Core.Bool.{Bool, true, false, not, ◌&&◌, ◌||◌}
+use mathlib.Core.List.{List, [], ◌∷◌}
 use Prim.Native.Nat.{ℕ, suc, ◌≤◌, ◌<◌}
 use native.Mathlib.Omega.{arith}
-use borrow.Author.Tests.{lt-ltb, le-ltb, lt-leb}
-use lib.Dec.{T, leb, ltb, eqb, nleb→lt, ltb→lt, nltb→le, not_T}
+use borrow.Author.Tests.{lt-ltb, le-ltb}
+use lib.Dec.{T, leb, ltb, eqb, nleb→lt, ltb→lt, nltb→le}
 use lib.ListN.{length}
 use lib.IntN.{ℤ, pos}
 use lib.Signed.{lt_z}
-use Rattle.rules.specs.List.{any}
-use Rattle.rules.specs.Bits.{is_set}
 use Rattle.rules.specs.Limit.{none, code}
-use Rattle.rules.specs.Register.{Delegation, Register, is_retired, granted, no_delegation}
+use Rattle.rules.specs.Register.{Delegation, Register, granted, no_delegation}
 use Rattle.rules.specs.Reach.{reach}
 use Rattle.rules.specs.Pair.{is_pair, weight_at, stands, is_raise, raises}
-use Rattle.rules.specs.WellFormed.{WellFormed}
 use Rattle.rules.specs.Call.{grant}
-use Rattle.rules.specs.Refusal.{first_of, subjects_held, pair_stands, all_stand, overweight, held}
-use Rattle.rules.proofs.Lists.{either, T_true, unset, not_or_left, second_not, any_mem}
-use Rattle.rules.proofs.Bits.{bit_zero}
+use Rattle.rules.specs.Refusal.{first_of, pair_stands, all_stand, overweight, held}
+use Rattle.rules.proofs.Lists.{either, T_true, not_or_left, second_not, any_mem}
 use Rattle.rules.proofs.Refusals.{passes_of}
 use Rattle.rules.proofs.Support.{allowed_reach}
 use Rattle.block.specs.Bytes.{IsBytes, leading}
@@ -32,41 +28,11 @@ use Rattle.block.specs.Records.{delegation_at, delegations_to}
 use Rattle.rules.proofs.Signed.{below_weight}
 use Rattle.rules.proofs.Granting.{raises_test, one_raised}
 use Rattle.rules.proofs.Pairs.{pair_test, test_pair}
-use Rattle.refusals.specs.Joined.{or_else}
 use Rattle.refusals.specs.Checked.{BothEnrolled}
-use Rattle.refusals.proofs.Joining.{else_none, joined, joined_first, any_tests}
 
 pub or_false : (x : Bool) → (x || false) ≡ x
 or_false true = refl
 or_false false = refl
-
--- neither 9 nor 19 applies to the owner
-pub owner_held : (R : Register) → WellFormed R → (xs : List ℕ) → subjects_held R xs ≡ subjects_held R (0 ∷ xs)
-owner_held R f xs =
-    let enrolled : false ≡ leb R.subjects 0 = sym (lt-leb R.subjects 0 f.some) in
-    let unretired : false ≡ is_retired R 0 = sym (unset (is_retired R 0) (not_T (is_retired R 0) (λ h. (f.retired 0 h).1 refl))) in
-    λ j. (9, enrolled j || any (λ x. leb R.subjects x) xs) ∷ (19, unretired j || any (is_retired R) xs) ∷ []
-
--- 9 and 19 of three subjects, tested one after another
-abbrev three : ℕ → (ℕ → Bool) → ℕ → ℕ → ℕ → List (ℕ × Bool)
-three n f x y z = (n, f x || false) ∷ (n, f y || false) ∷ (n, f z || false) ∷ []
-
-pub held_joined : (R : Register) (x y z : ℕ) → joined 0 (three 9 (λ v. leb R.subjects v) x y z ++ three 19 (is_retired R) x y z) ≡ first_of (subjects_held R (x ∷ y ∷ z ∷ []))
-held_joined R x y z =
-    joined_first (three 9 (λ v. leb R.subjects v) x y z ++ three 19 (is_retired R) x y z) tt ∙ any_tests 9 (λ v. leb R.subjects v) (x ∷ y ∷ z ∷ []) (three 19 (is_retired R) x y z)
-    ∙ ap (λ (n : ℕ). cond (any (λ v. leb R.subjects v) (x ∷ y ∷ z ∷ [])) 9 n) (any_tests 19 (is_retired R) (x ∷ y ∷ z ∷ []) [])
-
--- where nobody is retired, 9 alone
-pub held_unretired : (R : Register) (x y z : ℕ) → R.retired ≡ 0 → joined 0 (three 9 (λ v. leb R.subjects v) x y z) ≡ first_of (subjects_held R (x ∷ y ∷ z ∷ []))
-held_unretired R x y z e =
-    joined_first (three 9 (λ v. leb R.subjects v) x y z) tt ∙ any_tests 9 (λ v. leb R.subjects v) (x ∷ y ∷ z ∷ []) []
-    ∙ ap (λ (b : Bool). cond (any (λ v. leb R.subjects v) (x ∷ y ∷ z ∷ [])) 9 (cond b 19 0)) (sym unretired)
-  where
-    unset_all : (v : ℕ) → is_retired R v ≡ false
-    unset_all v = ap (λ (n : ℕ). is_set n v) e ∙ ap (λ (n : ℕ). eqb n 1) (bit_zero v)
-
-    unretired : any (is_retired R) (x ∷ y ∷ z ∷ []) ≡ false
-    unretired = λ j. unset_all x j || (unset_all y j || (unset_all z j || false))
 
 -- the pair stands, as the code tests it
 pub stands_test : (b : List ℕ) (bytes : IsBytes b) (formed : well_formed b ≡ true) (g r k : ℕ) → k ≡ leading (λ d. not (is_pair g r d)) (delegations_to b (count_in b)) → ltb k (count_in b) ≡ stands (decode b) g r
@@ -116,15 +82,13 @@ pub own_raise : (e : Delegation) (w n b k : ℕ) → (eqb e.need n && eqb e.bar 
 own_raise e w n b k = sym (rw (T_true (is_pair e.giver e.receiver e) (pair_test e.giver e.receiver e (refl, refl))))
 
 -- ── the tests of 11 and 12, as the code makes them; k is the pair's place ──
-module _ (b : List ℕ) (bytes : IsBytes b) (formed : well_formed b ≡ true) (d : Delegation) (n k : ℕ) (place : k ≡ leading (λ e. not (is_pair d.giver d.receiver e)) (delegations_to b (count_in b))) where
+module _ (b : List ℕ) (bytes : IsBytes b) (formed : well_formed b ≡ true) (d : Delegation) (k : ℕ) (place : k ≡ leading (λ e. not (is_pair d.giver d.receiver e)) (delegations_to b (count_in b))) where
   abbrev both : Bool → ℕ
-  both x = or_else (or_else n (11, x && not (raises (decode b) d))) (12, not x && leb 256 (length (decode b).delegations))
+  both x = first_of ((11, x && not (raises (decode b) d)) ∷ (12, not x && leb 256 (length (decode b).delegations)) ∷ [])
 
-  pub place_missing : count_in b ≤ k → or_else n (12, leb 256 (count_in b)) ≡ or_else (or_else n (pair_stands (decode b) d)) (all_stand (decode b) d)
+  pub place_missing : count_in b ≤ k → first_of ((12, leb 256 (count_in b)) ∷ []) ≡ first_of (pair_stands (decode b) d ∷ all_stand (decode b) d ∷ [])
   place_missing l =
-      ap (λ (m : ℕ). or_else m (12, leb 256 (count_in b))) (else_none n 11)
-      ∙ ap (λ (c : ℕ). or_else (or_else n (11, false)) (12, leb 256 c)) (sym (count_held b bytes formed))
-      ∙ ap both (sym (stands_missing b bytes formed d.giver d.receiver k place l))
+      ap (λ (c : ℕ). first_of ((12, leb 256 c) ∷ [])) (sym (count_held b bytes formed)) ∙ ap both (sym (stands_missing b bytes formed d.giver d.receiver k place l))
 
   module _ (found : k < count_in b) where
     abbrev e : Delegation
@@ -147,9 +111,8 @@ module _ (b : List ℕ) (bytes : IsBytes b) (formed : well_formed b ≡ true) (d
     own : granted e.giver e.receiver d.weight d.need d.bar d.kind ≡ d
     own = let (g, r) = test_pair d.giver d.receiver e pair in λ j. granted (g j) (r j) d.weight d.need d.bar d.kind
 
-    pub place_found : or_else n (11, not (is_raise (granted e.giver e.receiver d.weight d.need d.bar d.kind) e)) ≡ or_else (or_else n (pair_stands (decode b) d)) (all_stand (decode b) d)
+    pub place_found : first_of ((11, not (is_raise (granted e.giver e.receiver d.weight d.need d.bar d.kind) e)) ∷ []) ≡ first_of (pair_stands (decode b) d ∷ all_stand (decode b) d ∷ [])
     place_found =
-        ap (λ (x : Delegation). or_else n (11, not (is_raise x e))) own
-        ∙ ap (λ (x : Bool). or_else n (11, not x)) (sym raise_test)
-        ∙ else_none (or_else n (11, not (raises (decode b) d))) 12
+        ap (λ (x : Delegation). first_of ((11, not (is_raise x e)) ∷ [])) own
+        ∙ ap (λ (x : Bool). first_of ((11, not x) ∷ [])) (sym raise_test)
         ∙ ap both (sym (stands_found b bytes formed d.giver d.receiver k place found))

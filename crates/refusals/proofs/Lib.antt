@@ -1,5 +1,5 @@
 pub mod InLimits
 pub mod EarlyTests
-pub mod Joining
+pub mod First
 pub mod Holding
 pub mod CutHolding

@@ -5,7 +5,7 @@ use Rattle.rules.specs.Refusal.{first_of, passed, held, order_passed, order_held
 use Rattle.block.specs.Layout.{block_size}
 use Rattle.block.specs.Block.{decode}
 use Rattle.block.specs.WellFormed.{well_formed}
-use Rattle.steptable.specs.declared.Given.{Given}
+use Rattle.steptable.specs.TableText.{Given}
 
 -- 1: the block is not 2,188 bytes
 abbrev pub wrong_length : List ℕ → ℕ × Bool

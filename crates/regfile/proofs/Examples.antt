@@ -1,7 +1,7 @@
 -- The examples of a register's text hold. Assumes nothing.
 use mathlib.Core.Path.{◌≡◌, refl, sym, ap, subst, ◌∙◌}
 use mathlib.Core.Logic.{◌≢◌, inl, inr}
-use mathlib.Core.Bool.{true, false, not}
+use mathlib.Core.Bool.{false, not}
 use mathlib.Core.List.Memᴰ
 use mathlib.Core.List.{List, [], ◌∷◌, ◌++◌, map, append-nil}
 use Prim.Native.Nat.{ℕ, zero, suc, ◌+◌, ◌≤◌, ◌<◌}
@@ -19,8 +19,8 @@ use Rattle.rules.proofs.Bits.{bit_zero, bit_small}
 use Rattle.rules.proofs.Retired.{unset_bit, none_retired}
 use Rattle.text.specs.Text.{digits, line, Allowed}
 use Rattle.text.specs.Bytes.{bytes_of}
-use Rattle.text.specs.declared.Number.{Number}
-use Rattle.text.proofs.Reading.{read_from, clash, read_number, drop_end}
+use Rattle.std.specs.Prelude.{IsSomeAnd}
+use Rattle.text.proofs.Reading.{read_from, read_number, drop_end}
 use Rattle.text.proofs.Lines.{line_cons}
 use Rattle.regfile.specs.FileText.{subject_names, delegation_names, subject_rows, subject_columns, delegation_columns, file_of, file_text, FileLines, refused_file, are_rows, value_at, delegation_of, filed}
 use Rattle.regfile.specs.Examples.{three, pairs, sample, left_off, file_with, NoLines, Examples}
@@ -71,13 +71,13 @@ module _ (ss ds : List (List ℤ)) (a : T (are_rows subject_columns ss)) (b : T 
       some (lines_unique delegation_columns ds es t [] (test_rows delegation_columns ds b) h.delegations n (end_apart 5) (ap (drop 37) q.1 ∙ sym (append-nil (concat_map line es)))).1
 
 -- the first of some values can be read, and the others follow it
-row_value : (s : List ℕ) (y z : ℤ) (zs : List ℤ) (rest : List ℕ) → Allowed false y → s ≡ line (y ∷ z ∷ zs) ++ rest → ((read_from 32 s 0).found ≡ true) × (drop (read_from 32 s 0).next s ≡ line (z ∷ zs) ++ rest)
+row_value : (s : List ℕ) (y z : ℤ) (zs : List ℤ) (rest : List ℕ) → Allowed false y → s ≡ line (y ∷ z ∷ zs) ++ rest → IsSomeAnd (read_from 32 s 0) (λ m. drop m.next s ≡ line (z ∷ zs) ++ rest)
 row_value s (negsuc n) z zs rest l e = absurd l
 row_value s (pos n) z zs rest l e =
     let q : s ≡ digits n ++ (32 ∷ (line (z ∷ zs) ++ rest)) = e ∙ line_cons (pos n) (z ∷ zs) rest in
     let p = ap (λ (x : List ℕ). read_from 32 x 0) q ∙ read_number 32 (omega arith) n l (line (z ∷ zs) ++ rest) 0 in
     let v : suc (0 + length (digits n)) ≡ suc (length (digits n)) = omega arith in
-    (ap (λ (x : Number). x.found) p, ap (λ (x : Number). drop x.next s) p ∙ ap (λ (k : ℕ). drop k s) v ∙ ap (drop (suc (length (digits n)))) q ∙ drop_end (digits n) 32 (line (z ∷ zs) ++ rest))
+    rw p (ap (λ (k : ℕ). drop k s) v ∙ ap (drop (suc (length (digits n)))) q ∙ drop_end (digits n) 32 (line (z ∷ zs) ++ rest))
 
 zero_apart : NoRow delegation_columns (bytes_of "1 2 08 0 0 0\n")
 zero_apart [] rest k l e = absurd (omega (arith, k))
@@ -85,9 +85,9 @@ zero_apart (a ∷ []) rest k l e = absurd (omega (arith, k))
 zero_apart (a ∷ b ∷ []) rest k l e = absurd (omega (arith, k))
 zero_apart (a ∷ b ∷ c ∷ []) rest k l e = absurd (omega (arith, k))
 zero_apart (a ∷ b ∷ c ∷ d ∷ zs) rest k l e =
-    let p = (row_value (bytes_of "1 2 08 0 0 0\n") a b (c ∷ d ∷ zs) rest l.0 e).1 in
-    let q = (row_value (bytes_of "2 08 0 0 0\n") b c (d ∷ zs) rest l.1.0 p).1 in
-    clash (row_value (bytes_of "08 0 0 0\n") c d zs rest l.1.1.0 q).0
+    let p = (row_value (bytes_of "1 2 08 0 0 0\n") a b (c ∷ d ∷ zs) rest l.0 e) in
+    let q = (row_value (bytes_of "2 08 0 0 0\n") b c (d ∷ zs) rest l.1.0 p) in
+    row_value (bytes_of "08 0 0 0\n") c d zs rest l.1.1.0 q
 
 some_bytes : (b : ℕ) (s : List ℕ) → b ∷ s ≢ []
 some_bytes b s e = let z : ◌≡◌ {A = ℕ} 0 1 = cc in absurd (omega arith)

@@ -1,14 +1,14 @@
 -- A whole text: refused by its form, by its numbers, or read. Assumes nothing.
 use mathlib.Core.Path.{◌≡◌, refl, sym, ap, subst, ◌∙◌}
-use mathlib.Core.Logic.{◌≢◌, inl, inr}
+use mathlib.Core.Logic.{◌≢◌}
 use mathlib.Core.Bool.{Bool, true, false}
 use mathlib.Core.List.Memᴰ
 use mathlib.Core.List.{List, [], ◌∷◌, ◌++◌, map, append_assoc, append-nil}
-use Prim.Native.Nat.{ℕ, suc, ◌+◌, ◌-◌, ◌^◌, ◌≤◌, ◌<◌}
+use Prim.Native.Nat.{ℕ, suc, ◌-◌, ◌^◌, ◌≤◌, ◌<◌}
 use native.Mathlib.Omega.{arith}
 use lib.IntN.{ℤ, pos, negsuc}
 use lib.ListN.{length, get_or, take, drop, length-append, length-drop, drop_of_length-le}
-use lib.Seq.{drop-drop, take_all}
+use lib.Seq.{take_all}
 use Rattle.rules.specs.List.{concat_map}
 use Rattle.rules.specs.Register.{Register}
 use Rattle.rules.specs.WellFormed.{WellFormed}
@@ -20,13 +20,12 @@ use Rattle.block.proofs.Fitting.{encode_fitting, decode_encode, formed_fits}
 use Rattle.block.proofs.Form.{encode_formed}
 use Rattle.block.proofs.Held.{fits_formed}
 use Rattle.text.specs.Text.{line, AllAllowed}
-use Rattle.text.specs.Read.{Begins}
 use Rattle.text.proofs.Rows.{rows_line, rows_empty}
 use Rattle.text.proofs.Sizes.{line_long}
 use Rattle.text.proofs.Injective.{line_inj}
 use Rattle.text.specs.Rows.{rows}
 use Rattle.regfile.specs.FileText.{subject_names, delegation_names, subject_columns, delegation_columns, subject_rows, delegation_row, rows_of, file_of, file_text, AreRows, FileLines, Filed, refused_file, passing_file, value_at, delegation_of, bits_of, filed}
-use Rattle.regfile.specs.Parsed.{with_row, with_rows, RowsHeld, RowsLent, RowsRead, Parsed}
+use Rattle.regfile.specs.Parsed.{with_row, with_rows, RowsHeld, RowsRead, Parsed}
 use Rattle.regfile.specs.declared.Rows.{Rows}
 use Rattle.regfile.proofs.FileRight.{filed_right, known_rows, subject_marks, subject_bits, delegation_rows}
 
@@ -95,6 +94,10 @@ same_rows R S a b p q =
 pub empty_fits : Fits empty
 empty_fits = record { most = omega arith; marked = refl; marks = λ m i. absurd (Memᴰ.not-nil i); bits = omega arith; few = omega arith; each = λ d i. absurd (Memᴰ.not-nil i) }
 
+-- the part of a text from a place on
+pub part_is : (s : List ℕ) (n : ℕ) → take (length s - n) (drop n s) ≡ drop n s
+part_is s n = take_all (length s - n) (drop n s) (omega (arith, length-drop n s))
+
 -- ── what is returned ──
 refused_text_lem : (text : List ℕ) (n : ℕ) (after : List ℕ) → n ≢ 0 → filed text ≡ refused_file n → Parsed text n after
 refused_text_lem text n after h e = record { refusal = ap (λ (f : Filed). f.refusal) (sym e); bytes = λ z. absurd (h z) }
@@ -104,78 +107,47 @@ module _ (text : List ℕ) where
   other_form : (after : List ℕ) → ((ss ds : List (List ℤ)) → FileLines text ss ds → ⊥) → Parsed text 7 after
   other_form after n = refused_text_lem text 7 after (λ z. absurd (omega arith)) (filed_right.malformed text n)
 
-  pub no_names : (b : Bool) (after : List ℕ) → Begins text subject_names b → b ≡ false → Parsed text 7 after
-  no_names b after m e = other_form after (λ ss ds h. m.no e (concat_map line ss ++ (delegation_names ++ concat_map line ds)) h.same)
+  pub no_names : (after : List ℕ) → ((rest : List ℕ) → text ≢ subject_names ++ rest) → Parsed text 7 after
+  no_names after n = other_form after (λ ss ds h. n (concat_map line ss ++ (delegation_names ++ concat_map line ds)) h.same)
 
   -- where the rows of subjects begin
   pub names_after : (s : List ℕ) → text ≡ subject_names ++ s → drop 22 text ≡ s
   unfolding subject_names
   names_after s e = ap (drop 22) e
 
-  -- what the reading of the subjects' rows is lent
-  pub rows_lent : (n : Bool) → Begins text subject_names n → n ≡ true → (b : List ℕ) → b ≡ encode empty → RowsLent text 22 (pos 0 ∷ pos 0 ∷ pos 0 ∷ []) b true
-  unfolding subject_names
-  rows_lent n m e b s = record {
-    within = omega (arith, ap length (m.yes e), length-append subject_names (drop 22 text));
-    columns = inl refl;
-    block = λ t. subst Fitting (sym s) (encode_fitting empty empty_fits);
-  }
-
-  -- the part of the text from a place on
-  pub middle : (at : ℕ) (b : Bool) → Begins (take (length text - at) (drop at text)) delegation_names b → Begins (drop at text) delegation_names b
-  middle at b m = subst (λ (s : List ℕ). Begins s delegation_names b) (take_all (length text - at) (drop at text) (omega (arith, length-drop at text))) m
-
-  module _ (b₀ b₁ : List ℕ) (start : b₀ ≡ encode empty) (r₁ : Rows) (m₁ : RowsRead text 22 subject_columns (decode b₀) true r₁ b₁) where
+  module _ (front b₀ b₁ : List ℕ) (first : text ≡ subject_names ++ front) (start : b₀ ≡ encode empty) (r₁ : Rows) (m₁ : RowsRead front subject_columns (decode b₀) true r₁ b₁) where
     -- the text goes on after the subjects of every file
-    module _ (ss ds : List (List ℤ)) (h : FileLines text ss ds) where
-      subjects_known : (m₁.rows ≡ ss) × (drop r₁.next text ≡ delegation_names ++ concat_map line ds)
-      subjects_known =
-          lines_unique subject_columns m₁.rows ss (drop r₁.next text) (delegation_names ++ concat_map line ds) m₁.formed h.subjects m₁.last (names_apart 2 (concat_map line ds))
-          (sym m₁.front ∙ names_after (concat_map line ss ++ (delegation_names ++ concat_map line ds)) h.same)
+    subjects_known : (ss ds : List (List ℤ)) → FileLines text ss ds → (m₁.rows ≡ ss) × (drop r₁.next front ≡ delegation_names ++ concat_map line ds)
+    subjects_known ss ds h =
+        lines_unique subject_columns m₁.rows ss (drop r₁.next front) (delegation_names ++ concat_map line ds) m₁.formed h.subjects m₁.last (names_apart 2 (concat_map line ds))
+        (sym m₁.front ∙ sym (names_after front first) ∙ names_after (concat_map line ss ++ (delegation_names ++ concat_map line ds)) h.same)
 
-    pub no_middle : (b : Bool) (after : List ℕ) → Begins (drop r₁.next text) delegation_names b → b ≡ false → Parsed text 7 after
-    no_middle b after m e = other_form after (λ ss ds h. m.no e (concat_map line ds) (subjects_known ss ds h).1)
+    pub no_middle : (after : List ℕ) → ((rest : List ℕ) → drop r₁.next front ≢ delegation_names ++ rest) → Parsed text 7 after
+    no_middle after n = other_form after (λ ss ds h. n (concat_map line ds) (subjects_known ss ds h).1)
+
+    -- the block that the rows of delegations are put into
+    pub put_into : r₁.fits ≡ true → Fitting b₁
+    put_into t = let h = (m₁.held t).1 in subst Fitting (sym h.bytes) (encode_fitting (with_rows subject_columns (decode b₀) m₁.rows) h.fits)
 
     -- ── after the second line of names ──
-    middle_after : (s : List ℕ) → drop r₁.next text ≡ delegation_names ++ s → drop (r₁.next + 37) text ≡ s
-    unfolding delegation_names
-    middle_after s e =
-        let k : r₁.next + 37 ≡ 37 + r₁.next = omega arith in
-        sym (drop-drop 37 r₁.next text) ∙ ap (drop 37) e
-
-    -- what the reading of the delegations' rows is lent
-    pub rows_lent_2 : (n : Bool) → Begins (drop r₁.next text) delegation_names n → n ≡ true → RowsLent text (r₁.next + 37) (pos 0 ∷ pos 0 ∷ pos 0 ∷ pos 0 ∷ pos 0 ∷ pos 0 ∷ []) b₁ r₁.fits
-    unfolding delegation_names
-    rows_lent_2 n m e = record {
-      within = omega (arith, ap length (m.yes e), length-append delegation_names (drop 37 (drop r₁.next text)), length-drop r₁.next text, m₁.within);
-      columns = inr refl;
-      block = λ t. let h = (m₁.held t).1 in subst Fitting (sym h.bytes) (encode_fitting (with_rows subject_columns (decode b₀) m₁.rows) h.fits);
-    }
-
-    module _ (b₂ : List ℕ) (r₂ : Rows) (m₂ : RowsRead text (r₁.next + 37) delegation_columns (decode b₁) r₁.fits r₂ b₂) where
-      delegations_known : (ss ds : List (List ℤ)) → FileLines text ss ds → (m₂.rows ≡ ds) × (drop r₂.next text ≡ [])
+    module _ (back b₂ : List ℕ) (second : drop r₁.next front ≡ delegation_names ++ back) (r₂ : Rows) (m₂ : RowsRead back delegation_columns (decode b₁) r₁.fits r₂ b₂) where
+      delegations_known : (ss ds : List (List ℤ)) → FileLines text ss ds → (m₂.rows ≡ ds) × (drop r₂.next back ≡ [])
+      unfolding delegation_names
       delegations_known ss ds h =
-          lines_unique delegation_columns m₂.rows ds (drop r₂.next text) [] m₂.formed h.delegations m₂.last (end_apart 5)
-          (sym m₂.front ∙ middle_after (concat_map line ds) (subjects_known ss ds h).1 ∙ sym (append-nil (concat_map line ds)))
+          lines_unique delegation_columns m₂.rows ds (drop r₂.next back) [] m₂.formed h.delegations m₂.last (end_apart 5)
+          (sym m₂.front ∙ ap (drop 37) (sym second ∙ (subjects_known ss ds h).1) ∙ sym (append-nil (concat_map line ds)))
 
-      pub more_follows : (after : List ℕ) → r₂.next < length text → Parsed text 7 after
-      more_follows after l = other_form after (λ ss ds h. absurd (omega (arith, ap length (delegations_known ss ds h).1, length-drop r₂.next text, l)))
+      pub more_follows : (after : List ℕ) → r₂.next < length back → Parsed text 7 after
+      more_follows after l = other_form after (λ ss ds h. absurd (omega (arith, ap length (delegations_known ss ds h).1, length-drop r₂.next back, l)))
 
       -- ── the text has its form ──
-      module _ (n₁ n₂ : Bool) (p₁ : Begins text subject_names n₁) (q₁ : n₁ ≡ true) (p₂ : Begins (drop r₁.next text) delegation_names n₂) (q₂ : n₂ ≡ true) (end : length text ≤ r₂.next) where
-        first : text ≡ subject_names ++ drop 22 text
-        unfolding subject_names
-        first = p₁.yes q₁
-
-        second : drop r₁.next text ≡ delegation_names ++ drop (r₁.next + 37) text
-        second = let s = p₂.yes q₂ in s ∙ ap (λ (x : List ℕ). delegation_names ++ x) (sym (middle_after (drop (length delegation_names) (drop r₁.next text)) s))
-
+      module _ (end : length back ≤ r₂.next) where
         lines : FileLines text m₁.rows m₂.rows
         lines = record {
           subjects = m₁.formed;
           delegations = m₂.formed;
           same = first ∙ ap (λ (s : List ℕ). subject_names ++ s) (m₁.front ∙ ap (λ (s : List ℕ). concat_map line m₁.rows ++ s) (second ∙ ap (λ (s : List ℕ). delegation_names ++ s)
-              (m₂.front ∙ ap (λ (s : List ℕ). concat_map line m₂.rows ++ s) (drop_of_length-le text end) ∙ append-nil (concat_map line m₂.rows))));
+              (m₂.front ∙ ap (λ (s : List ℕ). concat_map line m₂.rows ++ s) (drop_of_length-le back end) ∙ append-nil (concat_map line m₂.rows))));
         }
 
         -- the rows of a well-formed register whose text this is

@@ -1,7 +1,7 @@
 -- A row stored after those of a register, or one that no well-formed register has there. Assumes nothing.
 use mathlib.Core.Path.{◌≡◌, refl, sym, ap, subst, ◌∙◌}
 use mathlib.Core.Logic.{◌≢◌, ◌⊎◌, inl, inr}
-use mathlib.Core.Bool.{Bool, true, false, cond, ◌&&◌}
+use mathlib.Core.Bool.{Bool, true, false, cond}
 use mathlib.Core.List.Memᴰ
 use mathlib.Core.List.{List, [], ◌∷◌, ◌++◌, map}
 use Prim.Native.Nat.{ℕ, zero, suc, ◌+◌, ◌^◌, ◌≤◌, ◌<◌}
@@ -9,14 +9,14 @@ use native.Mathlib.Nat.{add-zero, add-suc, suc-add, zero-add, le_refl, pow-suc}
 use native.Mathlib.Omega.{arith}
 use borrow.Author.Tests.{eq-eqb, ne_eqb}
 use lib.Bits.{bit_or}
-use lib.Dec.{T, eqb, leb, leb→le, le→leb}
-use lib.IntN.{ℤ, pos}
+use lib.Dec.{eqb}
+use lib.IntN.{ℤ, pos, negsuc}
 use lib.ListN.{length, get_or, drop, length-append, length-map}
 use Rattle.rules.specs.List.{◌∈◌}
 use Rattle.rules.specs.Bits.{bit}
 use Rattle.rules.specs.Register.{Delegation, Register, with_delegations, with_retired}
 use Rattle.rules.specs.Call.{enrolled}
-use Rattle.rules.proofs.Lists.{T_left, T_right, T_both, T_true, yes, clash, map_mem}
+use Rattle.rules.proofs.Lists.{clash, map_mem}
 use Rattle.rules.proofs.Bits.{bit_small, bit_high}
 use Rattle.rules.proofs.Retired.{retired_put, retired_few}
 use Rattle.rules.proofs.Chains.{mem_snoc}
@@ -24,13 +24,18 @@ use Rattle.block.specs.Layout.{most_subjects, most_records}
 use Rattle.block.specs.Block.{subjects_in, count_in, decode, encode}
 use Rattle.block.specs.Fits.{DelegationFits, Fits, Fitting}
 use Rattle.block.proofs.Fitting.{subjects_encode, decode_encode, encode_fitting, fitting_subjects, fitting_count}
+use Rattle.std.specs.Prelude.{Some, Ok, Err, OkIff, unsigned_abs}
+use Rattle.std.proofs.lemmas.Option.{none-some}
+use Rattle.std.specs.Result.{result_ok}
+use Rattle.std.specs.Int.{FitsUnsignedBits}
+use Rattle.std.specs.declared.result.Result.{Result}
 use mir.Syntax.{w64}
 use mir.Val.{of_z, to_z}
 use Rattle.text.specs.Text.{Allowed, AllAllowed}
 use Rattle.text.proofs.Signed.{kept, allowed_fits}
 use Rattle.text.proofs.Lines.{allowed_at}
 use Rattle.regfile.specs.FileText.{subject_columns, delegation_columns, subject_rows, delegation_row, rows_of, plain_of, value_at, delegation_of}
-use Rattle.regfile.specs.Parsed.{bit_with, enrolled_as, with_row, RowsHeld, Unformed, has_room, RowPut}
+use Rattle.regfile.specs.Parsed.{bit_with, enrolled_as, with_row, RowsHeld, Unformed, RowPut}
 use Rattle.regfile.proofs.FileRight.{length_subjects}
 
 -- ── lists ──
@@ -241,46 +246,22 @@ rows_more : (ds : List Delegation) (d : Delegation) → map delegation_row (ds +
 rows_more [] d = refl
 rows_more (e ∷ ds) d = ap (λ (t : List (List ℤ)). delegation_row e ∷ t) (rows_more ds d)
 
--- a row of six plain numbers is that of a delegation
-pub six_of : (row : List ℤ) (d : Delegation) → length row ≡ 6 → pos d.giver ≡ get_or row 0 (pos 0) → pos d.receiver ≡ get_or row 1 (pos 0) → pos d.weight ≡ get_or row 2 (pos 0) → pos d.need ≡ get_or row 3 (pos 0) → pos d.bar ≡ get_or row 4 (pos 0) → pos d.kind ≡ get_or row 5 (pos 0)
-    → row ≡ delegation_row d
-six_of [] d h p q r s t o = absurd (omega arith)
-six_of (x ∷ []) d h p q r s t o = absurd (omega arith)
-six_of (x ∷ y ∷ []) d h p q r s t o = absurd (omega arith)
-six_of (x ∷ y ∷ z ∷ []) d h p q r s t o = absurd (omega arith)
-six_of (x ∷ y ∷ z ∷ u ∷ []) d h p q r s t o = absurd (omega arith)
-six_of (x ∷ y ∷ z ∷ u ∷ v ∷ []) d h p q r s t o = absurd (omega arith)
-six_of (x ∷ y ∷ z ∷ u ∷ v ∷ w ∷ []) d h p q r s t o = λ i. sym p i ∷ sym q i ∷ sym r i ∷ sym s i ∷ sym t i ∷ sym o i ∷ []
-six_of (x ∷ y ∷ z ∷ u ∷ v ∷ w ∷ c ∷ cs) d h p q r s t o = absurd (omega arith)
+-- a number without sign
+plain_is : (z : ℤ) → Allowed false z → z ≡ pos (plain_of z)
+plain_is (pos n) l = refl
+plain_is (negsuc n) l = absurd l
 
-pub room_fits : (d : Delegation) → T (has_room d) → DelegationFits d
-room_fits d t =
-    let w = leb d.weight 255 in
-    let n = leb d.need 65535 in
-    let b = leb d.bar 65535 && leb d.kind 255 in
-    let t₁ = T_right (leb d.giver 255) (leb d.receiver 255 && (w && (n && b))) t in
-    let t₂ = T_right (leb d.receiver 255) (w && (n && b)) t₁ in
-    let t₃ = T_right w (n && b) t₂ in
-    let t₄ = T_right n b t₃ in
-    record {
-      giver = leb→le d.giver 255 (T_left (leb d.giver 255) (leb d.receiver 255 && (w && (n && b))) t);
-      receiver = leb→le d.receiver 255 (T_left (leb d.receiver 255) (w && (n && b)) t₁);
-      weight = leb→le d.weight 255 (T_left w (n && b) t₂);
-      need = leb→le d.need 65535 (T_left n b t₃);
-      bar = leb→le d.bar 65535 (T_left (leb d.bar 65535) (leb d.kind 255) t₄);
-      kind = leb→le d.kind 255 (T_right (leb d.bar 65535) (leb d.kind 255) t₄);
-    }
-
-fits_room : (d : Delegation) → DelegationFits d → T (has_room d)
-fits_room d k =
-    let w = leb d.weight 255 in
-    let n = leb d.need 65535 in
-    let b = leb d.bar 65535 && leb d.kind 255 in
-    T_both (leb d.giver 255) (leb d.receiver 255 && (w && (n && b))) (le→leb d.giver 255 k.giver)
-    (T_both (leb d.receiver 255) (w && (n && b)) (le→leb d.receiver 255 k.receiver)
-    (T_both w (n && b) (le→leb d.weight 255 k.weight)
-    (T_both n b (le→leb d.need 65535 k.need)
-    (T_both (leb d.bar 65535) (leb d.kind 255) (le→leb d.bar 65535 k.bar) (le→leb d.kind 255 k.kind)))))
+-- a row of six numbers without sign is that of a delegation
+pub six_of : (row : List ℤ) → length row ≡ 6 → AllAllowed false row → row ≡ delegation_row (delegation_of row)
+six_of [] h a = absurd (omega arith)
+six_of (x ∷ []) h a = absurd (omega arith)
+six_of (x ∷ y ∷ []) h a = absurd (omega arith)
+six_of (x ∷ y ∷ z ∷ []) h a = absurd (omega arith)
+six_of (x ∷ y ∷ z ∷ u ∷ []) h a = absurd (omega arith)
+six_of (x ∷ y ∷ z ∷ u ∷ v ∷ []) h a = absurd (omega arith)
+six_of (x ∷ y ∷ z ∷ u ∷ v ∷ w ∷ []) h a =
+    λ i. plain_is x a.0 i ∷ plain_is y a.1.0 i ∷ plain_is z a.1.1.0 i ∷ plain_is u a.1.1.1.0 i ∷ plain_is v a.1.1.1.1.0 i ∷ plain_is w a.1.1.1.1.1.0 i ∷ []
+six_of (x ∷ y ∷ z ∷ u ∷ v ∷ w ∷ c ∷ cs) h a = absurd (omega arith)
 
 module _ (b : List ℕ) (h : Fitting b) (row : List ℤ) where
   standing : (S : Register) (more : List (List ℤ)) → rows_of delegation_columns S ≡ (rows_of delegation_columns (decode b) ++ (row ∷ [])) ++ more → Stands (rows_of delegation_columns (decode b)) row (rows_of delegation_columns S) more
@@ -291,15 +272,14 @@ module _ (b : List ℕ) (h : Fitting b) (row : List ℤ) where
       absurd (omega (arith, l, fitting_count b h, (standing S more e).long, f.few, length-map S.delegations delegation_row, length-map (decode b).delegations delegation_row)))
 
   module _ (d : Delegation) (same : row ≡ delegation_row d) where
-    pub delegation_large : has_room d ≡ false → RowPut delegation_columns (decode b) row false b
+    pub delegation_large : ¬ DelegationFits d → RowPut delegation_columns (decode b) row false b
     delegation_large n = left_out b h row delegation_columns b (λ S f more e.
         let (x, i, q) = map_mem delegation_row S.delegations (standing S more e).inside in
         let k = f.each x i in
         let y : d ≡ x = ap delegation_of (sym same ∙ q) in
-        let t = fits_room x record { giver = omega (arith, k.giver, f.most); receiver = omega (arith, k.receiver, f.most); weight = k.weight; need = k.need; bar = k.bar; kind = omega (arith, k.kind) } in
-        clash (sym (sym n ∙ ap has_room y ∙ T_true (has_room x) t)))
+        n (subst DelegationFits (sym y) record { giver = omega (arith, k.giver, f.most); receiver = omega (arith, k.receiver, f.most); weight = k.weight; need = k.need; bar = k.bar; kind = omega (arith, k.kind) }))
 
-    module _ (room : count_in b < most_records) (t : has_room d ≡ true) where
+    module _ (room : count_in b < most_records) (t : DelegationFits d) where
       more_fits : Fits (with_delegations (decode b) ((decode b).delegations ++ (d ∷ [])))
       more_fits = record {
         most = h.fits.most;
@@ -307,7 +287,7 @@ module _ (b : List ℕ) (h : Fitting b) (row : List ℤ) where
         marks = h.fits.marks;
         bits = h.fits.bits;
         few = omega (arith, room, fitting_count b h, length_more (decode b).delegations d);
-        each = all_more DelegationFits (decode b).delegations d h.fits.each (room_fits d (yes t));
+        each = all_more DelegationFits (decode b).delegations d h.fits.each t;
       }
 
       pub delegation_put : (after : List ℕ) → after ≡ encode (with_delegations (decode b) ((decode b).delegations ++ (d ∷ []))) → RowPut delegation_columns (decode b) row true after
@@ -332,3 +312,21 @@ module _ (row : List ℤ) (a : AllAllowed false row) (i : ℕ) (l : i < length r
 
   pub column_plain : Allowed false (to_z w64 (of_z w64 (get_or row i (pos 0))))
   column_plain = subst (Allowed false) (sym column_held) (allowed_at false row i l a)
+
+  -- its number
+  pub column_is : pos (value_at row i) ≡ get_or row i (pos 0)
+  column_is = sym (plain_is (get_or row i (pos 0)) (allowed_at false row i l a))
+
+  as_read : to_z w64 (of_z w64 (get_or row i (pos 0))) ≡ pos (value_at row i)
+  as_read = column_held ∙ sym column_is
+
+  -- as a number of k bits
+  pub column_cases : {E : Type 0} (k : ℕ) (r : Result ℕ E) → OkIff r (FitsUnsignedBits k (to_z w64 (of_z w64 (get_or row i (pos 0))))) (unsigned_abs (to_z w64 (of_z w64 (get_or row i (pos 0))))) → OkIff r (value_at row i < 2 ^ k) (value_at row i)
+  column_cases k r c = subst (λ (y : ℤ). OkIff r (FitsUnsignedBits k y) (unsigned_abs y)) as_read c
+
+  pub column_tried : {E : Type 0} (k : ℕ) (r : Result ℕ E) (x : ℕ) → OkIff r (FitsUnsignedBits k (to_z w64 (of_z w64 (get_or row i (pos 0))))) (unsigned_abs (to_z w64 (of_z w64 (get_or row i (pos 0))))) → Some x ≡ result_ok r → (value_at row i < 2 ^ k) × (x ≡ value_at row i)
+  column_tried {E} k r x c e = go r (column_cases k r c) e
+    where
+      go : (r : Result ℕ E) → OkIff r (value_at row i < 2 ^ k) (value_at row i) → Some x ≡ result_ok r → (value_at row i < 2 ^ k) × (x ≡ value_at row i)
+      go (Ok y) c e = let q : x ≡ y = cc in (c.0, q ∙ c.1)
+      go (Err y) c e = absurd (none-some x (sym e))

@@ -1,25 +1,27 @@
 -- A register's text written row by row. Assumes nothing.
 use mathlib.Core.Path.{◌≡◌, refl, sym, ap, subst, ◌∙◌}
 use mathlib.Core.Logic.{◌≢◌}
-use mathlib.Core.Bool.{true}
+use mathlib.Core.Bool.{Bool, true, false, not}
 use mathlib.Core.List.{List, [], ◌∷◌, ◌++◌, map, append-nil}
 use Prim.Native.Nat.{ℕ, zero, suc, ◌+◌, ◌≤◌, ◌<◌}
 use native.Mathlib.Nat.{zero-add, add-zero, le_of_suc-le-suc, not-suc-le-zero}
 use native.Mathlib.Numerals.{add-one}
 use native.Mathlib.Omega.{arith}
 use borrow.Author.Tests.{ne_eqb}
+use lib.Dec.{T}
 use lib.IntN.{ℤ, pos}
 use lib.ListN.{length, get_or, take, drop, length-append, length-map, take-append-drop, get_or-map}
 use lib.Seq.{take-suc, take_all}
 use mir.Syntax.{w64}
-use mir.Val.{to_z}
-use mir.Facts.{to_z_pos}
+use mir.Val.{of_z, to_z, bool_byte}
 use Rattle.rules.specs.List.{concat_map}
-use Rattle.rules.specs.Bits.{bit}
+use Rattle.rules.specs.Bits.{bit, is_set}
 use Rattle.rules.specs.Register.{Register, no_delegation}
+use Rattle.rules.proofs.Retired.{bit_set, bit_unset}
 use Rattle.rules.proofs.Signed.{get_or_within}
 use Rattle.text.specs.Text.{line, AllAllowed}
 use Rattle.text.specs.Write.{Room, Written}
+use Rattle.text.proofs.Signed.{held}
 use Rattle.text.proofs.Writing.{put_nil, put_length, then_written, then_room}
 use Rattle.block.specs.Layout.{most_subjects}
 use Rattle.block.specs.Bytes.{IsBytes}
@@ -38,27 +40,26 @@ abbrev pub Small : List ℕ → Type 0
 Small [] = Unit {0}
 Small (n ∷ ns) = (n ≤ 65535) × Small ns
 
-abbrev machine : List ℕ → List ℤ
-machine ns = map (λ n. to_z w64 n) ns
-
-machine_is : (ns : List ℕ) → Small ns → machine ns ≡ map pos ns
-machine_is [] h = refl
-machine_is (n ∷ ns) h = let l : n < 65536 = omega (arith, h.0) in λ p. to_z_pos w64 {n = n} (omega arith) p ∷ machine_is ns h.1 p
-
 small_allowed : (ns : List ℕ) → Small ns → AllAllowed true (map pos ns)
 small_allowed [] h = tt
 small_allowed (n ∷ ns) h = (omega (arith, h.0), small_allowed ns h.1)
 
--- the numbers read, and those meant
-module _ (ns ms : List ℕ) (h : Small ns) (e : ns ≡ ms) where
-  held : machine ns ≡ map pos ms
-  held = machine_is ns h ∙ ap (map pos) e
+-- a number read, and the one that is meant
+pub column_is : {x : ℤ} {n m : ℕ} → x ≡ pos n → n ≡ m → n ≤ 65535 → to_z w64 (of_z w64 x) ≡ pos m
+column_is {n} e q h = held {y = pos n} e (omega (arith, h)) ∙ ap pos q
 
-  pub row_room : (at : ℕ) (buf : List ℕ) → Room at (line (map pos ms)) buf → AllAllowed true (machine ns) × Room at (line (machine ns)) buf
-  row_room at buf l = subst (λ (zs : List ℤ). AllAllowed true zs × Room at (line zs) buf) (sym held) (small_allowed ms (subst Small e h), l)
+-- the numbers written, and those meant
+module _ (zs : List ℤ) (ms : List ℕ) (h : Small ms) (e : zs ≡ map pos ms) where
+  pub row_room : (at : ℕ) (buf : List ℕ) → Room at (line (map pos ms)) buf → AllAllowed true zs × Room at (line zs) buf
+  row_room at buf l = subst (λ (zs : List ℤ). AllAllowed true zs × Room at (line zs) buf) (sym e) (small_allowed ms h, l)
 
-  pub row_written : (at : ℕ) (buf : List ℕ) (r : ℕ) (buf' : List ℕ) → Written at (line (machine ns)) buf r buf' → Written at (line (map pos ms)) buf r buf'
-  row_written at buf r buf' w = subst (λ (zs : List ℤ). Written at (line zs) buf r buf') held w
+  pub row_written : (at : ℕ) (buf : List ℕ) (r : ℕ) (buf' : List ℕ) → Written at (line zs) buf r buf' → Written at (line (map pos ms)) buf r buf'
+  row_written at buf r buf' w = subst (λ (zs : List ℤ). Written at (line zs) buf r buf') e w
+
+-- whether a subject is retired, as a number
+pub retired_is : (n s : ℕ) (b : Bool) → b ≡ is_set n s → bool_byte b ≡ bit n s
+retired_is n s true e = sym (bit_set n s (subst T e tt))
+retired_is n s false e = sym (bit_unset n s (subst (λ (x : Bool). T (not x)) e tt))
 
 -- ── the rows by their place ──
 

@@ -1,3 +1,4 @@
 pub mod FileText
+pub mod Faults
 pub mod Parsed
 pub mod Examples

@@ -1,15 +1,23 @@
 -- What is read of a register's text into a block, row by row. Assumes nothing.
-use Rattle.std.specs.Prelude.{◌≡◌, ◌≢◌, ◌⊎◌, Bool, true, false, cond, ◌&&◌, List, [], ◌∷◌, ◌++◌, ℕ, ◌^◌, ◌≤◌, eqb, leb, ℤ, length, drop}
+use Rattle.std.specs.Prelude.{◌≡◌, ◌≢◌, Bool, true, false, cond, List, [], ◌∷◌, ◌++◌, ℕ, ◌^◌, ◌≤◌, eqb, ℤ, length, drop}
 use Rattle.std.specs.Int.Bits.{bit_or}
 use Rattle.rules.specs.List.{concat_map}
-use Rattle.rules.specs.Register.{Delegation, Register, with_delegations, with_retired}
+use Rattle.rules.specs.Register.{Delegation, Register, granted, with_delegations, with_retired}
 use Rattle.rules.specs.WellFormed.{WellFormed}
 use Rattle.rules.specs.Call.{enrolled}
 use Rattle.block.specs.Block.{encode}
-use Rattle.block.specs.Fits.{Fits, Fitting}
+use Rattle.block.specs.Fits.{Fits}
 use Rattle.text.specs.Text.{line, AllAllowed}
 use Rattle.regfile.specs.FileText.{subject_columns, delegation_columns, rows_of, AreRows, value_at, delegation_of, filed}
+use Rattle.regfile.specs.declared.Part.{Part}
+use Rattle.regfile.specs.declared.Part.TheVariants.{Subjects, Delegations}
 use Rattle.regfile.specs.declared.Rows.{Rows}
+use Rattle.regfile.specs.declared.read.Record.{Record}
+
+-- the columns of a part
+abbrev pub columns : Part → ℕ
+columns Subjects = subject_columns
+columns Delegations = delegation_columns
 
 -- ── the rows of w columns ──
 
@@ -42,28 +50,22 @@ Unformed w rows = (S : Register) → WellFormed S → (more : List (List ℤ)) �
 
 -- ── one row ──
 
--- the test of DelegationFits
-abbrev pub has_room : Delegation → Bool
-has_room d = leb d.giver 255 && (leb d.receiver 255 && (leb d.weight 255 && (leb d.need 65535 && (leb d.bar 65535 && leb d.kind 255))))
+-- the delegation that a record's numbers are
+abbrev pub delegation_in : Record → Delegation
+delegation_in r = granted r.giver r.receiver r.weight r.need r.bar r.kind
 
 -- a row stored after those of R, or left out
 pub record RowPut (w : ℕ) (R : Register) (row : List ℤ) (r : Bool) (after : List ℕ) : Type 0 where
   pub put : r ≡ true → RowsHeld w (with_row w R row) (rows_of w R ++ (row ∷ [])) after
   pub out : r ≡ false → Unformed w (rows_of w R ++ (row ∷ []))
 
--- ── the rows from a place on ──
-
--- a place in the text, room for the values of a row, and a block; it is one to which rows can be added where those before them have room
-pub record RowsLent (text : List ℕ) (at : ℕ) (row : List ℤ) (b : List ℕ) (fits : Bool) : Type 0 where
-  pub within : at ≤ length text
-  pub columns : (length row ≡ subject_columns) ⊎ (length row ≡ delegation_columns)
-  pub block : fits ≡ true → Fitting b
+-- ── the rows at the start of a text ──
 
 -- lines of w values, as many as there are: all were stored after those of R, or not all make a well-formed block's
-pub record RowsRead (text : List ℕ) (at w : ℕ) (R : Register) (fits : Bool) (r : Rows) (after : List ℕ) : Type 0 where
+pub record RowsRead (text : List ℕ) (w : ℕ) (R : Register) (fits : Bool) (r : Rows) (after : List ℕ) : Type 0 where
   pub rows : List (List ℤ)
   pub formed : AreRows w rows
-  pub front : drop at text ≡ concat_map line rows ++ drop r.next text
+  pub front : text ≡ concat_map line rows ++ drop r.next text
   pub within : r.next ≤ length text
   pub last : (row : List ℤ) (rest : List ℕ) → length row ≡ w → AllAllowed false row → drop r.next text ≢ line row ++ rest
   pub held : r.fits ≡ true → (fits ≡ true) × RowsHeld w (with_rows w R rows) (rows_of w R ++ rows) after

@@ -4,8 +4,30 @@
 mod read;
 mod write;
 
+ghost use Rattle.std.specs.Prelude.{◌≡◌};
+ghost use Rattle.regfile.specs.Faults.{fault_of};
+
 pub use read::parse;
+use rules::Refusal;
 pub use write::render;
+
+// Why a text gives no register: it is of another form, or its lines make no well-formed block.
+#[derive(Clone, Copy, Debug, PartialEq, Eq)]
+pub enum FileFault {
+    Malformed,
+    NotWellFormed,
+}
+
+impl From<FileFault> for Refusal {
+    ghost from_gives = { λ f r. r ≡ fault_of f };
+
+    fn from(fault: FileFault) -> Refusal {
+        match fault {
+            FileFault::Malformed => Refusal::Malformed,
+            FileFault::NotWellFormed => Refusal::NotWellFormed,
+        }
+    }
+}
 
 // Where the text goes on after rows, and whether all of them have room in a block.
 #[derive(Drop)]
@@ -14,7 +36,14 @@ pub struct Rows {
     pub fits: bool,
 }
 
-// The columns of a subject's line and of a delegation's.
-pub const SUBJECT_COLUMNS: usize = 3;
+// The two parts of the text: the rows of the subjects, and those of the delegations.
+#[derive(Clone, Copy)]
+enum Part {
+    Subjects,
+    Delegations,
+}
 
-pub const DELEGATION_COLUMNS: usize = 6;
+// The columns of a subject's line and of a delegation's.
+const SUBJECT_COLUMNS: usize = 3;
+
+const DELEGATION_COLUMNS: usize = 6;

@@ -13,8 +13,8 @@ use Rattle.block.specs.Layout.{block_size}
 use Rattle.block.specs.WellFormed.{well_formed}
 use Rattle.block.specs.Older.{old_size, brought}
 use Rattle.register.specs.CallOn.{turned}
-use Rattle.register.specs.Made.{refused_by, answered_by}
 use Rattle.register.specs.Bring.{bring_refusal, bring_on, BringMade}
+use Rattle.register.specs.Answer.{refused_by, answered_by}
 
 module _ (old b : List ℕ) where
   bring_refused : (n : ℕ) → bring_refusal old b ≡ n → n ≢ 0 → BringMade old b (refused_by n) b

@@ -29,10 +29,10 @@ use Rattle.block.proofs.Held.{held_formed}
 use Rattle.rounds.specs.Settled.{SettledMade}
 use Rattle.rounds.specs.declared.Tally.{Tally}
 use Rattle.register.specs.CallOn.{Result, written, call_on}
-use Rattle.register.specs.Made.{refused_by, answered_by, result_of, Made}
+use Rattle.register.specs.Made.{result_of, Made}
 use Rattle.register.specs.Cuts.{on_register, CutsLeft, CutMade}
-use Rattle.register.specs.declared.Answer.{Answer}
-use Rattle.steptable.specs.declared.Given.{Given}
+use Rattle.register.specs.Answer.{Answer, refused_by, answered_by}
+use Rattle.steptable.specs.TableText.{Given}
 use Rattle.refusals.specs.Early.{refusal_on}
 use Rattle.refusals.proofs.EarlyTests.{Through, through}
 use Rattle.register.proofs.Made.{accepted_passes, made_done, made_refused}
@@ -97,10 +97,10 @@ module _ {g : Given} {b : List ℕ} {c : Call} {k : Change} (h : CutThrough g b 
   pub changed_block : well_formed d ≡ true
   changed_block = ap well_formed e ∙ T_true (well_formed (encode (changed (decode b) k))) (encode_formed (changed (decode b) k) formed)
 
-  -- the rounds are made on it
-  pub cut_done : (o : Answer) (after : List ℕ) → result_of o after ≡ written d (cut g.steps (decode d)) → CutMade g c b o after
-  cut_done o after q =
+  -- the rounds are made on it, by the steps t
+  pub cut_done : (o : Answer) (after : List ℕ) {t : List ℤ} → t ≡ g.steps → result_of o after ≡ written d (cut t (decode d)) → CutMade g c b o after
+  cut_done o after s q =
       let C = changed (decode b) k in
       cut_made g h.rule c b h.bytes o after
       (made_done g c b h.through.early h.through.held o after
-      (q ∙ ap (λ (x : List ℕ). written x (cut g.steps (decode x))) e ∙ ap (λ (D : Register). written (encode C) (cut g.steps D)) (decode_encode C formed) ∙ written_cut g.steps (encode C) b C ∙ ap (written b) (sym (accepted_change g.steps (decode b) c k h.makes))))
+      (q ∙ ap (λ (u : List ℤ). written d (cut u (decode d))) s ∙ ap (λ (x : List ℕ). written x (cut g.steps (decode x))) e ∙ ap (λ (D : Register). written (encode C) (cut g.steps D)) (decode_encode C formed) ∙ written_cut g.steps (encode C) b C ∙ ap (written b) (sym (accepted_change g.steps (decode b) c k h.makes))))

@@ -11,8 +11,9 @@ use Rattle.rules.proofs.Refusals.{passes_of}
 use Rattle.block.specs.Bytes.{IsBytes}
 use Rattle.block.specs.Block.{subjects_in, decode, encode}
 use Rattle.block.proofs.Held.{subjects_held_lem}
-use Rattle.steptable.specs.declared.Given.{Given}
-use Rattle.register.specs.Made.{answered_by, Made}
+use Rattle.steptable.specs.TableText.{Given}
+use Rattle.register.specs.Answer.{answered_by}
+use Rattle.register.specs.Made.{Made}
 use Rattle.refusals.proofs.EarlyTests.{Through}
 use Rattle.register.proofs.Made.{made_done}
 

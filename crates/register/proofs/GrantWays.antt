@@ -23,12 +23,13 @@ use Rattle.block.specs.Records.{record_place, delegation_at, delegations_to}
 use Rattle.block.proofs.Encode.{count_encode, decode_encode}
 use Rattle.block.proofs.Held.{held_formed, held_written, pair_held, found_stands}
 use Rattle.change.proofs.Changing.{reweigh_held}
-use Rattle.steptable.specs.declared.Given.{Given}
+use Rattle.steptable.specs.TableText.{Given}
 use Rattle.refusals.specs.Checked.{BothEnrolled}
 use Rattle.refusals.proofs.EarlyTests.{Through}
 use Rattle.refusals.proofs.Holding.{both_of}
 use Rattle.register.specs.CallOn.{Result, call_on}
-use Rattle.register.specs.Made.{answered_by, Made}
+use Rattle.register.specs.Answer.{answered_by}
+use Rattle.register.specs.Made.{Made}
 use Rattle.register.proofs.Made.{call_on_accepted, accepted_passes, made_done}
 
 module _ (t : Given) (b : List ℕ) (bytes : IsBytes b) (g r : ℕ) where

@@ -1,4 +1,5 @@
 pub mod Made
+pub mod Errors
 pub mod Through
 pub mod OnBytes
 pub mod Enrolling

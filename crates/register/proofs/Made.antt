@@ -15,12 +15,12 @@ use Rattle.rules.proofs.Lists.{eq_or}
 use Rattle.rules.proofs.Refusals.{Passes, passes, passed_numbered, first_of_none}
 use Rattle.block.specs.Layout.{block_size}
 use Rattle.block.specs.Block.{decode, encode}
-use Rattle.steptable.specs.declared.Given.{Given}
+use Rattle.steptable.specs.TableText.{Given}
 use Rattle.refusals.specs.Early.{early, refusal_on}
 use Rattle.refusals.proofs.EarlyTests.{Early, early_none, none_early, refused_early, refused_held}
 use Rattle.register.specs.CallOn.{Result, turned, written, call_on, open_on}
-use Rattle.register.specs.Made.{refused_by, answered_by, result_of, Made, MadeOpen}
-use Rattle.register.specs.declared.Answer.{Answer}
+use Rattle.register.specs.Made.{result_of, Made, MadeOpen}
+use Rattle.register.specs.Answer.{Answer, refused_by, answered_by}
 
 module _ (g : Given) (c : Call) (b : List ℕ) where
   -- refused by 1, by what was passed or by 8

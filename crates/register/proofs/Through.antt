@@ -9,7 +9,7 @@ use Rattle.rules.specs.Call.{Call}
 use Rattle.rules.specs.CallStep.{call_step}
 use Rattle.rules.proofs.Lists.{eq_or}
 use Rattle.block.specs.Block.{decode, encode}
-use Rattle.steptable.specs.declared.Given.{Given}
+use Rattle.steptable.specs.TableText.{Given}
 use Rattle.refusals.specs.Early.{refusal_on}
 use Rattle.refusals.proofs.EarlyTests.{Through, through}
 use Rattle.register.specs.CallOn.{Result, written, call_on}

@@ -12,8 +12,9 @@ use Rattle.block.specs.Bytes.{IsBytes}
 use Rattle.block.specs.Block.{count_in, decode}
 use Rattle.block.proofs.Held.{held_written, delegations_held}
 use Rattle.block.specs.Records.{delegations_to}
-use Rattle.steptable.specs.declared.Given.{Given}
-use Rattle.register.specs.Made.{answered_by, Made}
+use Rattle.steptable.specs.TableText.{Given}
+use Rattle.register.specs.Answer.{answered_by}
+use Rattle.register.specs.Made.{Made}
 use Rattle.refusals.proofs.EarlyTests.{Through}
 use Rattle.register.proofs.Made.{made_done}
 

@@ -6,7 +6,7 @@ use Rattle.block.specs.Older.{old_size, brought}
 use Rattle.refusals.specs.Early.{not_well_formed}
 use Rattle.register.specs.CallOn.{Result, turned}
 use Rattle.register.specs.Made.{result_of}
-use Rattle.register.specs.declared.Answer.{Answer}
+use Rattle.register.specs.Answer.{Answer}
 
 -- 1: the old block is not 2,180 bytes, or the new one not 2,188
 abbrev pub wrong_sizes : List ℕ → List ℕ → ℕ × Bool

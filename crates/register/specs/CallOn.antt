@@ -5,7 +5,7 @@ use Rattle.rules.specs.Refusal.{first_of}
 use Rattle.rules.specs.CallStep.{Outcome, call_step}
 use Rattle.block.specs.Layout.{block_size}
 use Rattle.block.specs.Block.{decode, encode}
-use Rattle.steptable.specs.declared.Given.{Given}
+use Rattle.steptable.specs.TableText.{Given}
 use Rattle.refusals.specs.Early.{early}
 
 -- the refusal number, 0 when accepted; the three answers; the bytes afterwards

@@ -5,10 +5,10 @@ use Rattle.rules.specs.CallStep.{Outcome}
 use Rattle.rules.specs.Trace.{PlaceRight}
 use Rattle.rules.specs.History.{CutsRight}
 use Rattle.block.specs.Block.{decode}
-use Rattle.steptable.specs.declared.Given.{Given}
+use Rattle.steptable.specs.TableText.{Given}
 use Rattle.register.specs.CallOn.{Result, call_on}
 use Rattle.register.specs.Made.{result_of}
-use Rattle.register.specs.declared.Answer.{Answer}
+use Rattle.register.specs.Answer.{Answer}
 
 -- a result as an outcome: what is left is the register that the bytes hold
 abbrev pub on_register : Result → Outcome

@@ -1,16 +1,9 @@
 -- What every public call promises: one relation of what is given with the step table's text, the call, the block before, what was returned and the block after. Assumes nothing.
-use Rattle.std.specs.Prelude.{◌≡◌, List, ℕ, ℤ, pos}
+use Rattle.std.specs.Prelude.{◌≡◌, List, ℕ}
 use Rattle.rules.specs.Call.{Call}
-use Rattle.steptable.specs.declared.Given.{Given}
+use Rattle.steptable.specs.TableText.{Given}
 use Rattle.register.specs.CallOn.{Result, call_on, open_on}
-use Rattle.register.specs.declared.Answer.{Answer}
-
--- what a refused call returns, and an accepted one
-abbrev pub refused_by : ℕ → Answer
-refused_by n = record { refusal = n; first = pos 0; second = pos 0; third = pos 0 }
-
-abbrev pub answered_by : ℤ → ℤ → ℤ → Answer
-answered_by a b c = record { refusal = 0; first = a; second = b; third = c }
+use Rattle.register.specs.Answer.{Answer}
 
 -- the answer of a library call and the bytes afterwards, as a result
 abbrev pub result_of : Answer → List ℕ → Result

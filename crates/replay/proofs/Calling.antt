@@ -1,29 +1,20 @@
 -- One call by its numbers: a number that is a call's, and another. Assumes nothing.
 use mathlib.Core.Path.{◌≡◌, sym, ap, subst, ◌∙◌}
-use mathlib.Core.Logic.{◌≢◌}
 use mathlib.Core.Bool.{Bool, true, false}
 use mathlib.Core.List.{List}
-use Prim.Native.Nat.{ℕ, ◌+◌, ◌≤◌, ◌<◌, zero-le}
+use Prim.Native.Nat.{ℕ, ◌+◌, ◌<◌}
 use native.Mathlib.Nat.{add-zero}
 use native.Mathlib.Omega.{arith}
-use borrow.Author.Tests.{lt-leb}
 use lib.Dec.{T, T_not}
 use lib.ListN.{get_or, drop}
 use lib.Seq.{get_or-drop}
 use Rattle.rules.specs.Call.{Call}
 use Rattle.block.specs.Bytes.{all_from}
 use Rattle.block.proofs.Bytes.{all_from_at}
-use Rattle.register.specs.Made.{refused_by, Made}
-use Rattle.register.specs.declared.Answer.{Answer}
+use Rattle.register.specs.Made.{Made}
+use Rattle.register.specs.Answer.{Answer, refused_by}
 use Rattle.demands.specs.History.{lent_to}
 use Rattle.replay.specs.Replay.{is_call, call_of, CallMade, call_in}
-
-past : (k n : ℕ) → k ≤ n → n ≢ k → k < n
-past k n l h = omega arith
-
--- a number that is none of the calls' is no call's
-pub no_call : (n : ℕ) → n ≢ 0 → n ≢ 1 → n ≢ 2 → n ≢ 3 → n ≢ 4 → n ≢ 5 → n ≢ 6 → n ≢ 7 → is_call n ≡ false
-no_call n a b c d e f g h = lt-leb n 7 (past 7 n (past 6 n (past 5 n (past 4 n (past 3 n (past 2 n (past 1 n (past 0 n zero-le a) b) c) d) e) f) g) h)
 
 -- a test that every call passes, call i passes
 pub passes_at : (f : ℕ → Bool) (n : ℕ) → all_from f 0 n ≡ true → (i : ℕ) → i < n → T (f i)

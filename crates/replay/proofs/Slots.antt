@@ -1,11 +1,10 @@
 -- Slots of a list of blocks: kept where another is written; copied; read after a write. Assumes nothing.
 use mathlib.Core.Path.{◌≡◌, sym, ap, ◌∙◌}
 use mathlib.Core.List.{List, ◌++◌, append_assoc}
-use Prim.Native.Nat.{ℕ, suc, ◌+◌, ◌*◌, ◌≤◌, ◌<◌}
-use native.Mathlib.Numerals.{add-one}
+use Prim.Native.Nat.{ℕ, suc, ◌+◌, ◌*◌, ◌≤◌}
 use native.Mathlib.Omega.{arith}
-use lib.ListN.{length, get_or, take, drop, set, length-drop, take-append-drop, get_or-append}
-use lib.Seq.{paste, paste-suc, length_paste_head, get_or-take, get_or-drop, length-take-le, take_at, drop_at, drop-append-le, take-append-le}
+use lib.ListN.{length, take, drop, length-drop, take-append-drop}
+use lib.Seq.{paste, length-take-le, take_at, drop_at, drop-append-le, take-append-le}
 use Rattle.block.specs.Layout.{block_size}
 use Rattle.replay.specs.Replay.{slot}
 use Rattle.replay.specs.Turn.{SlotCopied}
@@ -38,25 +37,6 @@ slot_part b i m k e f = λ p. take (f p) (drop (e p) b)
 
 -- ── the copy ──
 module _ (b : List ℕ) (from to : ℕ) (next : to ≡ from + block_size) (room : to + block_size ≤ length b) where
-  -- what is read is not written yet
-  ahead : (j : ℕ) → j < block_size → get_or (paste b to (drop from b) j) (from + j) 0 ≡ get_or (drop from b) j 0
-  ahead j h =
-      let s = drop from b in
-      let l : j ≤ length s = simp length-drop (omega arith) in
-      let n : length (take to b ++ take j s) ≡ to + j = length_paste_head b to s j (omega arith) l in
-      let k : length (take to b) ≡ to = length-take-le to b (omega arith) in
-      get_or-append (take to b ++ take j s) (drop (to + j) b) 0 (from + j) (omega arith)
-      ∙ get_or-append (take to b) (take j s) 0 (from + j) (omega arith)
-      ∙ get_or-take to b (from + j) 0 (omega arith)
-      ∙ sym (get_or-drop from b j 0)
-
-  pub copied_on : (j : ℕ) → j < block_size → (l : List ℕ) → l ≡ paste b to (drop from b) j → set l (to + j) (get_or l (from + j) 0) ≡ paste b to (drop from b) (j + 1)
-  copied_on j h l e =
-      let s : List ℕ = drop from b in
-      let one : set (paste b to s j) (to + j) (get_or (paste b to s j) (from + j) 0) ≡ paste b to s (suc j) =
-      ap (set (paste b to s j) (to + j)) (ahead j h) ∙ paste-suc b to s j 0 (omega arith) (simp length-drop (omega arith)) in
-      rw (e, add-one) one
-
   pub copied_all : (i : ℕ) → from ≡ block_size * i → (l : List ℕ) → l ≡ paste b to (drop from b) block_size → SlotCopied b i l
   unfolding slot
   copied_all i f l e =

@@ -10,10 +10,10 @@ use lib.Dec.{leb, leb-zero}
 use lib.ListN.{get_or, take, drop}
 use lib.Seq.{get_or-drop}
 use Rattle.rules.specs.Call.{Call}
-use Rattle.steptable.specs.declared.Given.{Given}
+use Rattle.steptable.specs.TableText.{Given}
 use Rattle.register.specs.CallOn.{call_on}
 use Rattle.register.specs.Made.{result_of, Made}
-use Rattle.register.specs.declared.Answer.{Answer}
+use Rattle.register.specs.Answer.{Answer}
 use Rattle.demands.specs.History.{reckons, lent_to, plain, asked_on}
 use Rattle.replay.specs.Replay.{call_of, call_in, ask_in}
 use Rattle.replay.specs.Turn.{Reckoning, TextPlaced}

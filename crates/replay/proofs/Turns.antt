@@ -21,7 +21,11 @@ use Rattle.register.specs.CallOn.{Result, open_on}
 use Rattle.register.specs.Made.{result_of, MadeOpen}
 use Rattle.slips.specs.Slip.{Effect}
 use Rattle.demands.specs.History.{Asked, plain, asked_on, LeavesRight, bytes_left, block_at}
-use Rattle.register.specs.declared.Answer.{Answer}
+use Rattle.std.specs.Prelude as std
+use Rattle.rules.specs.declared.refusal.Refusal.{Refusal}
+use Rattle.register.proofs.Errors.{open_passes}
+use Rattle.register.specs.declared.Answers.{Answers}
+use Rattle.register.specs.Answer.{Answer, answer_of}
 use Rattle.demands.proofs.History.{demand3}
 use Rattle.replay.specs.Replay.{answers_per_call, call_count, asked_in, asked_at, slot, returned_at, entry_in, entries_in, is_sized, all_texts, all_calls, replay_refusal, Replayed, ReplayMade}
 use Rattle.replay.specs.Turn.{SlotCopied, Stored, MadeAt, TurnMade}
@@ -87,6 +91,10 @@ unfolding open_on
 opened blocks ys R o room w m =
     let size : length (take block_size blocks) ≡ block_size = length-take-le block_size blocks room in
     slot_new blocks 0 (omega arith) ys R 0 (omega arith) (w ∙ size) ∙ ap (λ (r : Result). r.bytes) m ∙ rw (eq-eqb (length (take block_size blocks)) block_size size)
+
+-- it is never refused
+pub opens : (blocks ys : List ℕ) (o : std.Result Answers Refusal) → block_size ≤ length blocks → MadeOpen (take block_size blocks) (answer_of o) ys → {f : Refusal} → o ≡ std.Err f → ⊥
+opens blocks ys o room m w = open_passes (take block_size blocks) ys o (length-take-le block_size blocks room) m w
 
 -- the first k calls were made
 pub record Through (calls texts blocks refusals : List ℕ) (answers : List ℤ) (k : ℕ) : Type 0 where

@@ -8,10 +8,10 @@ use Rattle.rules.specs.Trace.{Entry, PlaceRight}
 use Rattle.block.specs.Layout.{block_size}
 use Rattle.block.specs.Bytes.{read_all, all_from}
 use Rattle.block.specs.Block.{encode}
-use Rattle.register.specs.Made.{refused_by, result_of, Made}
+use Rattle.register.specs.Made.{result_of, Made}
 use Rattle.slips.specs.Slip.{Effect}
 use Rattle.demands.specs.History.{Asked, asks, reckons, lent_to, plain, asked_on, LeavesRight, block_at}
-use Rattle.register.specs.declared.Answer.{Answer}
+use Rattle.register.specs.Answer.{Answer, refused_by}
 
 -- ── one call ──
 

@@ -2,7 +2,7 @@
 use Rattle.std.specs.Prelude.{◌≡◌, Bool, List, ℕ, suc, ◌*◌, ◌-◌, ◌≤◌, ◌<◌, T, leb, length, take, drop, ℤ}
 use Rattle.block.specs.Layout.{block_size}
 use Rattle.register.specs.Made.{result_of}
-use Rattle.register.specs.declared.Answer.{Answer}
+use Rattle.register.specs.Answer.{Answer}
 use Rattle.demands.specs.History.{reckons, lent_to, plain, asked_on}
 use Rattle.replay.specs.Replay.{is_call, call_of, answers_per_call, call_in, text_in, call_count, asked_at, number_at, slot, returned_at, text_fits, text_fits_at}
 use Rattle.replay.specs.declared.Place.{Place}

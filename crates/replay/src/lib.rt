@@ -3,14 +3,16 @@
 
 ghost use Rattle.std.specs.Prelude.{◌≡◌, ◌+◌, ◌*◌, ◌≤◌, ◌<◌, T, length, get_or, drop};
 ghost use Rattle.block.specs.Layout.{block_size};
+ghost use Rattle.rules.specs.Refused.{refused_with};
+ghost use Rattle.register.specs.Answer.{answer_of};
 ghost use Rattle.register.specs.Made.{result_of};
 ghost use Rattle.demands.specs.History.{plain, asked_on};
 ghost use Rattle.replay.specs.Replay.{is_call, call_of, CallMade, numbers_per_call, answers_per_call, ask_in, is_sized, text_fits, all_texts, all_calls, ReplayMade};
 ghost use Rattle.replay.specs.Turn.{Reckoning, TextPlaced, SlotCopied, Stored, Ready, TurnMade};
 
 use block::layout;
-use register::Answer;
-use rules::refusal;
+use register::Answers;
+use rules::Refusal;
 
 // How many numbers a call has in a list, and how many answers.
 pub const NUMBERS_PER_CALL: usize = 9;
@@ -30,34 +32,20 @@ pub fn call(
     need: u32,
     bar: u32,
     table: &[u8],
-) -> Answer
-    ensures { CallMade number (call_of number by giver receiver weight need bar) table.now block.old result block.new }
+) -> Result<Answers, Refusal>
+    ensures { CallMade number (call_of number by giver receiver weight need bar) table.now block.old (answer_of result) block.new }
 {
-    if number == 0 {
-        return register::enrol(block, need);
+    match number {
+        0 => register::enrol(block, need),
+        1 => register::grant_table(block, giver, receiver, weight, need, bar, table),
+        2 => register::revoke_table(block, by, giver, receiver, table),
+        3 => register::downgrade_table(block, by, giver, receiver, weight, table),
+        4 => register::reach_table(block, giver, receiver, table),
+        5 => register::use_right(block, receiver),
+        6 => register::set_marks(block, by, receiver, need, table),
+        7 => register::retire(block, by, receiver, table),
+        _ => Err(Refusal::Malformed),
     }
-    if number == 1 {
-        return register::grant_table(block, giver, receiver, weight, need, bar, table);
-    }
-    if number == 2 {
-        return register::revoke_table(block, by, giver, receiver, table);
-    }
-    if number == 3 {
-        return register::downgrade_table(block, by, giver, receiver, weight, table);
-    }
-    if number == 4 {
-        return register::reach_table(block, giver, receiver, table);
-    }
-    if number == 5 {
-        return register::use_right(block, receiver);
-    }
-    if number == 6 {
-        return register::set_marks(block, by, receiver, need, table);
-    }
-    if number == 7 {
-        return register::retire(block, by, receiver, table);
-    }
-    register::refused(refusal::MALFORMED)
 }
 
 // The number is a call's.
@@ -71,13 +59,10 @@ fn is_call(number: u32) -> bool
 fn all_calls(calls: &[u32]) -> bool
     ensures { result ≡ all_calls calls.now }
 {
-    let n = calls.len() / NUMBERS_PER_CALL;
-    let mut i: usize = 0;
-    while i < n {
+    for i in 0..calls.len() / NUMBERS_PER_CALL {
         if !is_call(calls[NUMBERS_PER_CALL * i]) {
             return false;
         }
-        i += 1;
     }
     true
 }
@@ -127,14 +112,11 @@ fn text_place(calls: &[u32], at: usize) -> Place
 fn all_texts(calls: &[u32], texts: &[u8]) -> bool
     ensures { result ≡ all_texts calls.now texts.now }
 {
-    let n = calls.len() / NUMBERS_PER_CALL;
-    let mut i: usize = 0;
-    while i < n {
+    for i in 0..calls.len() / NUMBERS_PER_CALL {
         let place = text_place(calls, NUMBERS_PER_CALL * i);
         if place.end > texts.len() {
             return false;
         }
-        i += 1;
     }
     true
 }
@@ -168,22 +150,18 @@ fn copy_slot(blocks: &mut [u8], i: usize)
 {
     let from = layout::BLOCK_SIZE * i;
     let to = from + layout::BLOCK_SIZE;
-    let mut j: usize = 0;
-    while j < layout::BLOCK_SIZE {
-        blocks[to + j] = blocks[from + j];
-        j += 1;
-    }
+    blocks.copy_within(from..to, to);
 }
 
 // What call `i` returned.
-fn store(refusals: &mut [u32], answers: &mut [i32], i: usize, o: Answer)
+fn store(refusals: &mut [u32], answers: &mut [i32], i: usize, returned: Result<Answers, Refusal>)
     requires { (i < length refusals.old) × (answers_per_call * i + answers_per_call ≤ length answers.old) }
-    ensures { Stored refusals.old answers.old i o refusals.new answers.new }
+    ensures { Stored refusals.old answers.old i (answer_of returned) refusals.new answers.new }
 {
-    let number = o.refusal;
-    let first = o.first;
-    let second = o.second;
-    let third = o.third;
+    let (number, told) = register::told(returned);
+    let first = told.first;
+    let second = told.second;
+    let third = told.third;
     refusals[i] = number;
     answers[ANSWERS_PER_CALL * i] = first;
     answers[ANSWERS_PER_CALL * i + 1] = second;
@@ -191,9 +169,9 @@ fn store(refusals: &mut [u32], answers: &mut [i32], i: usize, o: Answer)
 }
 
 // The call whose numbers begin at `at`, with its text.
-fn call_at(calls: &[u32], at: usize, texts: &[u8], block: &mut [u8]) -> Answer
+fn call_at(calls: &[u32], at: usize, texts: &[u8], block: &mut [u8]) -> Result<Answers, Refusal>
     requires { (at + numbers_per_call ≤ length calls.now) × T (is_call (get_or calls.now at 0)) × T (text_fits (drop at calls.now) (length texts.now)) }
-    ensures { plain (result_of result block.new) ≡ asked_on block.old (ask_in texts.now (drop at calls.now)) }
+    ensures { plain (result_of (answer_of result) block.new) ≡ asked_on block.old (ask_in texts.now (drop at calls.now)) }
 {
     let place = text_place(calls, at);
     let begin = place.begin;
@@ -239,24 +217,21 @@ pub fn replay(
     blocks: &mut [u8],
     refusals: &mut [u32],
     answers: &mut [i32],
-) -> u32
-    ensures { ReplayMade calls.now texts.now blocks.old refusals.old answers.old result blocks.new refusals.new answers.new }
+) -> Result<(), Refusal>
+    ensures { ReplayMade calls.now texts.now blocks.old refusals.old answers.old (refused_with result) blocks.new refusals.new answers.new }
 {
     if !is_sized(calls.len(), blocks.len(), refusals.len(), answers.len()) {
-        return refusal::WRONG_LENGTH;
+        return Err(Refusal::WrongLength);
     }
     if !all_texts(calls, texts) {
-        return refusal::WRONG_LENGTH;
+        return Err(Refusal::WrongLength);
     }
     if !all_calls(calls) {
-        return refusal::MALFORMED;
+        return Err(Refusal::Malformed);
     }
-    register::open(&mut blocks[0..layout::BLOCK_SIZE]);
-    let n = calls.len() / NUMBERS_PER_CALL;
-    let mut i: usize = 0;
-    while i < n {
+    register::open(&mut blocks[0..layout::BLOCK_SIZE])?;
+    for i in 0..calls.len() / NUMBERS_PER_CALL {
         turn(calls, i, texts, blocks, refusals, answers);
-        i += 1;
     }
-    0
+    Ok(())
 }

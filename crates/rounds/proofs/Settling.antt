@@ -9,7 +9,7 @@ use native.Mathlib.Omega.{arith}
 use borrow.Author.Tests.{eq-eqb, ne_eqb}
 use lib.Dec.{eqb}
 use lib.IntN.{ℤ}
-use Rattle.rules.specs.Register.{Register, with_delegations}
+use Rattle.rules.specs.Register.{Register}
 use Rattle.rules.specs.Table.{TableRule}
 use Rattle.rules.specs.Round.{round, SettlesIn, settle, total}
 use Rattle.rules.specs.Remainder.{Within}
@@ -26,7 +26,6 @@ use Rattle.block.specs.WellFormed.{well_formed}
 use Rattle.block.proofs.Encode.{bytes_encode, decode_encode}
 use Rattle.block.proofs.Form.{encode_formed}
 use Rattle.block.proofs.Held.{held_formed, held_written}
-use Rattle.block.specs.Records.{delegation_at, left_to}
 use Rattle.reckoning.specs.Reckoned.{IndexOf, Reckoned}
 use Rattle.reckoning.specs.declared.Index.{Index}
 use Rattle.rounds.specs.Rounded.{RoundMade}
@@ -69,11 +68,6 @@ round_none t b bytes formed x ws r e = record {
   same = λ _. r.same e;
   change = λ z. absurd (no (sym z) tt);
 }
-
--- a round that lowers one
-pub round_some : (t : List ℤ) (b : List ℕ) (x : Bool) (ws : List ℤ) → Reckoned t b x ws → x ≡ true → (after : List ℕ)
-    → after ≡ encode (with_delegations (decode b) (left_to (delegation_at b) ws (count_in b))) → RoundMade t (decode b) true after
-round_some t b x ws r e after w = record { left = w ∙ ap encode r.left; same = λ z. absurd (no z tt); change = λ _. r.change e }
 
 -- the block holds what n rounds left
 abbrev pub GoingOn : List ℤ → Register → ℕ → List ℕ → Type 0

@@ -14,12 +14,11 @@ pub fn counts(before: &[u8], after: &[u8]) -> Changes
 {
     let n = block::count(before);
     let m = block::count(after);
-    let mut dropped: u32 = 0;
-    let mut lowered: u32 = 0;
+    let mut dropped = 0;
+    let mut lowered = 0;
     // Both blocks rise: record `k` stands in `after` exactly if it is of the pair of record `j`, the first not met yet.
-    let mut j: usize = 0;
-    let mut k: usize = 0;
-    while k < n {
+    let mut j = 0;
+    for k in 0..n {
         let giver = block::giver(before, k);
         let receiver = block::receiver(before, k);
         if j < m && block::is_pair(after, j, giver, receiver) {
@@ -30,10 +29,6 @@ pub fn counts(before: &[u8], after: &[u8]) -> Changes
         } else {
             dropped += 1;
         }
-        k += 1;
     }
-    Changes {
-        dropped: dropped,
-        lowered: lowered,
-    }
+    Changes { dropped, lowered }
 }

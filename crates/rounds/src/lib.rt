@@ -65,6 +65,7 @@ fn renewed(block: &[u8], starts: &mut [u16], index: Index) -> Index
 }
 
 // Rounds until one changes nothing, or, where `once` is set, until the first has changed something; how many changed something.
+// `once` stays a test in the loop: two functions would lay out the same index and tables.
 fn make_rounds(block: &mut [u8], table: &[i16], once: bool) -> u32
     requires { (well_formed block.old ≡ true) × TableRule table.now }
     ensures { RoundsMade table.now (decode block.old) once result block.new }
@@ -74,7 +75,7 @@ fn make_rounds(block: &mut [u8], table: &[i16], once: bool) -> u32
     let mut reaches = [0i16; reckoning::REACHES];
     let mut waiting = [0u64; queue::GROUPS];
     let mut weights = [0i16; layout::MOST_RECORDS];
-    let mut changed: u32 = 0;
+    let mut changed = 0;
     while round(
         block,
         &starts,
@@ -99,12 +100,12 @@ pub fn settled(block: &mut [u8], table: &[i16]) -> Tally
     ensures { SettledMade table.now (decode block.old) result block.new }
 {
     let mut before = [0u8; layout::BLOCK_SIZE];
-    change::copy(block, &mut before);
+    before.copy_from_slice(block);
     let changed = make_rounds(block, table, false);
-    let counts = counted::counts(&before, block);
+    let Changes { dropped, lowered } = counted::counts(&before, block);
     Tally {
-        dropped: counts.dropped,
-        lowered: counts.lowered,
+        dropped,
+        lowered,
         rounds: changed + 1,
     }
 }

@@ -11,6 +11,7 @@ use borrow.Author.Count.{below_more}
 use lib.Dec.{T, eqb, eqb→eq, eqb_refl, T_not}
 use lib.ListN.{length, get_or, set, length-map}
 use lib.Seq.{get_or-set_same, get_or-set_other}
+use Rattle.std.specs.List.{list_any}
 use Rattle.rules.specs.List.{◌∈◌, keep, filter, any, tabulate, concat_map}
 
 pub T_left : (a b : Bool) → T (a && b) → T a
@@ -262,3 +263,8 @@ set_more P l i v d h all new =
     below_more (λ y. P y (get_or (set l i v) y d)) i
     (λ y b. let n : y ≢ i = λ e. omega arith in subst (P y) (sym (get_or-set_other l i y v d n)) (all y b))
     (subst (P i) (sym (get_or-set_same l i v d h)) new)
+
+-- the library's test of a list is `any`
+pub list_any_any : {A : Type 0} (f : A → Bool) (xs : List A) → list_any f xs ≡ any f xs
+list_any_any f [] = refl
+list_any_any f (x ∷ xs) = ap (λ (b : Bool). f x || b) (list_any_any f xs)

@@ -16,6 +16,7 @@ pub mod Remainder
 pub mod WellFormed
 pub mod Call
 pub mod Refusal
+pub mod Refused
 pub mod CallStep
 pub mod Granted
 pub mod Kinds

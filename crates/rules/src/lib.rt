@@ -6,7 +6,9 @@ ghost use Rattle.rules.specs.Condition.{meets};
 
 pub mod kind;
 pub mod most;
-pub mod refusal;
+mod refusal;
+
+pub use refusal::Refusal;
 
 // How much a right falls at each step, indexed by weight: -1 after weight 0, 255 stays 255.
 const STEPS: [i16; 256] = [

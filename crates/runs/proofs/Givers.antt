@@ -15,7 +15,7 @@ use Rattle.rules.specs.Register.{Delegation}
 use Rattle.rules.proofs.Lists.{either}
 use Rattle.block.specs.Layout.{most_subjects, most_records, record_size}
 use Rattle.runs.specs.Lent.{record_count, record_at, Lent}
-use Rattle.runs.specs.Steps.{SteppedTo, Sought, start_count, Ended, Indexed, part, Gave}
+use Rattle.runs.specs.Steps.{SteppedTo, Sought, Indexed, part, Gave}
 use Rattle.runs.proofs.Records.{record_part, delegation_mem}
 
 module _ (s : List ℕ) (a e : ℕ) (h : a ≤ e) (l : e ≤ record_count s) where
@@ -28,18 +28,6 @@ module _ (s : List ℕ) (a e : ℕ) (h : a ≤ e) (l : e ≤ record_count s) whe
   part_receivers t lent k b =
       let c : a + k < record_count s = omega (arith, part_count) in
       subst (λ (d : Delegation). d.receiver < most_subjects) (sym (record_part s a (record_size * e - record_size * a) k (omega (arith, part_count)))) (lent.receivers (record_at s (a + k)) (delegation_mem s (record_count s) (a + k) c))
-
--- where no record is left, every later run starts at the end
-pub ended : (s l m : List ℕ) (from end : ℕ) → end ≡ record_count s → Sought s from end → ((g : ℕ) → g < from → Sought s g (get_or l g 0)) → Ended from end l m → (g : ℕ) → g < start_count → Sought s g (get_or m g 0)
-ended s l m from end all found begun e g h = go (either (ltb g from))
-  where
-    go : T (ltb g from) ⊎ T (not (ltb g from)) → Sought s g (get_or m g 0)
-    go (inl q) = subst (Sought s g) (sym (e.before g (ltb→lt g from q))) (begun g (ltb→lt g from q))
-    go (inr q) = subst (Sought s g) (sym (e.rest g (nltb→le g from q) h)) record {
-      within = found.within;
-      below = λ k b. omega (arith, found.below k b, nltb→le g from q);
-      above = λ k a b. absurd (omega arith);
-    }
 
 -- a run does not end before it starts
 run_order : (s : List ℕ) (giver a e : ℕ) → Sought s giver a → Sought s (giver + 1) e → a ≤ e

@@ -40,11 +40,6 @@ pub record Starts (s starts : List ℕ) : Type 0 where
   pub size : length starts ≡ start_count
   pub each : (g : ℕ) → g < start_count → Sought s g (get_or starts g 0)
 
--- m is the starts l with those from the giver `from` on at the place `end`
-pub record Ended (from end : ℕ) (l m : List ℕ) : Type 0 where
-  pub before : (g : ℕ) → g < from → get_or m g 0 ≡ get_or l g 0
-  pub rest : (g : ℕ) → from ≤ g → g < start_count → get_or m g 0 ≡ end
-
 -- what is lent to a search, and where the run of each giver starts
 pub record Indexed (t : List ℤ) (s places : List ℕ) : Type 0 where
   pub lent : Lent t s (record_count s)

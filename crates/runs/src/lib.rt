@@ -8,38 +8,45 @@ ghost use Rattle.rules.specs.WellFormed.{Rising};
 ghost use Rattle.block.specs.Layout.{most_subjects, most_records};
 ghost use Rattle.block.specs.Block.{delegation_in};
 ghost use Rattle.runs.specs.Lent.{record_count, record_at, delegations_in, RunLent, RecordLent};
-ghost use Rattle.runs.specs.Steps.{Stepped, SteppedTo, Sought, start_count, Starts, Ended, Indexed, Gave, Waiting, Ready};
+ghost use Rattle.runs.specs.Steps.{Stepped, SteppedTo, Sought, start_count, Starts, Indexed, Gave, Waiting, Ready};
 
 use block::layout;
 
 // A start for each giver, and the end of the last run.
 pub const STARTS: usize = layout::SUBJECTS + 1;
 
+// What a giver's records give by: the giver's limit, the marks of the receiver who is sought and the step table.
+#[derive(Clone, Copy)]
+struct Giving<'a> {
+    limit: i16,
+    marks: u16,
+    table: &'a [i16],
+}
+
 // The record at `at`: where it raises its receiver, the limit is stored, and `place` as the receiver's parent, and it waits at that limit.
+// The lists stay apart: `relax_giver` is lent each by itself, and its clauses name each before and after.
 fn relax_at(
     run: &[u8],
     at: usize,
     place: usize,
-    limit: i16,
-    marks: u16,
-    table: &[i16],
+    by: Giving,
     limits: &mut [i16],
     parents: &mut [u16],
     waiting: &mut [u64],
     sets: queue::Sets,
 ) -> queue::Sets
-    requires { TableRule table.now × RecordLent run.now at place × Ready limit limits.old parents.old waiting.old sets.far }
-    ensures { Stepped table.now limit marks (delegation_in (drop at run.now)) place limits.old parents.old (sets.here ∷ sets.near ∷ waiting.old) limits.new parents.new (result.here ∷ result.near ∷ waiting.new) × Waiting limits.new waiting.new result.far }
+    requires { TableRule by.table.now × RecordLent run.now at place × Ready by.limit limits.old parents.old waiting.old sets.far }
+    ensures { Stepped by.entry.table.now by.entry.limit by.entry.marks (delegation_in (drop at run.now)) place limits.old parents.old (sets.here ∷ sets.near ∷ waiting.old) limits.new parents.new (result.here ∷ result.near ∷ waiting.new) × Waiting limits.new waiting.new result.far }
 {
     let need = block::read_two(run, at + layout::NEED);
     let bar = block::read_two(run, at + layout::BAR);
-    if rules::meets(marks, need, bar) {
-        let receiver = run[at + layout::RECEIVER] as usize;
-        let given = rules::next(table, limit, run[at + layout::WEIGHT]);
+    if rules::meets(by.marks, need, bar) {
+        let receiver = usize::from(run[at + layout::RECEIVER]);
+        let given = rules::next(by.table, by.limit, run[at + layout::WEIGHT]);
         if limits[receiver] < given {
             limits[receiver] = given;
             parents[receiver] = place as u16;
-            return queue::join(waiting, limit as usize, given as usize, receiver, sets);
+            return queue::join(waiting, by.limit as usize, given as usize, receiver, sets);
         }
     }
     sets
@@ -49,34 +56,28 @@ fn relax_at(
 fn relax_run(
     run: &[u8],
     first: usize,
-    limit: i16,
-    marks: u16,
-    table: &[i16],
+    by: Giving,
     limits: &mut [i16],
     parents: &mut [u16],
     waiting: &mut [u64],
     sets: queue::Sets,
 ) -> queue::Sets
-    requires { TableRule table.now × RunLent run.now first × Ready limit limits.old parents.old waiting.old sets.far }
-    ensures { SteppedTo table.now limit marks run.now first limits.old parents.old (sets.here ∷ sets.near ∷ waiting.old) (record_count run.now) limits.new parents.new (result.here ∷ result.near ∷ waiting.new) × Waiting limits.new waiting.new result.far }
+    requires { TableRule by.table.now × RunLent run.now first × Ready by.limit limits.old parents.old waiting.old sets.far }
+    ensures { SteppedTo by.entry.table.now by.entry.limit by.entry.marks run.now first limits.old parents.old (sets.here ∷ sets.near ∷ waiting.old) (record_count run.now) limits.new parents.new (result.here ∷ result.near ∷ waiting.new) × Waiting limits.new waiting.new result.far }
 {
     let n = run.len() / layout::RECORD_SIZE;
     let mut left = sets;
-    let mut k: usize = 0;
-    while k < n {
+    for k in 0..n {
         left = relax_at(
             run,
             layout::RECORD_SIZE * k,
             first + k,
-            limit,
-            marks,
-            table,
+            by,
             limits,
             parents,
             waiting,
             left,
         );
-        k += 1;
     }
     left
 }
@@ -87,27 +88,13 @@ fn seek(records: &[u8], low: usize, bound: usize) -> usize
     ensures { Sought records.now bound result }
 {
     let n = records.len() / layout::RECORD_SIZE;
-    let mut k = low;
-    while k < n {
-        let giver = records[layout::RECORD_SIZE * k] as usize;
+    for k in low..n {
+        let giver = usize::from(records[layout::RECORD_SIZE * k]);
         if bound <= giver {
             return k;
         }
-        k += 1;
     }
-    k
-}
-
-// The starts from the giver `from` on, all at one place.
-fn fill_end(starts: &mut [u16], from: usize, end: u16)
-    requires { (length starts.old ≡ start_count) × (from ≤ start_count) }
-    ensures { Ended from end starts.old starts.new }
-{
-    let mut giver = from;
-    while giver < STARTS {
-        starts[giver] = end;
-        giver += 1;
-    }
+    n
 }
 
 // Where the run of each giver starts, in one pass: each is sought from the one before it, until no record is left.
@@ -116,16 +103,14 @@ pub fn fill_starts(records: &[u8], starts: &mut [u16])
     ensures { Starts records.now starts.new }
 {
     let n = records.len() / layout::RECORD_SIZE;
-    let mut k: usize = 0;
-    let mut giver: usize = 0;
-    while giver < STARTS {
+    let mut k = 0;
+    for giver in 0..STARTS {
         k = seek(records, k, giver);
         if k == n {
-            fill_end(starts, giver, k as u16);
+            starts[giver..].fill(k as u16);
             return;
         }
         starts[giver] = k as u16;
-        giver += 1;
     }
 }
 
@@ -144,15 +129,18 @@ pub fn relax_giver(
     requires { Indexed table.now records.now starts.now × (giver < most_subjects) × Ready (get_or limits.old giver none) limits.old parents.old waiting.old sets.far }
     ensures { Gave table.now records.now marks giver limits.old parents.old (sets.here ∷ sets.near ∷ waiting.old) limits.new parents.new (result.here ∷ result.near ∷ waiting.new) × Waiting limits.new waiting.new result.far }
 {
-    let a = starts[giver] as usize;
-    let e = starts[giver + 1] as usize;
+    let a = usize::from(starts[giver]);
+    let e = usize::from(starts[giver + 1]);
     let limit = limits[giver];
-    relax_run(
-        &records[layout::RECORD_SIZE * a..layout::RECORD_SIZE * e],
-        a,
+    let by = Giving {
         limit,
         marks,
         table,
+    };
+    relax_run(
+        &records[layout::RECORD_SIZE * a..layout::RECORD_SIZE * e],
+        a,
+        by,
         limits,
         parents,
         waiting,

@@ -3,6 +3,7 @@ use mathlib.Core.Path.{◌≡◌, sym, ap, subst, ◌∙◌}
 use mathlib.Core.Logic.{◌≢◌, ◌⊎◌, inl, inr}
 use mathlib.Core.Bool.{not}
 use mathlib.Core.List.{List, [], ◌∷◌}
+use Rattle.std.specs.Prelude.{Some, None}
 use Prim.Native.Nat.{ℕ, ◌≤◌, ◌<◌, max}
 use native.Mathlib.Nat.{le_refl}
 use native.Mathlib.Omega.{arith}
@@ -23,7 +24,7 @@ use Rattle.queue.proofs.Buckets.{covered_take}
 use Rattle.runs.specs.Lent.{record_count, Lent, SubjectLists}
 use Rattle.runs.specs.Steps.{Gave, Waiting, Ready}
 use Rattle.search.specs.Search.{Started}
-use Rattle.search.specs.Turns.{IsLimits, LevelTaken, LevelSought, GroupTaken, GroupSought, AtHand, sets_of}
+use Rattle.search.specs.Turns.{LevelTaken, LevelSought, GroupTaken, GroupSought, AtHand}
 use Rattle.search.specs.Found.{Searched}
 use Rattle.search.proofs.State.{limit_of, is_settled, State, AllHere}
 use Rattle.search.proofs.Whole.{measure, level_less, group_less, state_start, waiting_start, all_start, level_small, state_level, all_level, state_group, state_settle, all_settle, settle_less, none_left, state_end, empty_end}
@@ -42,13 +43,6 @@ module _ (t : List ℤ) (s : List ℕ) (lent : Lent t s (record_count s)) (marks
   midway_start l p q sets e room st empty = subst (λ (x : Sets). Midway t s marks l p q x 0) (sym e) record { at = 255; small = omega arith; state = state_start t s lent marks l p q room st empty; waiting = waiting_start t s lent marks l p q room st empty; all = λ _ _. all_start t s lent marks l p q room st empty }
 
   module _ (l : List ℤ) (p q : List ℕ) (sets : Sets) (n : ℕ) (now : Midway t s marks l p q sets n) where
-    pub midway_limits : IsLimits l
-    midway_limits = record { size = now.state.limits; each = now.waiting.limits }
-
-    -- someone waits
-    pub some_far : bit_or (bit_or sets.here sets.near) sets.far ≢ 0 → sets.here ≡ 0 → sets.near ≡ 0 → sets.far ≢ 0
-    some_far some h e f = some (λ i. bit_or (bit_or (h i) (e i)) (f i))
-
     -- ── none waits here ──
     module _ (none_here : sets.here ≡ 0) where
       no_bits : {m : ℕ} → m ≡ 0 → (y : ℕ) → bit m y ≡ 0
@@ -57,21 +51,21 @@ module _ (t : List ℤ) (s : List ℕ) (lent : Lent t s (record_count s)) (marks
       abbrev pub Next : Sets → List ℕ → Type 0
       Next left q' = Midway t s marks l p q' left n × (measure n left.near left.far < measure n sets.near sets.far)
 
-      midway_level : (turn : Turn) → LevelTaken l sets turn → Next (sets_of turn) q
-      midway_level turn tk = (
+      midway_level : (u : ℕ) (left : Sets) → LevelTaken l sets u left → Next left q
+      midway_level u left tk = (
         record {
           at = _;
-          small = level_small t s lent marks l p q sets.here sets.near sets.far n now.at now.small now.state now.waiting.queue.covered (no_bits none_here) turn.subject turn.here turn.near tk.heaviest tk.near;
-          state = state_level t s lent marks l p q sets.here sets.near sets.far n now.at now.small now.state now.waiting.queue.covered (no_bits none_here) turn.subject turn.here turn.near tk.heaviest tk.near;
+          small = level_small t s lent marks l p q sets.here sets.near sets.far n now.at now.small now.state now.waiting.queue.covered (no_bits none_here) u left.here left.near tk.heaviest tk.near;
+          state = state_level t s lent marks l p q sets.here sets.near sets.far n now.at now.small now.state now.waiting.queue.covered (no_bits none_here) u left.here left.near tk.heaviest tk.near;
           waiting = subst (Waiting l q) (sym tk.far) now.waiting;
-          all = λ _ _. all_level t s lent marks l p q sets.here sets.near sets.far n now.at now.small now.state now.waiting.queue.covered (no_bits none_here) turn.subject turn.here turn.near tk.heaviest tk.near;
+          all = λ _ _. all_level t s lent marks l p q sets.here sets.near sets.far n now.at now.small now.state now.waiting.queue.covered (no_bits none_here) u left.here left.near tk.heaviest tk.near;
         },
-        subst (λ (f : ℕ). measure n turn.near f < measure n sets.near sets.far) (sym tk.far)
-            (level_less n sets.near turn.near sets.far turn.subject tk.heaviest.small in_near (tk.near turn.subject ∙ omega (arith, in_near, tk.heaviest.member)) (λ y e. tk.near y ∙ omega (arith, e))),
+        subst (λ (f : ℕ). measure n left.near f < measure n sets.near sets.far) (sym tk.far)
+            (level_less n sets.near left.near sets.far u tk.heaviest.small in_near (tk.near u ∙ omega (arith, in_near, tk.heaviest.member)) (λ y e. tk.near y ∙ omega (arith, e))),
       )
         where
-          in_near : bit sets.near turn.subject ≡ 1
-          in_near = (tk.heaviest.each turn.subject tk.heaviest.member).0
+          in_near : bit sets.near u ≡ 1
+          in_near = (tk.heaviest.each u tk.heaviest.member).0
 
       midway_group : sets.near ≡ 0 → (left : Sets) (q' : List ℕ) → GroupTaken n sets left q q' → Next left q'
       midway_group none left q' tk = (
@@ -132,39 +126,40 @@ module _ (t : List ℤ) (s : List ℕ) (lent : Lent t s (record_count s)) (marks
 
 -- the level at hand: the same, or the next
 module _ (t : List ℤ) (s : List ℕ) (lent : Lent t s (record_count s)) (marks : ℕ) (l : List ℤ) (p q : List ℕ) (sets : Sets) (n : ℕ) (now : Midway t s marks l p q sets n) (turn : Turn) (q' : List ℕ) where
-  advanced : (none_here : sets.here ≡ 0) (group : Sets) → GroupSought n sets group q q' → LevelSought l group turn → Next t s lent marks l p q sets n now none_here (sets_of turn) q'
-  advanced h group (inl (some, e, f)) (inl (none, g)) = absurd (some (ap (λ (x : Sets). x.near) (sym e) ∙ none))
-  advanced h group (inl (some, e, f)) (inr tk) = subst (Next t s lent marks l p q sets n now h (sets_of turn)) (sym f) (midway_level t s lent marks l p q sets n now h turn (subst (λ (x : Sets). LevelTaken l x turn) e tk))
-  advanced h group (inr (none, tk)) (inl (_, e)) = subst (λ (x : Turn). Next t s lent marks l p q sets n now h (sets_of x) q') (sym e) (midway_group t s lent marks l p q sets n now h none group q' tk)
-  advanced h group (inr (none, tk)) (inr lt) =
-      let g = midway_group t s lent marks l p q sets n now h none group q' tk in
-      let i = midway_level t s lent marks l p q' group n g.0 tk.here turn lt in
+  advanced : (none_here : sets.here ≡ 0) (group : Sets) → GroupSought n sets group q q' → LevelSought l group turn → Next t s lent marks l p q sets n now none_here turn.sets q'
+  advanced h group (inl (some, e, f)) (inl (near, _, _)) = absurd (some (ap (λ (x : Sets). x.near) (sym e) ∙ near))
+  advanced h group (inl (some, e, f)) (inr (u, _, tk)) =
+      subst (Next t s lent marks l p q sets n now h turn.sets) (sym f) (midway_level t s lent marks l p q sets n now h u turn.sets (subst (λ (x : Sets). LevelTaken l x u turn.sets) e tk))
+  advanced h group (inr (near, tk)) (inl (_, _, e)) = subst (λ (x : Sets). Next t s lent marks l p q sets n now h x q') (sym e) (midway_group t s lent marks l p q sets n now h near group q' tk)
+  advanced h group (inr (near, tk)) (inr (u, _, lt)) =
+      let g = midway_group t s lent marks l p q sets n now h near group q' tk in
+      let i = midway_level t s lent marks l p q' group n g.0 tk.here u turn.sets lt in
       (i.0, omega (arith, g.1, i.1))
 
-  pub midway_on : AtHand l n sets turn q q' → Midway t s marks l p q' (sets_of turn) n × (measure n turn.near turn.far ≤ measure n sets.near sets.far)
-  midway_on (inl (some, e, f)) =
-      subst (λ (r : List ℕ). Midway t s marks l p r (sets_of turn) n × (measure n turn.near turn.far ≤ measure n sets.near sets.far)) (sym f)
-      (subst (λ (x : Turn). Midway t s marks l p q (sets_of x) n × (measure n x.near x.far ≤ measure n sets.near sets.far)) (sym e) (now, le_refl (measure n sets.near sets.far)))
+  pub midway_on : AtHand l n sets turn q q' → Midway t s marks l p q' turn.sets n × (measure n turn.sets.near turn.sets.far ≤ measure n sets.near sets.far)
+  midway_on (inl (_, _, _, e, f)) =
+      subst (λ (r : List ℕ). Midway t s marks l p r turn.sets n × (measure n turn.sets.near turn.sets.far ≤ measure n sets.near sets.far)) (sym f)
+      (subst (λ (x : Sets). Midway t s marks l p q x n × (measure n x.near x.far ≤ measure n sets.near sets.far)) (sym e) (now, le_refl (measure n sets.near sets.far)))
   midway_on (inr a) = let g = advanced a.none a.between a.group a.level in (g.0, omega (arith, g.1))
 
-  no_member : (m u : ℕ) → m ≡ 0 → bit m u ≡ 1 → ⊥
-  no_member m u e w = omega (arith, sym (ap (λ (x : ℕ). bit x u) e ∙ bit_zero u) ∙ w)
-
   -- the next, where none waits at the level found
-  pub midway_down : turn.here ≡ 0 → AtHand l n sets turn q q' → measure n turn.near turn.far < measure n sets.near sets.far
-  midway_down down (inl (some, e, f)) = absurd (no_member sets.here turn.subject (ap (λ (x : Turn). x.here) (sym e) ∙ down) some.member)
-  midway_down down (inr a) = (advanced a.none a.between a.group a.level).1
+  pub midway_down : turn.subject ≡ None → AtHand l n sets turn q q' → measure n turn.sets.near turn.sets.far < measure n sets.near sets.far
+  midway_down nobody (inl (_, some, _, _, _)) = cc
+  midway_down nobody (inr a) = (advanced a.none a.between a.group a.level).1
 
   -- else it is the turn of the lowest of those who wait there
-  pub midway_turn : turn.here ≢ 0 → AtHand l n sets turn q q' → Lowest turn.here turn.subject
-  midway_turn some (inl (low, e, f)) = subst (λ (x : Turn). Lowest x.here turn.subject) (sym e) low
-  midway_turn some (inr a) = go a.group a.level
+  pub midway_turn : (u : ℕ) → turn.subject ≡ Some u → AtHand l n sets turn q q' → Lowest turn.sets.here u
+  midway_turn u some (inl (v, w, low, e, f)) =
+      let i : v ≡ u = cc in
+      subst (λ (x : Sets). Lowest x.here u) (sym e) (subst (Lowest sets.here) i low)
+  midway_turn u some (inr a) = go a.level
     where
-      go : GroupSought n sets a.between q q' → LevelSought l a.between turn → Lowest turn.here turn.subject
-      go g (inr tk) = record { small = tk.heaviest.small; member = tk.heaviest.member; least = λ x b. no_lower x b (eq_or (bit turn.here x) 1) }
+      go : LevelSought l a.between turn → Lowest turn.sets.here u
+      go (inl (_, nobody, _)) = cc
+      go (inr (v, w, tk)) =
+          let i : v ≡ u = cc in
+          subst (Lowest turn.sets.here) i record { small = tk.heaviest.small; member = tk.heaviest.member; least = λ x b. no_lower x b (eq_or (bit turn.sets.here x) 1) }
         where
-          no_lower : (x : ℕ) → x < turn.subject → (bit turn.here x ≡ 1) ⊎ (bit turn.here x ≢ 1) → bit turn.here x ≡ 0
+          no_lower : (x : ℕ) → x < v → (bit turn.sets.here x ≡ 1) ⊎ (bit turn.sets.here x ≢ 1) → bit turn.sets.here x ≡ 0
           no_lower x b (inl w) = absurd (omega (arith, b, tk.heaviest.least x w))
-          no_lower x b (inr d) = omega (arith, d, bit_small turn.here x)
-      go (inl (near, e, f)) (inl (none, h)) = absurd (near (ap (λ (x : Sets). x.near) (sym e) ∙ none))
-      go (inr (_, tk)) (inl (_, h)) = absurd (some (ap (λ (x : Turn). x.here) h ∙ tk.here))
+          no_lower x b (inr d) = omega (arith, d, bit_small turn.sets.here x)

@@ -26,14 +26,14 @@ use Rattle.search.specs.Turns.{Heaviest}
 use Rattle.runs.specs.Lent.{record_count, record_at, Lent, SubjectLists, delegations_in}
 use Rattle.runs.specs.Steps.{SteppedTo, part, Gave, Waiting}
 use Rattle.rules.specs.Bits.{bit, BitPut}
-use Rattle.queue.specs.Queue.{groups, set_bits, Without, Lowest, waits, group_of, top_of, Covered, Empty, Taken}
+use Rattle.queue.specs.Queue.{left, members, groups, set_bits, Without, Lowest, waits, group_of, top_of, Covered, Empty, Taken}
 use Rattle.search.specs.Found.{Searched}
 use Rattle.runs.proofs.Records.{delegation_mem, mem_delegation}
 use Rattle.runs.proofs.Givers.{part_count, part_receivers}
 use Rattle.rules.proofs.Signed.{code_live, code_pos}
 use Rattle.search.proofs.State.{limit_of, is_settled, InGroup, Waits, waits_here, waits_near, waits_far, waits_same, State, state_limit, ran, AllHere, all_ran}
 use Rattle.rules.proofs.Bits.{bit_zero, bit_small}
-use Rattle.queue.proofs.Buckets.{left, left_falls, members, members_few, members_fall, part_put}
+use Rattle.queue.proofs.Buckets.{left_falls, members_few, members_fall, part_put}
 
 -- how many subjects are open
 abbrev pub unsettled : ℕ → ℕ

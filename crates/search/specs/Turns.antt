@@ -1,5 +1,5 @@
 -- What the parts of a search do to those who wait: whose turn it is, and what the next level and the next group are. Assumes nothing.
-use Rattle.std.specs.Prelude.{◌≡◌, ◌≢◌, ◌⊎◌, List, ℕ, ◌≤◌, ◌<◌, length, get_or, ℤ, pos}
+use Rattle.std.specs.Prelude.{◌≡◌, ◌≢◌, ◌⊎◌, Some, None, List, ℕ, ◌≤◌, ◌<◌, length, get_or, ℤ, pos}
 use Rattle.rules.specs.Limit.{none, code, ◌≼◌}
 use Rattle.block.specs.Layout.{most_subjects}
 use Rattle.rules.specs.Bits.{bit, BitPut}
@@ -20,22 +20,15 @@ pub record Heaviest (l : List ℤ) (set first r : ℕ) : Type 0 where
   pub each : (y : ℕ) → bit r y ≡ 1 → (bit set y ≡ 1) × (get_or l y none ≡ get_or l first none)
   pub rest : (y : ℕ) → bit set y ≡ 1 → (bit r y ≡ 1) ⊎ (code (get_or l y none) < code (get_or l first none))
 
--- those who wait, and the one of them whose turn it is
-abbrev pub turn_of : Sets → ℕ → Turn
-turn_of sets u = record { subject = u; here = sets.here; near = sets.near; far = sets.far }
-
-abbrev pub sets_of : Turn → Sets
-sets_of t = record { here = t.here; near = t.near; far = t.far }
-
--- the heaviest of those who wait near wait here then, and it is the turn of the lowest of them
-pub record LevelTaken (l : List ℤ) (sets : Sets) (turn : Turn) : Type 0 where
-  pub heaviest : Heaviest l sets.near turn.subject turn.here
-  pub near : Without sets.near turn.here turn.near
-  pub far : turn.far ≡ sets.far
+-- the heaviest of those who wait near wait here then, and it is the turn of u, the lowest of them
+pub record LevelTaken (l : List ℤ) (sets : Sets) (u : ℕ) (left : Sets) : Type 0 where
+  pub heaviest : Heaviest l sets.near u left.here
+  pub near : Without sets.near left.here left.near
+  pub far : left.far ≡ sets.far
 
 -- if any does
 abbrev pub LevelSought : List ℤ → Sets → Turn → Type 0
-LevelSought l sets turn = ((sets.near ≡ 0) × (turn ≡ turn_of sets 0)) ⊎ LevelTaken l sets turn
+LevelSought l sets turn = ((sets.near ≡ 0) × (turn.subject ≡ None) × (turn.sets ≡ sets)) ⊎ ((u : ℕ) × (turn.subject ≡ Some u) × LevelTaken l sets u turn.sets)
 
 -- those of the first group in which one may wait, but those settled, wait near then, and none here
 pub record GroupTaken (settled : ℕ) (sets left : Sets) (q q' : List ℕ) : Type 0 where
@@ -57,4 +50,4 @@ pub record Advanced (l : List ℤ) (settled : ℕ) (sets : Sets) (turn : Turn) (
   pub level : LevelSought l between turn
 
 abbrev pub AtHand : List ℤ → ℕ → Sets → Turn → List ℕ → List ℕ → Type 0
-AtHand l settled sets turn q q' = (Lowest sets.here turn.subject × (turn ≡ turn_of sets turn.subject) × (q' ≡ q)) ⊎ Advanced l settled sets turn q q'
+AtHand l settled sets turn q q' = ((u : ℕ) × (turn.subject ≡ Some u) × Lowest sets.here u × (turn.sets ≡ sets) × (q' ≡ q)) ⊎ Advanced l settled sets turn q q'

@@ -7,7 +7,7 @@ ghost use Rattle.queue.specs.Queue.{groups};
 ghost use Rattle.runs.specs.Lent.{SubjectLists};
 ghost use Rattle.runs.specs.Steps.{Indexed};
 ghost use Rattle.search.specs.Search.{Started};
-ghost use Rattle.search.specs.Turns.{IsLimits, Heaviest, turn_of, sets_of, LevelSought, GroupSought, AtHand};
+ghost use Rattle.search.specs.Turns.{IsLimits, Heaviest, LevelSought, GroupSought, AtHand};
 ghost use Rattle.search.specs.Found.{OrderLent, SearchMade};
 
 use block::layout;
@@ -21,22 +21,16 @@ fn start(limits: &mut [i16], parents: &mut [u16])
     requires { SubjectLists limits.old parents.old }
     ensures { Started limits.new parents.new }
 {
-    let mut i: usize = 0;
-    while i < layout::SUBJECTS {
-        limits[i] = -1;
-        parents[i] = 0;
-        i += 1;
-    }
+    limits.fill(-1);
+    parents.fill(0);
     limits[0] = 255;
 }
 
-// Those who wait, and the one of them whose turn it is.
+// Those who wait, and the one of them whose turn it is, if one waits at the level at hand.
 #[derive(Clone, Copy)]
 struct Turn {
-    subject: usize,
-    here: u64,
-    near: u64,
-    far: u64,
+    subject: Option<usize>,
+    sets: queue::Sets,
 }
 
 // A level: the subjects that wait at it, and the lowest of them.
@@ -53,10 +47,7 @@ fn heaviest(limits: &[i16], set: u64) -> Level
 {
     let mut first = queue::lowest(set);
     let mut best = queue::with(0, first);
-    let mut rest = queue::without(set, first);
-    while rest != 0 {
-        let other = queue::lowest(rest);
-        rest = queue::without(rest, other);
+    for other in queue::Members(queue::without(set, first)) {
         let most = limits[first];
         let limit = limits[other];
         if most < limit {
@@ -66,32 +57,7 @@ fn heaviest(limits: &[i16], set: u64) -> Level
             best = queue::with(best, other);
         }
     }
-    Level {
-        first: first,
-        set: best,
-    }
-}
-
-fn turn_of(sets: queue::Sets, subject: usize) -> Turn
-    ensures { result ≡ turn_of sets subject }
-{
-    Turn {
-        subject: subject,
-        here: sets.here,
-        near: sets.near,
-        far: sets.far,
-    }
-}
-
-// Those who wait.
-fn sets_of(turn: Turn) -> queue::Sets
-    ensures { result ≡ sets_of turn }
-{
-    queue::Sets {
-        here: turn.here,
-        near: turn.near,
-        far: turn.far,
-    }
+    Level { first, set: best }
 }
 
 // The heaviest of those who wait near wait here then, if any does, and it is the turn of the lowest of them.
@@ -100,14 +66,20 @@ fn next_level(limits: &[i16], sets: queue::Sets) -> Turn
     ensures { LevelSought limits.now sets result }
 {
     if sets.near == 0 {
-        return turn_of(sets, 0);
+        return Turn {
+            subject: None,
+            sets,
+        };
     }
     let level = heaviest(limits, sets.near);
+    let near = queue::minus(sets.near, level.set);
     Turn {
-        subject: level.first,
-        here: level.set,
-        near: queue::minus(sets.near, level.set),
-        far: sets.far,
+        subject: Some(level.first),
+        sets: queue::Sets {
+            here: level.set,
+            near,
+            ..sets
+        },
     }
 }
 
@@ -133,14 +105,15 @@ fn at_hand(limits: &[i16], waiting: &mut [u64], settled: u64, sets: queue::Sets)
     ensures { AtHand limits.now settled sets result waiting.old waiting.new }
 {
     if sets.here != 0 {
-        let subject = queue::lowest(sets.here);
-        return turn_of(sets, subject);
+        return Turn {
+            subject: Some(queue::lowest(sets.here)),
+            sets,
+        };
     }
-    let group = next_group(waiting, settled, sets);
-    next_level(limits, group)
+    next_level(limits, next_group(waiting, settled, sets))
 }
 
-// One subject more in a list of subjects; how many they are then.
+// One subject more in a list of subjects; how many they are then. The count stays beside the list: `order_of` answers it.
 fn append(order: &mut [u8], count: usize, subject: usize) -> usize
     requires { (count < length order.old) × (subject < most_subjects) }
     ensures { (result ≡ count + 1) × (order.new ≡ set order.old count subject) }
@@ -167,13 +140,12 @@ fn search(
 {
     start(limits, parents);
     let mut sets = queue::first();
-    let mut settled: u64 = 0;
-    let mut count: usize = 0;
+    let mut settled = 0;
+    let mut count = 0;
     while (sets.here | sets.near | sets.far) != 0 {
         let turn = at_hand(limits, waiting, settled, sets);
-        sets = sets_of(turn);
-        if turn.here != 0 {
-            let u = turn.subject;
+        sets = turn.sets;
+        if let Some(u) = turn.subject {
             settled = queue::with(settled, u);
             count = append(order, count, u);
             sets = runs::relax_giver(

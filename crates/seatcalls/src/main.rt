@@ -3,16 +3,14 @@
 // on standard error.
 #![tactic(auto)]
 
-ghost use Rattle.std.specs.Io.{ReadsAtMost};
-
+use casefile::reading;
 use std::fmt::InlineText;
 use std::io;
-use std::io::Read;
 
 // Reads one byte more than a call file may have.
 fn main(rt: HostRuntime) {
     let mut space = [0u8; callfile::MOST_TEXT + 1];
-    match read_input(&mut rt.stdin(), &mut space) {
+    match reading::read_full(&mut rt.stdin(), &mut space) {
         Ok(got) => run_text(&rt, &space[..got]),
         Err(error) => {
             fail(&rt, "standard input", &error);
@@ -21,27 +19,10 @@ fn main(rt: HostRuntime) {
     }
 }
 
-// Reads until the space is full or the input ends, and answers how many bytes it put at the start of
-// the space; why, where a read fails.
-fn read_input<R: Read>(input: &mut R, space: &mut [u8]) -> io::Result<usize>
-    ensures { ReadsAtMost result space.new }
-{
-    let mut n = 0;
-    while n < space.len() {
-        let more = input.read(&mut space[n..])?;
-        if more == 0 {
-            break;
-        }
-        n += more;
-    }
-    Ok(n)
-}
-
 // Runs a text and writes what it prints.
 fn run_text(rt: &(impl Print + Eprint), text: &[u8]) {
     let mut out = [0u8; callfile::OUT_SIZE];
-    let r = callfile::run(text, &mut out);
-    let n = r.length;
+    let n = callfile::run(text, &mut out).unwrap_or(0);
     if let Err(error) = rt.write_all(&out[..n]) {
         fail(rt, "standard output", &error);
     }
@@ -56,8 +37,6 @@ fn fail(rt: &impl Eprint, what: &str, error: &io::Error) {
 
 // The system's words of an error's text, without the number that std puts after them.
 fn words_of(text: &str) -> &str {
-    match text.split_once(" (os error ") {
-        Some((words, _)) => words,
-        None => text,
-    }
+    text.split_once(" (os error ")
+        .map_or(text, |(words, _)| words)
 }

@@ -3,7 +3,7 @@ use mathlib.Core.Path.{◌≡◌, refl, sym, ap, subst, ◌∙◌}
 use mathlib.Core.Logic.{◌≢◌}
 use mathlib.Core.Bool.{Bool, true, false, cond}
 use mathlib.Core.List.{List, ◌++◌}
-use Prim.Native.Nat.{ℕ, ◌*◌}
+use Prim.Native.Nat.{ℕ, ◌*◌, ◌<◌}
 use native.Mathlib.Omega.{arith}
 use borrow.Author.Tests.{eq-eqb, ne_eqb}
 use lib.Dec.{eqb}
@@ -16,23 +16,25 @@ use Rattle.rules.specs.Cut.{Cut, changed}
 use Rattle.rules.specs.Call.{Call}
 use Rattle.rules.specs.History.{CutRight}
 use Rattle.block.specs.Block.{decode}
-use Rattle.steptable.specs.declared.Given.{Given}
+use Rattle.steptable.specs.TableText.{Given}
 use Rattle.regfile.specs.FileText.{file_text}
 use Rattle.register.specs.CallOn.{Result, call_on, open_on}
 use Rattle.register.specs.Made.{result_of, Made, MadeOpen}
 use Rattle.register.specs.Bring.{bring_on, BringMade}
 use Rattle.register.specs.Cuts.{on_register, CutMade}
-use Rattle.register.specs.declared.Answer.{Answer}
+use Rattle.register.specs.Answer.{Answer}
 use Rattle.slips.specs.Slip.{Effect, SlipMade}
 use Rattle.slips.specs.TakeBack.{take_back_on, TakeBackMade}
 use Rattle.transfer.specs.FileOn.{write_refusal, WriteMade, ReadMade}
 use Rattle.transfer.specs.RoundTrip.{reading}
-use Rattle.transfer.specs.declared.Filled.{Filled}
+use Rattle.transfer.specs.Filled.{filled_of}
 use Rattle.order.specs.Items.{item_size}
 use Rattle.order.specs.OrderOn.{order_refusal_on, IsOrderBytes, OrderMade}
-use Rattle.order.specs.declared.Listed.{Listed}
+use Rattle.std.specs.Prelude as std
+use Rattle.rules.specs.declared.refusal.Refusal.{Refusal}
+use Rattle.order.specs.Listed.{listed_of}
 use Rattle.seatreg.specs.Answers.{answers_size, answer_bytes}
-use Rattle.seatreg.specs.Entry.{EntryEffect, handed_out, wrong_answers, entry_of, entry_on, entry_open, EntryMade, EntryOpened, EntryBroughtOver, EntryReadMade, EntryFilled, EntryWriteMade, EntryOrderMade, EntryCutRight, EntryCutMade, effect_of, EntrySlipMade, EntryTakeBackMade, told_by, AnswersPut}
+use Rattle.seatreg.specs.Entry.{EntryEffect, handed_out, wrong_answers, entry_of, entry_on, entry_open, EntryMade, EntryOpened, EntryBroughtOver, EntryReadMade, EntryFilled, EntryWriteMade, EntryOrderMade, EntryCutRight, EntryCutMade, effect_of, EntrySlipMade, EntryTakeBackMade, told_by, filled_told, AnswersPut}
 
 -- ── what is handed out ──
 module _ (o : Answer) (a : List ℕ) where
@@ -168,21 +170,42 @@ module _ (m : ℕ) (Right : List ℕ → Type 0) (t a : List ℕ) where
         (s, right, q ∙ ap (λ (j : ℕ). s ++ drop j t) (sym size), accepted_bytes (told_by r (pos k)) a n a' h z ∙ ap (λ (j : ℕ). answer_bytes (pos j) (pos 0) (pos 0)) (sym size));
   }
 
+-- what is told of a write and of an order, as numbers
+told_write : (r : std.Result ℕ Refusal) → filled_told 1 r ≡ told_by (filled_of r).refusal (pos (filled_of r).length)
+told_write (std.Ok n) = let e : 1 * n ≡ n = omega arith in ap (λ (k : ℕ). told_by 0 (pos k)) e
+told_write (std.Err f) = refl
+
+told_order : (r : std.Result ℕ Refusal) → filled_told 2 r ≡ told_by (listed_of r).refusal (pos (item_size * (listed_of r).subjects))
+told_order (std.Ok n) = refl
+told_order (std.Err f) = refl
+
+-- and their bytes fit in an answer
+pub order_fits : (r : std.Result ℕ Refusal) → item_size * (listed_of r).subjects < 2147483648 → std.IfOk r (λ n. 2 * n < 2147483648)
+order_fits (std.Ok n) h = h
+order_fits (std.Err f) h = tt
+
+pub write_fits : (r : std.Result ℕ Refusal) → (filled_of r).length < 2147483648 → std.IfOk r (λ n. 1 * n < 2147483648)
+write_fits (std.Ok n) h = omega arith
+write_fits (std.Err f) h = tt
+
 pub write_short : (b t a : List ℕ) → length a ≢ 12 → EntryWriteMade b t a 1 t a
 write_short b t a = filled_short (write_refusal b t) (λ s. s ≡ file_text (decode b)) t a
 
-pub write_made : (b t a : List ℕ) → length a ≡ 12 → (o : Filled) (t' : List ℕ) → WriteMade b t o t' → (n : ℕ) (a' : List ℕ) → AnswersPut (told_by o.refusal (pos o.length)) a n a' → EntryWriteMade b t a n t' a'
-write_made b t a l o t' made =
-    filled_made (write_refusal b t) (λ s. s ≡ file_text (decode b)) t a l o.refusal o.length t' made.refusal (λ z. (made.refused z).1) (λ z. (file_text (decode b), refl, sym (made.text z).0, (made.text z).1))
+pub write_made : (b t a : List ℕ) → length a ≡ 12 → (r : std.Result ℕ Refusal) (t' : List ℕ) → WriteMade b t (filled_of r) t' → (n : ℕ) (a' : List ℕ) → AnswersPut (filled_told 1 r) a n a' → EntryWriteMade b t a n t' a'
+write_made b t a l r t' made n a' put =
+    let o = filled_of r in
+    filled_made (write_refusal b t) (λ s. s ≡ file_text (decode b)) t a l o.refusal o.length t' made.refusal (λ z. (made.refused z).1) (λ z. (file_text (decode b), refl, sym (made.text z).0, (made.text z).1)) n a' (subst (λ (x : Answer). AnswersPut x a n a') (told_write r) put)
 
 pub order_short : (g : Given) (b : List ℕ) (v : ℕ) (t a : List ℕ) → length a ≢ 12 → EntryOrderMade g b v t a 1 t a
 order_short g b v t a = filled_short (order_refusal_on g b v t) (IsOrderBytes g b v) t a
 
-pub order_made : (g : Given) (b : List ℕ) (v : ℕ) (t a : List ℕ) → length a ≡ 12 → (o : Listed) (t' : List ℕ) → OrderMade g b v t o t' → (n : ℕ) (a' : List ℕ) → AnswersPut (told_by o.refusal (pos (item_size * o.subjects))) a n a'
+pub order_made : (g : Given) (b : List ℕ) (v : ℕ) (t a : List ℕ) → length a ≡ 12 → (r : std.Result ℕ Refusal) (t' : List ℕ) → OrderMade g b v t (listed_of r) t' → (n : ℕ) (a' : List ℕ) → AnswersPut (filled_told 2 r) a n a'
     → EntryOrderMade g b v t a n t' a'
-order_made g b v t a l o t' made =
+order_made g b v t a l r t' made n a' put =
+    let o = listed_of r in
     filled_made (order_refusal_on g b v t) (IsOrderBytes g b v) t a l o.refusal (item_size * o.subjects) t' made.refusal (λ z. (made.refused z).1)
     (λ z.
     let w = made.written z in
     let n = ap (λ (k : ℕ). item_size * k) w.count in
     (order_bytes g.steps (decode b) v w.subjects, (w.subjects, w.order, refl), order_length g.steps (decode b) v w.subjects ∙ sym n, w.bytes ∙ ap (λ (k : ℕ). order_bytes g.steps (decode b) v w.subjects ++ drop k t) (sym n)))
+    n a' (subst (λ (x : Answer). AnswersPut x a n a') (told_order r) put)

@@ -21,7 +21,7 @@ use Rattle.steptable.specs.TableText.{given}
 use Rattle.steptable.proofs.Right.{given_keeps}
 use Rattle.regfile.specs.FileText.{file_text}
 use Rattle.register.specs.CallOn.{Result, turned, open_on}
-use Rattle.register.specs.declared.Answer.{Answer}
+use Rattle.register.specs.Answer.{Answer}
 use Rattle.register.specs.Cuts.{CutsLeft}
 use Rattle.slips.specs.Slip.{Effect}
 use Rattle.slips.specs.TakeBack.{take_back_on}

@@ -26,7 +26,7 @@ use Rattle.block.specs.WellFormed.{well_formed}
 use Rattle.block.proofs.Encode.{bytes_encode}
 use Rattle.block.proofs.Held.{held_formed}
 use Rattle.steptable.specs.TableText.{ours, given}
-use Rattle.steptable.specs.declared.Given.{Given}
+use Rattle.steptable.specs.TableText.{Given}
 use Rattle.steptable.proofs.Right.{given_keeps}
 use Rattle.regfile.specs.FileText.{file_text}
 use Rattle.regfile.proofs.Sizes.{file_some, file_short}

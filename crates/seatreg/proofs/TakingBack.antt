@@ -9,7 +9,7 @@ use Rattle.rules.specs.Table.{TableRule}
 use Rattle.rules.specs.Cut.{Cut}
 use Rattle.rules.specs.Call.{cut_call}
 use Rattle.block.specs.Bytes.{IsBytes}
-use Rattle.steptable.specs.declared.Given.{Given}
+use Rattle.steptable.specs.TableText.{Given}
 use Rattle.register.specs.CallOn.{Result, call_on}
 use Rattle.slips.specs.Slip.{slip, slipped_on}
 use Rattle.slips.specs.TakeBack.{restored, take_back_on}

@@ -1,6 +1,6 @@
 -- What every C entry point promises: one relation of what is given with the step table's text, the call, both buffers before, the number returned and both buffers after (document 01, 'Calls'; document 02,
 -- C-11 and C-13 to C-17). Assumes nothing.
-use Rattle.std.specs.Prelude.{◌≡◌, ◌≢◌, cond, List, ◌++◌, ℕ, eqb, length, drop, ℤ, pos}
+use Rattle.std.specs.Prelude.{◌≡◌, ◌≢◌, cond, List, ◌++◌, ℕ, eqb, length, drop, ℤ, pos, ◌*◌}
 use Rattle.rules.specs.Register.{Register}
 use Rattle.rules.specs.Cut.{Cut, Change, changed}
 use Rattle.rules.specs.Call.{Call, Makes, cut_call}
@@ -9,11 +9,14 @@ use Rattle.rules.specs.CallStep.{answered}
 use Rattle.rules.specs.Trace.{PlaceRight}
 use Rattle.rules.specs.History.{CutRight}
 use Rattle.block.specs.Block.{decode}
-use Rattle.steptable.specs.declared.Given.{Given}
+use Rattle.steptable.specs.TableText.{Given}
 use Rattle.regfile.specs.FileText.{file_text}
 use Rattle.register.specs.CallOn.{Result, call_on, open_on}
 use Rattle.register.specs.Bring.{bring_on}
-use Rattle.register.specs.declared.Answer.{Answer}
+use Rattle.std.specs.Prelude as std
+use Rattle.rules.specs.declared.refusal.Refusal.{Refusal}
+use Rattle.rules.specs.Refused.{refusal_number}
+use Rattle.register.specs.Answer.{Answer}
 use Rattle.slips.specs.Slip.{Effect, slipped_on}
 use Rattle.slips.specs.TakeBack.{take_back_on}
 use Rattle.transfer.specs.FileOn.{write_refusal}
@@ -119,6 +122,11 @@ EntryTakeBackMade g y s b a n b' a' = record { refusal = n; block = b'; answers 
 -- a number and one answer
 abbrev pub told_by : ℕ → ℤ → Answer
 told_by n first = record { refusal = n; first = first; second = pos 0; third = pos 0 }
+
+-- so, of what such a call returned, n items of this size
+abbrev pub filled_told : ℕ → std.Result ℕ Refusal → Answer
+filled_told size (std.Ok n) = told_by 0 (pos (size * n))
+filled_told size (std.Err r) = told_by (refusal_number r) (pos 0)
 
 -- what the function that hands out an answer promises: its number is returned, its answers are put into the buffer when it is accepted
 abbrev pub AnswersPut : Answer → List ℕ → ℕ → List ℕ → Type 0

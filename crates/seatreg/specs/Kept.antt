@@ -5,7 +5,7 @@ use Rattle.rules.specs.Call.{Call, cut_call}
 use Rattle.rules.specs.Ranges.{FromTo, Unused, InRange}
 use Rattle.block.specs.Bytes.{IsBytes}
 use Rattle.block.specs.WellFormed.{well_formed}
-use Rattle.steptable.specs.declared.Given.{Given}
+use Rattle.steptable.specs.TableText.{Given}
 use Rattle.register.specs.Bring.{bring_on}
 use Rattle.slips.specs.Slip.{slip_size, slipped_on}
 use Rattle.slips.specs.TakeBack.{take_back_on}

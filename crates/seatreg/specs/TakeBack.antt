@@ -1,7 +1,7 @@
 -- Taking a cut back over the entry points (document 02, C-17). Assumes nothing.
 use Rattle.std.specs.Prelude.{◌≡◌, List, ℕ, length, pos}
 use Rattle.rules.specs.Cut.{Cut}
-use Rattle.steptable.specs.declared.Given.{Given}
+use Rattle.steptable.specs.TableText.{Given}
 use Rattle.seatreg.specs.Answers.{answers_size, answer_bytes}
 use Rattle.seatreg.specs.Entry.{EntrySlipMade, EntryTakeBackMade}
 

@@ -1,10 +1,12 @@
 // Three signed answers in twelve lent bytes, four bytes each, low byte first.
-ghost use Rattle.std.specs.Prelude.{◌≡◌, ◌+◌, ◌≤◌, ◌<◌, length, pos};
+ghost use Rattle.std.specs.Prelude.{◌≡◌, ◌+◌, ◌*◌, ◌≤◌, ◌<◌, length, IfOk};
 ghost use Rattle.std.proofs.lemmas.List.Edits.{sets};
+ghost use Rattle.register.specs.Answer.{answer_of};
 ghost use Rattle.seatreg.specs.Answers.{answer_size, answers_size, bits, four_bytes, answer_bytes};
-ghost use Rattle.seatreg.specs.Entry.{told_by, AnswersPut};
+ghost use Rattle.seatreg.specs.Entry.{filled_told, AnswersPut};
 
-use register::Answer;
+use register::Answers;
+use rules::Refusal;
 
 pub const ANSWERS_SIZE: usize = 12;
 
@@ -46,31 +48,26 @@ fn put_answers(answers: &mut [u8], first: i32, second: i32, third: i32)
 }
 
 // The answers are written only when accepted; the refusal number is returned.
-pub fn hand_out(o: Answer, answers: &mut [u8]) -> u32
+pub fn hand_out(returned: Result<Answers, Refusal>, answers: &mut [u8]) -> u32
     requires { length answers.old ≡ answers_size }
-    ensures { AnswersPut o answers.old result answers.new }
+    ensures { AnswersPut (answer_of returned) answers.old result answers.new }
 {
-    let refusal = o.refusal;
-    if refusal == 0 {
-        let first = o.first;
-        let second = o.second;
-        let third = o.third;
-        put_answers(answers, first, second, third);
+    match returned {
+        Ok(told) => {
+            put_answers(answers, told.first, told.second, told.third);
+            0
+        }
+        Err(refusal) => refusal.number(),
     }
-    refusal
 }
 
-// Of a call that fills the front of a lent buffer: how many bytes it filled.
-pub fn hand_out_length(refusal: u32, filled: usize, answers: &mut [u8]) -> u32
-    requires { (length answers.old ≡ answers_size) × (filled < 2147483648) }
-    ensures { AnswersPut (told_by refusal (pos filled)) answers.old result answers.new }
+// Of a call that fills the front of a lent buffer with items of this size: how many bytes it filled.
+pub fn hand_out_length(filled: Result<usize, Refusal>, size: usize, answers: &mut [u8]) -> u32
+    requires { (length answers.old ≡ answers_size) × IfOk filled (λ n. size * n < 2147483648) }
+    ensures { AnswersPut (filled_told size filled) answers.old result answers.new }
 {
-    let first = filled as i32;
-    let told = Answer {
-        refusal: refusal,
-        first: first,
-        second: 0,
-        third: 0,
-    };
-    hand_out(told, answers)
+    match filled {
+        Ok(n) => hand_out(Ok(Answers::new((size * n) as i32, 0, 0)), answers),
+        Err(refusal) => hand_out(Err(refusal), answers),
+    }
 }

@@ -9,7 +9,7 @@ ghost use Rattle.rules.specs.Call.{enrol, grant, revoke, downgrade, ask_reach, a
 ghost use Rattle.steptable.specs.TableText.{ours, given};
 ghost use Rattle.seatreg.specs.Entry.{EntryMade, EntryOpened, EntryCutMade, EntryBroughtOver, EntryReadMade, EntryWriteMade, EntryOrderMade, EntrySlipMade, EntryTakeBackMade};
 
-use rules::refusal;
+use rules::Refusal;
 
 // Writes a fresh register: one subject, no delegation.
 #[unsafe(no_mangle)]
@@ -17,7 +17,7 @@ pub extern "C" fn seatreg_open(block: &mut [u8], answers: &mut [u8]) -> u32
     ensures { EntryOpened block.old answers.old result block.new answers.new }
 {
     if answers.len() != answers::ANSWERS_SIZE {
-        return refusal::WRONG_LENGTH;
+        return Refusal::WrongLength as u32;
     }
     let o = register::open(block);
     answers::hand_out(o, answers)
@@ -29,7 +29,7 @@ pub extern "C" fn seatreg_bring_over(old: &[u8], block: &mut [u8], answers: &mut
     ensures { EntryBroughtOver old.now block.old answers.old result block.new answers.new }
 {
     if answers.len() != answers::ANSWERS_SIZE {
-        return refusal::WRONG_LENGTH;
+        return Refusal::WrongLength as u32;
     }
     let o = register::bring_over(old, block);
     answers::hand_out(o, answers)
@@ -41,7 +41,7 @@ pub extern "C" fn seatreg_enrol(block: &mut [u8], marks: u32, answers: &mut [u8]
     ensures { EntryMade ours (enrol marks) block.old answers.old result block.new answers.new }
 {
     if answers.len() != answers::ANSWERS_SIZE {
-        return refusal::WRONG_LENGTH;
+        return Refusal::WrongLength as u32;
     }
     let o = register::enrol(block, marks);
     answers::hand_out(o, answers)
@@ -61,7 +61,7 @@ pub extern "C" fn seatreg_grant(
     ensures { EntryMade ours (grant (granted giver receiver weight need bar 0)) block.old answers.old result block.new answers.new }
 {
     if answers.len() != answers::ANSWERS_SIZE {
-        return refusal::WRONG_LENGTH;
+        return Refusal::WrongLength as u32;
     }
     let o = register::grant(block, giver, receiver, weight, need, bar);
     answers::hand_out(o, answers)
@@ -79,7 +79,7 @@ pub extern "C" fn seatreg_revoke(
     ensures { EntryCutMade ours (revoke by giver receiver) block.old answers.old result block.new answers.new }
 {
     if answers.len() != answers::ANSWERS_SIZE {
-        return refusal::WRONG_LENGTH;
+        return Refusal::WrongLength as u32;
     }
     let o = register::revoke(block, by, giver, receiver);
     answers::hand_out(o, answers)
@@ -98,7 +98,7 @@ pub extern "C" fn seatreg_downgrade(
     ensures { EntryCutMade ours (downgrade by giver receiver weight) block.old answers.old result block.new answers.new }
 {
     if answers.len() != answers::ANSWERS_SIZE {
-        return refusal::WRONG_LENGTH;
+        return Refusal::WrongLength as u32;
     }
     let o = register::downgrade(block, by, giver, receiver, weight);
     answers::hand_out(o, answers)
@@ -110,7 +110,7 @@ pub extern "C" fn seatreg_reach(block: &[u8], giver: u32, receiver: u32, answers
     ensures { EntryMade ours (ask_reach giver receiver) block.now answers.old result block.now answers.new }
 {
     if answers.len() != answers::ANSWERS_SIZE {
-        return refusal::WRONG_LENGTH;
+        return Refusal::WrongLength as u32;
     }
     let o = register::reach(block, giver, receiver);
     answers::hand_out(o, answers)
@@ -122,7 +122,7 @@ pub extern "C" fn seatreg_use(block: &[u8], receiver: u32, answers: &mut [u8]) -
     ensures { EntryMade ours (ask_use receiver) block.now answers.old result block.now answers.new }
 {
     if answers.len() != answers::ANSWERS_SIZE {
-        return refusal::WRONG_LENGTH;
+        return Refusal::WrongLength as u32;
     }
     let o = register::use_right(block, receiver);
     answers::hand_out(o, answers)
@@ -143,7 +143,7 @@ pub extern "C" fn seatreg_grant_table(
     ensures { EntryMade (given table.now) (grant (granted giver receiver weight need bar 0)) block.old answers.old result block.new answers.new }
 {
     if answers.len() != answers::ANSWERS_SIZE {
-        return refusal::WRONG_LENGTH;
+        return Refusal::WrongLength as u32;
     }
     let o = register::grant_table(block, giver, receiver, weight, need, bar, table);
     answers::hand_out(o, answers)
@@ -165,7 +165,7 @@ pub extern "C" fn seatreg_grant_kind(
     ensures { EntryMade (given table.now) (grant (granted giver receiver weight need bar kind)) block.old answers.old result block.new answers.new }
 {
     if answers.len() != answers::ANSWERS_SIZE {
-        return refusal::WRONG_LENGTH;
+        return Refusal::WrongLength as u32;
     }
     let o = register::grant_kind(block, giver, receiver, weight, need, bar, kind, table);
     answers::hand_out(o, answers)
@@ -183,7 +183,7 @@ pub extern "C" fn seatreg_reach_table(
     ensures { EntryMade (given table.now) (ask_reach giver receiver) block.now answers.old result block.now answers.new }
 {
     if answers.len() != answers::ANSWERS_SIZE {
-        return refusal::WRONG_LENGTH;
+        return Refusal::WrongLength as u32;
     }
     let o = register::reach_table(block, giver, receiver, table);
     answers::hand_out(o, answers)
@@ -202,7 +202,7 @@ pub extern "C" fn seatreg_revoke_table(
     ensures { EntryCutMade (given table.now) (revoke by giver receiver) block.old answers.old result block.new answers.new }
 {
     if answers.len() != answers::ANSWERS_SIZE {
-        return refusal::WRONG_LENGTH;
+        return Refusal::WrongLength as u32;
     }
     let o = register::revoke_table(block, by, giver, receiver, table);
     answers::hand_out(o, answers)
@@ -222,7 +222,7 @@ pub extern "C" fn seatreg_downgrade_table(
     ensures { EntryCutMade (given table.now) (downgrade by giver receiver weight) block.old answers.old result block.new answers.new }
 {
     if answers.len() != answers::ANSWERS_SIZE {
-        return refusal::WRONG_LENGTH;
+        return Refusal::WrongLength as u32;
     }
     let o = register::downgrade_table(block, by, giver, receiver, weight, table);
     answers::hand_out(o, answers)
@@ -241,7 +241,7 @@ pub extern "C" fn seatreg_set_marks(
     ensures { EntryCutMade (given table.now) (set_marks by subject marks) block.old answers.old result block.new answers.new }
 {
     if answers.len() != answers::ANSWERS_SIZE {
-        return refusal::WRONG_LENGTH;
+        return Refusal::WrongLength as u32;
     }
     let o = register::set_marks(block, by, subject, marks, table);
     answers::hand_out(o, answers)
@@ -259,7 +259,7 @@ pub extern "C" fn seatreg_retire(
     ensures { EntryCutMade (given table.now) (retire by subject) block.old answers.old result block.new answers.new }
 {
     if answers.len() != answers::ANSWERS_SIZE {
-        return refusal::WRONG_LENGTH;
+        return Refusal::WrongLength as u32;
     }
     let o = register::retire(block, by, subject, table);
     answers::hand_out(o, answers)
@@ -277,10 +277,10 @@ pub extern "C" fn seatreg_order(
     ensures { EntryOrderMade (given table.now) block.now receiver out.old answers.old result out.new answers.new }
 {
     if answers.len() != answers::ANSWERS_SIZE {
-        return refusal::WRONG_LENGTH;
+        return Refusal::WrongLength as u32;
     }
     let o = order::write_order(block, receiver, table, out);
-    answers::hand_out_length(o.refusal, order::ITEM_SIZE * o.subjects, answers)
+    answers::hand_out_length(o, order::ITEM_SIZE, answers)
 }
 
 // Writes the register as text into a lent buffer; answers how many bytes.
@@ -289,10 +289,10 @@ pub extern "C" fn seatreg_write(block: &[u8], text: &mut [u8], answers: &mut [u8
     ensures { EntryWriteMade block.now text.old answers.old result text.new answers.new }
 {
     if answers.len() != answers::ANSWERS_SIZE {
-        return refusal::WRONG_LENGTH;
+        return Refusal::WrongLength as u32;
     }
     let o = transfer::write_file(block, text);
-    answers::hand_out_length(o.refusal, o.length, answers)
+    answers::hand_out_length(o, 1, answers)
 }
 
 // Reads the register of a text into a block of any content, by the step table of a text, ours where it is empty.
@@ -306,7 +306,7 @@ pub extern "C" fn seatreg_read(
     ensures { EntryReadMade text.now table.now block.old answers.old result block.new answers.new }
 {
     if answers.len() != answers::ANSWERS_SIZE {
-        return refusal::WRONG_LENGTH;
+        return Refusal::WrongLength as u32;
     }
     let o = transfer::read_file(block, text, table);
     answers::hand_out(o, answers)
@@ -326,7 +326,7 @@ pub extern "C" fn seatreg_revoke_slip(
     ensures { EntrySlipMade (given table.now) by (removal giver receiver) block.old slip.old answers.old result block.new slip.new answers.new }
 {
     if answers.len() != answers::ANSWERS_SIZE {
-        return refusal::WRONG_LENGTH;
+        return Refusal::WrongLength as u32;
     }
     let o = slips::revoke_slip(block, by, giver, receiver, table, slip);
     answers::hand_out(o, answers)
@@ -347,7 +347,7 @@ pub extern "C" fn seatreg_downgrade_slip(
     ensures { EntrySlipMade (given table.now) by (lowering giver receiver weight) block.old slip.old answers.old result block.new slip.new answers.new }
 {
     if answers.len() != answers::ANSWERS_SIZE {
-        return refusal::WRONG_LENGTH;
+        return Refusal::WrongLength as u32;
     }
     let o = slips::downgrade_slip(block, by, giver, receiver, weight, table, slip);
     answers::hand_out(o, answers)
@@ -365,7 +365,7 @@ pub extern "C" fn seatreg_take_back(
     ensures { EntryTakeBackMade (given table.now) by slip.now block.old answers.old result block.new answers.new }
 {
     if answers.len() != answers::ANSWERS_SIZE {
-        return refusal::WRONG_LENGTH;
+        return Refusal::WrongLength as u32;
     }
     let o = slips::take_back(block, by, table, slip);
     answers::hand_out(o, answers)

@@ -18,13 +18,13 @@ use Rattle.rules.proofs.Rounds.{equal_to_eq}
 use Rattle.rules.proofs.Refusals.{first_of_none, first_of_some}
 use Rattle.block.specs.Layout.{block_size}
 use Rattle.block.specs.Block.{decode}
-use Rattle.steptable.specs.declared.Given.{Given}
+use Rattle.steptable.specs.TableText.{Given}
 use Rattle.refusals.specs.Early.{text_refused, not_well_formed, early_by, back_refusal}
 use Rattle.refusals.proofs.EarlyTests.{refused_early}
 use Rattle.register.specs.CallOn.{Result, turned, call_on}
-use Rattle.register.specs.Made.{refused_by, answered_by, result_of}
+use Rattle.register.specs.Made.{result_of}
 use Rattle.register.specs.Cuts.{CutMade}
-use Rattle.register.specs.declared.Answer.{Answer}
+use Rattle.register.specs.Answer.{Answer, refused_by, answered_by}
 use Rattle.register.proofs.CutWays.{cut_refused}
 use Rattle.slips.specs.Slip.{cut_bytes, slip, slip_size, slip_before, slip_after, slip_byte, slip_by, slip_giver, slip_cut, Effect, slipped_on, SlipMade, is_cut}
 use Rattle.slips.specs.TakeBack.{genuine, other_slip, take_back_refusal, restored, take_back_on, TakeBackMade}

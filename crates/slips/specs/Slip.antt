@@ -4,11 +4,11 @@ use Rattle.rules.specs.Cut.{Cut, removal, lowering}
 use Rattle.rules.specs.Call.{cut_call}
 use Rattle.rules.specs.Trace.{PlaceRight}
 use Rattle.block.specs.Layout.{block_size}
-use Rattle.steptable.specs.declared.Given.{Given}
+use Rattle.steptable.specs.TableText.{Given}
 use Rattle.register.specs.CallOn.{Result, turned, call_on}
 use Rattle.register.specs.Made.{result_of}
 use Rattle.register.specs.Cuts.{CutsLeft}
-use Rattle.register.specs.declared.Answer.{Answer}
+use Rattle.register.specs.Answer.{Answer}
 
 -- ── what it holds ──
 

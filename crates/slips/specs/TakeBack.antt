@@ -4,11 +4,11 @@ use Rattle.rules.specs.Round.{equal}
 use Rattle.rules.specs.Call.{cut_call}
 use Rattle.rules.specs.Refusal.{first_of, back_passed, back_held}
 use Rattle.block.specs.Block.{decode}
-use Rattle.steptable.specs.declared.Given.{Given}
+use Rattle.steptable.specs.TableText.{Given}
 use Rattle.refusals.specs.Early.{early_by}
 use Rattle.register.specs.CallOn.{Result, turned, call_on}
 use Rattle.register.specs.Made.{result_of}
-use Rattle.register.specs.declared.Answer.{Answer}
+use Rattle.register.specs.Answer.{Answer}
 use Rattle.slips.specs.Slip.{slip, slip_size, slip_before, slip_after, slip_by, slip_giver, slip_cut}
 
 -- the register equals the slip's after, and the cut, accepted on the slip's before, writes this same slip

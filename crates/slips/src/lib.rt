@@ -5,38 +5,39 @@ mod slip;
 
 ghost use Rattle.std.specs.Prelude.{◌≡◌, T, length};
 ghost use Rattle.rules.specs.Cut.{removal, lowering};
-ghost use Rattle.rules.specs.Table.{TableRule};
 ghost use Rattle.rules.specs.Call.{cut_call};
 ghost use Rattle.block.specs.Layout.{block_size};
-ghost use Rattle.steptable.specs.TableText.{lent, given};
+ghost use Rattle.steptable.specs.TableText.{given};
+ghost use Rattle.steptable.specs.Lent.{given_by, KeepsRule};
+ghost use Rattle.register.specs.Answer.{answer_of};
 ghost use Rattle.register.specs.Cuts.{CutMade};
 ghost use Rattle.slips.specs.Slip.{slip_size, cut_of, SlipMade, is_cut};
 ghost use Rattle.slips.specs.TakeBack.{genuine, TakeBackMade};
 
 use block::layout;
-use register::{Answer, answered, refused};
-use rules::refusal;
+use register::Answers;
+use rules::Refusal;
 pub use slip::SLIP_SIZE;
 use slip::{AFTER_AT, BY_AT, DOWNGRADE, GIVER_AT, NUMBER_AT, RECEIVER_AT, REVOKE, WEIGHT_AT};
+use steptable::{Table, fault, read_table};
 
-// Makes the cut of this number by a lent step table, whose text is refused with `fault` or passes where that is 0; a revocation has no weight.
+// Makes the cut of this number by a lent step table that keeps the rule, or its fault; a revocation has no weight.
 fn cut_by(
     block: &mut [u8],
-    table: &[i16],
-    fault: u32,
+    table: &Table,
     number: u8,
     by: u32,
     giver: u32,
     receiver: u32,
     weight: u32,
-) -> Answer
-    requires { TableRule table.now }
-    ensures { CutMade (lent fault table.now) (cut_call by (cut_of number giver receiver weight)) block.old result block.new }
+) -> Result<Answers, Refusal>
+    requires { KeepsRule table.now }
+    ensures { CutMade (given_by table.now) (cut_call by (cut_of number giver receiver weight)) block.old (answer_of result) block.new }
 {
     if number == REVOKE {
-        return register::revoke_by(block, table, fault, by, giver, receiver);
+        return register::revoke_lent(block, table, by, giver, receiver);
     }
-    register::downgrade_by(block, table, fault, by, giver, receiver, weight)
+    register::downgrade_lent(block, table, by, giver, receiver, weight)
 }
 
 // Makes a cut by the step table of a text, ours where it is empty; where it is accepted, writes its slip.
@@ -49,35 +50,23 @@ fn cut_slip(
     weight: u32,
     table: &[u8],
     slip: &mut [u8],
-) -> Answer
+) -> Result<Answers, Refusal>
     requires { T (is_cut number weight) }
-    ensures { SlipMade (given table.now) by (cut_of number giver receiver weight) block.old slip.old result block.new slip.new }
+    ensures { SlipMade (given table.now) by (cut_of number giver receiver weight) block.old slip.old (answer_of result) block.new slip.new }
 {
     if slip.len() != SLIP_SIZE {
-        return refused(refusal::WRONG_LENGTH);
+        return Err(Refusal::WrongLength);
     }
     if block.len() != layout::BLOCK_SIZE {
-        return refused(refusal::WRONG_LENGTH);
+        return Err(Refusal::WrongLength);
     }
     let mut before = [0u8; layout::BLOCK_SIZE];
     change::copy(block, &mut before);
-    let lent = steptable::read_table(table);
-    let o = cut_by(
-        block,
-        &lent.steps,
-        lent.refusal,
-        number,
-        by,
-        giver,
-        receiver,
-        weight,
-    );
-    if o.refusal != 0 {
-        return o;
-    }
+    let lent = read_table(table);
+    let answers = cut_by(block, &lent, number, by, giver, receiver, weight)?;
     let cut = [number, by as u8, giver as u8, receiver as u8, weight as u8];
     slip::write_slip(slip, &before, &cut, block);
-    o
+    Ok(answers)
 }
 
 // Revokes by the step table of a text, as `register::revoke_table`; where accepted, writes the slip by which it can be taken back.
@@ -88,8 +77,8 @@ pub fn revoke_slip(
     receiver: u32,
     table: &[u8],
     slip: &mut [u8],
-) -> Answer
-    ensures { SlipMade (given table.now) by (removal giver receiver) block.old slip.old result block.new slip.new }
+) -> Result<Answers, Refusal>
+    ensures { SlipMade (given table.now) by (removal giver receiver) block.old slip.old (answer_of result) block.new slip.new }
 {
     cut_slip(block, REVOKE, by, giver, receiver, 0, table, slip)
 }
@@ -103,16 +92,16 @@ pub fn downgrade_slip(
     weight: u32,
     table: &[u8],
     slip: &mut [u8],
-) -> Answer
-    ensures { SlipMade (given table.now) by (lowering giver receiver weight) block.old slip.old result block.new slip.new }
+) -> Result<Answers, Refusal>
+    ensures { SlipMade (given table.now) by (lowering giver receiver weight) block.old slip.old (answer_of result) block.new slip.new }
 {
     cut_slip(block, DOWNGRADE, by, giver, receiver, weight, table, slip)
 }
 
 // The register equals the slip's after, and the cut, accepted on the slip's before, writes this same slip.
-fn is_genuine(block: &[u8], table: &[i16], fault: u32, slip: &[u8]) -> bool
-    requires { TableRule table.now × (length block.now ≡ block_size) × (length slip.now ≡ slip_size) }
-    ensures { result ≡ genuine (lent fault table.now) block.now slip.now }
+fn is_genuine(block: &[u8], table: &Table, slip: &[u8]) -> bool
+    requires { KeepsRule table.now × (length block.now ≡ block_size) × (length slip.now ≡ slip_size) }
+    ensures { result ≡ genuine (given_by table.now) block.now slip.now }
 {
     if !slip::equal(&slip[AFTER_AT..], block) {
         return false;
@@ -122,37 +111,33 @@ fn is_genuine(block: &[u8], table: &[i16], fault: u32, slip: &[u8]) -> bool
     }
     let mut left = [0u8; layout::BLOCK_SIZE];
     change::copy(&slip[..layout::BLOCK_SIZE], &mut left);
-    let o = cut_by(
+    let made = cut_by(
         &mut left,
         table,
-        fault,
         slip[NUMBER_AT],
         slip[BY_AT] as u32,
         slip[GIVER_AT] as u32,
         slip[RECEIVER_AT] as u32,
         slip[WEIGHT_AT] as u32,
     );
-    if o.refusal != 0 {
+    if made.is_err() {
         return false;
     }
     slip::equal(&left, block)
 }
 
 // Takes the cut of a slip back: puts the block before it in place, byte for byte. The cut is made again, by the step table of a text, to see that it wrote this slip.
-pub fn take_back(block: &mut [u8], by: u32, table: &[u8], slip: &[u8]) -> Answer
-    ensures { TakeBackMade (given table.now) by slip.now block.old result block.new }
+pub fn take_back(block: &mut [u8], by: u32, table: &[u8], slip: &[u8]) -> Result<Answers, Refusal>
+    ensures { TakeBackMade (given table.now) by slip.now block.old (answer_of result) block.new }
 {
     if slip.len() != SLIP_SIZE {
-        return refused(refusal::WRONG_LENGTH);
+        return Err(Refusal::WrongLength);
     }
-    let g = steptable::read_table(table);
-    let n = refusals::back_refusal(block, g.refusal, by, slip[GIVER_AT] as u32);
-    if n != 0 {
-        return refused(n);
-    }
-    if !is_genuine(block, &g.steps, g.refusal, slip) {
-        return refused(refusal::OTHER_SLIP);
+    let given = read_table(table);
+    refusals::back_refusal(block, fault(&given), by, slip[GIVER_AT] as u32)?;
+    if !is_genuine(block, &given, slip) {
+        return Err(Refusal::OtherSlip);
     }
     change::copy(&slip[..layout::BLOCK_SIZE], block);
-    answered(0, 0, 0)
+    Ok(Answers::new(0, 0, 0))
 }

@@ -1,5 +1,7 @@
 -- The lines of a table's text read one by one. Assumes nothing.
-use mathlib.Core.Path.{◌≡◌, sym, ap, subst, ◌∙◌}
+use Rattle.std.proofs.lemmas.Bool.{false≢true}
+use mathlib.Core.Path.{◌≡◌, refl, sym, ap, subst, ◌∙◌}
+use mathlib.Core.Logic.{◌≢◌}
 use mathlib.Core.Bool.{Bool, true, false}
 use mathlib.Core.List.{List, [], ◌∷◌, ◌++◌, append_assoc, append-nil}
 use Prim.Native.Nat.{ℕ, zero, suc, ◌+◌, ◌≤◌, ◌<◌}
@@ -13,9 +15,8 @@ use lib.ListN.{length, get_or, take, drop, set, length-set, length-drop, drop_of
 use lib.Seq.{take-suc, take_all, drop-cons, take-set-le, get_or-set_same, length-take-le}
 use mir.Syntax.{w64}
 use mir.Val.{of_z, to_z}
-use Rattle.text.specs.Read.{Begins}
-use Rattle.text.specs.declared.Value.{Value}
-use Rattle.text.proofs.Reading.{clash}
+use Rattle.std.specs.Prelude.{None, Some}
+use Rattle.text.specs.declared.Found.{Found}
 use Rattle.text.proofs.Signed.{kept, allowed_fits}
 use Rattle.steptable.specs.TableText.{table_names, entry_line, table_lines, IsNext, AreNexts, Holds}
 use Rattle.steptable.specs.Read.{EntryRead, EntriesRead}
@@ -37,78 +38,75 @@ lines_more w (y ∷ ys) x =
     ∙ sym (append_assoc (entry_line w y) (table_lines (suc w) ys) (entry_line (suc w + length ys) x))
     ∙ ap (λ (k : ℕ). (entry_line w y ++ table_lines (suc w) ys) ++ entry_line k x) (suc-add w (length ys) ∙ sym (add-suc w (length ys)))
 
--- ── the text from `at` on is what the lines from weight w on must be ──
-pub record Reading (text : List ℕ) (at w : ℕ) (entries : List ℤ) : Type 0 where
+-- ── the lines from `at` on are what those from weight w on must be ──
+pub record Reading (lines : List ℕ) (at w : ℕ) (entries : List ℤ) : Type 0 where
   pub long : length entries ≡ 256
-  pub count : w ≤ 256
   pub good : AreNexts (take w entries)
-  pub front : text ≡ table_names ++ (table_lines 0 (take w entries) ++ drop at text)
-  pub rest : (t : List ℤ) → Holds text t → drop at text ≡ table_lines w (drop w t)
+  pub front : lines ≡ table_lines 0 (take w entries) ++ drop at lines
+  pub rest : (t : List ℤ) → Holds (table_names ++ lines) t → drop at lines ≡ table_lines w (drop w t)
 
-module _ (text : List ℕ) where
-  names_end : (s : List ℕ) → text ≡ table_names ++ s → drop 12 text ≡ s
+pub no_names : (text : List ℕ) (entries : List ℤ) → ((rest : List ℕ) → text ≢ table_names ++ rest) → EntriesRead text false entries
+no_names text entries h = record { yes = λ f. absurd (false≢true f); no = λ f t k. h (table_lines 0 t) k.same }
+
+module _ (lines : List ℕ) where
+  pub names : (entries : List ℤ) → length entries ≡ 256 → Reading lines 0 0 entries
   unfolding table_names
-  names_end s e = ap (drop 12) e
-
-  pub no_names : (b : Bool) (entries : List ℤ) → Begins text table_names b → b ≡ false → EntriesRead text false entries
-  no_names b entries h e = record { yes = λ f. clash f; no = λ f t k. h.no e (table_lines 0 t) k.same }
-
-  pub names : (b : Bool) (entries : List ℤ) → Begins text table_names b → b ≡ true → length entries ≡ 256 → Reading text 12 0 entries
-  unfolding table_names
-  names b entries h e l = record {
+  names entries l = record {
     long = l;
-    count = omega arith;
     good = tt;
-    front = h.yes e;
-    rest = λ t k. names_end (table_lines 0 t) k.same;
+    front = refl;
+    rest = λ t k. ap (drop 12) k.same;
   }
 
-  module _ (at w : ℕ) (entries : List ℤ) (r : Reading text at w entries) where
-    finished : 256 ≤ w → length text ≤ at → EntriesRead text true entries
+  module _ (at w : ℕ) (entries : List ℤ) (r : Reading lines at w entries) where
+    finished : 256 ≤ w → length lines ≤ at → EntriesRead (table_names ++ lines) true entries
     finished h l =
         let q : take w entries ≡ entries = take_all w entries (omega (arith, r.long)) in
-        let n : drop at text ≡ [] = drop_of_length-le text l in
+        let n : drop at lines ≡ [] = drop_of_length-le lines l in
         record {
           yes = λ f. record {
             size = r.long;
             entries = subst AreNexts q r.good;
-            same = r.front ∙ (λ i. table_names ++ (table_lines 0 (q i) ++ n i)) ∙ ap (λ (s : List ℕ). table_names ++ s) (append-nil (table_lines 0 entries));
+            same = ap (λ (s : List ℕ). table_names ++ s) (r.front ∙ (λ i. table_lines 0 (q i) ++ n i) ∙ append-nil (table_lines 0 entries));
           };
-          no = λ f. clash (sym f);
+          no = λ f. absurd (false≢true (sym f));
         }
 
-    unfinished : 256 ≤ w → at < length text → EntriesRead text false entries
+    unfinished : 256 ≤ w → at < length lines → EntriesRead (table_names ++ lines) false entries
     unfinished h l = record {
-      yes = λ f. clash f;
+      yes = λ f. absurd (false≢true f);
       no = λ f t k.
           let n : length t ≤ w = omega (arith, k.size) in
           let z : table_lines w (drop w t) ≡ [] = ap (table_lines w) (drop_of_length-le t n) in
-          absurd (omega (arith, ap length (r.rest t k ∙ z), length-drop at text));
+          absurd (omega (arith, ap length (r.rest t k ∙ z), length-drop at lines));
     }
 
-    pub lines_end : 256 ≤ w → (b : Bool) → leb (length text) at ≡ b → EntriesRead text b entries
-    lines_end h true e = finished h (leb-true (length text) at e)
-    lines_end h false e = unfinished h (leb-false (length text) at e)
+    pub lines_end : 256 ≤ w → (b : Bool) → leb (length lines) at ≡ b → EntriesRead (table_names ++ lines) b entries
+    lines_end h true e = finished h (leb-true (length lines) at e)
+    lines_end h false e = unfinished h (leb-false (length lines) at e)
 
     module _ (h : w < 256) where
       -- the text of a table goes on with the line of weight w
-      here : (t : List ℤ) → Holds text t → drop at text ≡ entry_line w (get_or t w (pos 0)) ++ table_lines (suc w) (drop (suc w) t)
+      here : (t : List ℤ) → Holds (table_names ++ lines) t → drop at lines ≡ entry_line w (get_or t w (pos 0)) ++ table_lines (suc w) (drop (suc w) t)
       here t k = r.rest t k ∙ ap (table_lines w) (drop-cons t w (pos 0) (omega (arith, k.size)))
 
-      module _ (v : Value) (m : EntryRead text at w v) where
-        there : (t : List ℤ) (k : Holds text t) → (v.found ≡ true) × (v.value ≡ get_or t w (pos 0)) × (drop v.next text ≡ table_lines (suc w) (drop (suc w) t))
-        there t k = m.each (get_or t w (pos 0)) (table_lines (suc w) (drop (suc w) t)) (entry_at t w (omega (arith, k.size)) k.entries) (here t k)
+      next_of : (t : List ℤ) → Holds (table_names ++ lines) t → IsNext (get_or t w (pos 0))
+      next_of t k = entry_at t w (omega (arith, k.size)) k.entries
 
-        pub no_line_lem : v.found ≡ false → EntriesRead text false entries
-        no_line_lem f = record { yes = λ g. clash g; no = λ g t k. clash (sym f ∙ (there t k).0) }
+      pub no_line_lem : (left : List ℤ) → EntryRead lines at w None → EntriesRead (table_names ++ lines) false left
+      no_line_lem left m = record {
+        yes = λ g. absurd (false≢true g);
+        no = λ g t k. m.each (get_or t w (pos 0)) (table_lines (suc w) (drop (suc w) t)) (next_of t k) (here t k);
+      }
 
-        pub value_held : v.found ≡ true → to_z w64 (of_z w64 v.value) ≡ v.value
-        value_held f = kept v.value (allowed_fits true v.value (m.read f).0.0)
+      module _ (v : Found ℤ) (m : EntryRead lines at w (Some v)) where
+        pub value_held : to_z w64 (of_z w64 v.value) ≡ v.value
+        value_held = kept v.value (allowed_fits true v.value m.read.0.0)
 
-        pub line_more : v.found ≡ true → Reading text v.next (w + 1) (set entries w v.value)
-        line_more f =
+        pub line_more : Reading lines v.next (w + 1) (set entries w v.value)
+        line_more =
             let l : w < length entries = omega (arith, r.long) in
-            let g = m.read f in
+            let g = m.read in
             let k : length (set entries w v.value) ≡ length entries = length-set entries w v.value in
             let q : take (suc w) (set entries w v.value) ≡ take w entries ++ (v.value ∷ []) =
             take-suc (set entries w v.value) w (pos 0) (omega arith)
@@ -116,14 +114,13 @@ module _ (text : List ℕ) where
             let j : 0 + length (take w entries) ≡ w = zero-add (length (take w entries)) ∙ length-take-le w entries (omega arith) in
             let u : table_lines 0 (take (suc w) (set entries w v.value)) ≡ table_lines 0 (take w entries) ++ entry_line w v.value =
             ap (table_lines 0) q ∙ lines_more 0 (take w entries) v.value ∙ ap (λ (n : ℕ). table_lines 0 (take w entries) ++ entry_line n v.value) j in
-            subst (λ (n : ℕ). Reading text v.next n (set entries w v.value)) (sym (add-one w)) record {
+            subst (λ (n : ℕ). Reading lines v.next n (set entries w v.value)) (sym (add-one w)) record {
               long = k ∙ r.long;
-              count = omega arith;
               good = subst AreNexts (sym q) (entries_more (take w entries) v.value r.good g.0);
               front =
                   r.front
-                  ∙ ap (λ (s : List ℕ). table_names ++ (table_lines 0 (take w entries) ++ s)) g.1
-                  ∙ ap (λ (s : List ℕ). table_names ++ s) (sym (append_assoc (table_lines 0 (take w entries)) (entry_line w v.value) (drop v.next text)))
-                  ∙ ap (λ (s : List ℕ). table_names ++ (s ++ drop v.next text)) (sym u);
-              rest = λ t h'. (there t h').2;
+                  ∙ ap (λ (s : List ℕ). table_lines 0 (take w entries) ++ s) g.1
+                  ∙ sym (append_assoc (table_lines 0 (take w entries)) (entry_line w v.value) (drop v.next lines))
+                  ∙ ap (λ (s : List ℕ). s ++ drop v.next lines) (sym u);
+              rest = λ t h'. (m.each (get_or t w (pos 0)) (table_lines (suc w) (drop (suc w) t)) (next_of t h') (here t h')).1;
             }

@@ -1,20 +1,19 @@
 -- The entries of a table tested one by one, and stored. Assumes nothing.
 use mathlib.Core.Path.{◌≡◌, refl, sym, ap, subst, ◌∙◌}
-use mathlib.Core.Logic.{◌≢◌}
 use mathlib.Core.Bool.{Bool, true, false, cond, ◌&&◌}
 use mathlib.Core.List.{List, [], ◌∷◌, ◌++◌}
 use Prim.Native.Nat.{ℕ, zero, suc, ◌+◌, ◌≤◌, ◌<◌}
 use native.Mathlib.Numerals.{add-one}
 use native.Mathlib.Omega.{arith}
-use borrow.Author.Tests.{le-leb, lt-leb, le-ltb, lt-ltb, ltb-true, ltb-false, eq-eqb, ne_eqb}
+use borrow.Author.Tests.{lt-leb, le-ltb, lt-ltb, ltb-true, eq-eqb}
 use lib.Dec.{T, leb, ltb, eqb, leb-suc-suc, leb→le}
 use lib.IntN.{ℤ, pos, negsuc}
-use lib.Signed.{lt_z, le_z}
+use lib.Signed.{lt_z}
 use lib.ListN.{length, get_or, take, drop, set, length-set, drop_of_length-le}
 use lib.Seq.{take-suc, take_all, drop-cons, take-set-le, get_or-set_same}
 use mir.Syntax.{w16, w64}
 use mir.Val.{SFits, of_z, to_z}
-use mir.Facts.{to_z-of_z, to_z_pos}
+use mir.Facts.{to_z-of_z}
 use Rattle.rules.specs.Limit.{none, code, from_none}
 use Rattle.rules.specs.Table.{fits, ruled, table_test}
 use Rattle.rules.proofs.Lists.{clash, T_right, T_true, yes}
@@ -33,14 +32,6 @@ less_code (negsuc zero) (negsuc zero) f g = refl
 less_code (negsuc zero) (negsuc (suc b)) f g = absurd g
 less_code (negsuc (suc a)) (negsuc b) f g = absurd f
 
-top_code : (x : ℤ) → le_z x (pos 255) ≡ leb (code x) 256
-top_code (pos n) = sym (leb-suc-suc n 255)
-top_code (negsuc n) = sym (le-leb 0 256 (omega arith))
-
-below_code : (x : ℤ) (w : ℕ) → lt_z x (pos w) ≡ leb (code x) w
-below_code (pos n) w = refl
-below_code (negsuc n) w = sym (le-leb 0 w (omega arith))
-
 -- ── one entry ──
 module _ (w : ℕ) (p x : ℤ) (a : IsNext p) (b : IsNext x) where
   less : lt_z (to_z w64 (of_z w64 x)) (to_z w64 (of_z w64 p)) ≡ ltb (code x) (code p)
@@ -50,18 +41,6 @@ module _ (w : ℕ) (p x : ℤ) (a : IsNext p) (b : IsNext x) where
   keeps_not e =
       let l : code x < code p = ltb-true (code x) (code p) (sym less ∙ e) in
       sym (rw (T_true (from_none x) b.1, lt-leb (code p) (code x) l))
-
-  module _ (e : lt_z (to_z w64 (of_z w64 x)) (to_z w64 (of_z w64 p)) ≡ false) where
-    fits_top : fits w p x ≡ leb (code x) (cond (eqb w 255) 256 w)
-    fits_top =
-        let l : code p ≤ code x = ltb-false (code x) (code p) (sym less ∙ e) in
-        rw (T_true (from_none x) b.1, le-leb (code p) (code x) l)
-
-    pub keeps_last : w ≡ 255 → le_z (to_z w64 (of_z w64 x)) (pos 255) ≡ fits w p x
-    keeps_last q = ap (λ (z : ℤ). le_z z (pos 255)) (held x b.0) ∙ top_code x ∙ sym (fits_top ∙ ap (λ (t : Bool). leb (code x) (cond t 256 w)) (eq-eqb w 255 q))
-
-    pub keeps_below : w ≤ 255 → w ≢ 255 → lt_z (to_z w64 (of_z w64 x)) (to_z w64 w) ≡ fits w p x
-    keeps_below h n = (λ i. lt_z (held x b.0 i) (to_z_pos w64 {n = w} (omega arith) i)) ∙ below_code x w ∙ sym (fits_top ∙ ap (λ (t : Bool). leb (code x) (cond t 256 w)) (ne_eqb w 255 n))
 
 -- what may stand in a table fits a small number
 small : (x : ℤ) → T (from_none x) → code x ≤ 256 → SFits w16 x
@@ -82,7 +61,6 @@ fits_small w p x h a e =
 -- ── the entries up to w are stored, and the whole answer is the answer from w on ──
 pub record Making (entries : List ℤ) (before : ℤ) (w : ℕ) (table : List ℤ) : Type 0 where
   pub long : length table ≡ 256
-  pub count : w ≤ 256
   pub good : IsNext before
   pub same : take w table ≡ take w entries
   pub on : ruled 0 none entries ≡ ruled w before (drop w entries)
@@ -93,7 +71,7 @@ module _ (entries : List ℤ) (size : length entries ≡ 256) (all : AreNexts en
 
   pub making_start : (table : List ℤ) → length table ≡ 256 → Making entries none 0 table
   unfolding from_none
-  making_start table l = record { long = l; count = omega arith; good = (omega arith, tt); same = refl; on = refl }
+  making_start table l = record { long = l; good = (omega arith, tt); same = refl; on = refl }
 
   module _ (before : ℤ) (w : ℕ) (table : List ℤ) (m : Making entries before w table) where
     pub making_end : 256 ≤ w → TableMade entries true table
@@ -143,7 +121,6 @@ module _ (entries : List ℤ) (size : length entries ≡ 256) (all : AreNexts en
               let k : length (set table w next) ≡ length table = length-set table w next in
               record {
                 long = k ∙ m.long;
-                count = omega arith;
                 good = next_entry;
                 same =
                     take-suc (set table w next) w (pos 0) (omega arith)

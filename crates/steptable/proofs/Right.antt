@@ -16,7 +16,7 @@ use Rattle.rules.proofs.Table.{table_rule, steps_rule}
 use Rattle.text.specs.Text.{most}
 use Rattle.text.specs.Rows.{rows}
 use Rattle.text.proofs.Rows.{rows_line}
-use Rattle.steptable.specs.declared.Given.{Given}
+use Rattle.steptable.specs.TableText.{Given}
 use Rattle.steptable.specs.TableText.{table_names, table_lines, table_text, IsNext, AreNexts, Holds, refused_text, nexts_of, equal, are_nexts, holds, verdict, given, GivenRight}
 use Rattle.rules.proofs.Table.{rule_test}
 

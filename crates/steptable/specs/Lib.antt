@@ -1,2 +1,3 @@
 pub mod TableText
+pub mod Lent
 pub mod Read

@@ -5,7 +5,6 @@ use Rattle.rules.specs.Table.{TableRule, table_test, steps}
 use Rattle.text.specs.Text.{line, most, Allowed}
 use Rattle.text.specs.Bytes.{bytes_of}
 use Rattle.text.specs.Rows.{rows}
-use Rattle.steptable.specs.declared.Given.{Given}
 
 -- ── the text of a table ──
 
@@ -39,6 +38,11 @@ pub record Holds (text : List ℕ) (t : List ℤ) : Type 0 where
   pub same : text ≡ table_text t
 
 -- ── what is given with a text ──
+
+-- the number with which it is refused, 0 where it passes; and the table
+pub record Given : Type 0 where
+  pub refusal : ℕ
+  pub steps : List ℤ
 
 -- the text is refused with n, 0 where it passes; the table is t
 abbrev pub lent : ℕ → List ℤ → Given

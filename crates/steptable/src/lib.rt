@@ -2,50 +2,58 @@
 #![tactic(auto)]
 
 ghost use Rattle.std.specs.Prelude.{◌≡◌, ◌≤◌, length};
-ghost use Rattle.text.specs.Read.{no_value};
 ghost use Rattle.rules.specs.Table.{fits};
-ghost use Rattle.steptable.specs.TableText.{IsNext, AreNexts, refused_text, given};
+ghost use Rattle.steptable.specs.TableText.{IsNext, AreNexts, given};
+ghost use Rattle.steptable.specs.Lent.{fault_of, given_by};
 ghost use Rattle.steptable.specs.Read.{EntryRead, EntriesRead, TableMade};
 
-use rules::refusal;
+use rules::Refusal;
 
-// The refusal of a text, 0 where it passes, and the table that is used: ours for a refused text.
-#[derive(Drop)]
-pub struct Given {
-    pub refusal: u32,
-    pub steps: [i16; 256],
+// Why a text gives no table: it is of another form, or its table breaks a rule.
+#[derive(Clone, Copy, Debug, PartialEq, Eq)]
+pub enum TableFault {
+    Malformed,
+    BadTable,
 }
 
-// The line of names.
-const NAMES_SIZE: usize = 12;
+impl From<TableFault> for Refusal {
+    ghost from_gives = { λ f r. r ≡ fault_of f };
 
-fn no_entry() -> text::Value
-    ensures { result ≡ no_value }
+    fn from(fault: TableFault) -> Refusal {
+        match fault {
+            TableFault::Malformed => Refusal::Malformed,
+            TableFault::BadTable => Refusal::BadTable,
+        }
+    }
+}
+
+// What is lent as text: a step table, or why there is none.
+pub type Table = Result<[i16; 256], TableFault>;
+
+// The number with which a text is refused, 0 where it gives a table.
+pub fn fault(table: &Table) -> u32
+    ensures { result ≡ (given_by table.now).refusal }
 {
-    text::Value {
-        value: 0,
-        next: 0,
-        found: false,
+    match table {
+        Ok(_) => 0,
+        Err(fault) => Refusal::from(*fault).number(),
     }
 }
 
 // The next of a weight, from the line at `at`. Only -1 has a sign.
-fn read_entry(text: &[u8], at: usize, weight: u32) -> text::Value
+fn read_entry(text: &[u8], at: usize, weight: u32) -> Option<text::Found<i64>>
     requires { weight ≤ 255 }
     ensures { EntryRead text.now at weight result }
 {
-    let w = text::read_number(text, at, text::SPACE);
-    if !w.found {
-        return no_entry();
-    }
+    let w = text::read_number(text, at, text::SPACE)?;
     if w.value != weight {
-        return no_entry();
+        return None;
     }
-    let next = text::read_value(text, w.next, text::LINE_END, true);
+    let next = text::read_value(text, w.next, text::LINE_END, true)?;
     if next.value < -1 {
-        return no_entry();
+        return None;
     }
-    next
+    Some(next)
 }
 
 // The entries of the table whose text this is: the names, a line for each weight in order, and nothing after them.
@@ -53,22 +61,18 @@ fn read_entries(text: &[u8], entries: &mut [i64]) -> bool
     requires { length entries.old ≡ 256 }
     ensures { EntriesRead text.now result entries.new }
 {
-    if !text::begins_with(text, b"weight next\n") {
+    let Some(lines) = text.strip_prefix(b"weight next\n") else {
         return false;
-    }
-    let mut at = NAMES_SIZE;
-    let mut w: usize = 0;
-    while w < 256 {
-        let entry = read_entry(text, at, w as u32);
-        if !entry.found {
+    };
+    let mut at = 0;
+    for (w, entry) in entries.iter_mut().enumerate() {
+        let Some(next) = read_entry(lines, at, w as u32) else {
             return false;
-        }
-        let next = entry.value;
-        entries[w] = next;
-        at = entry.next;
-        w += 1;
+        };
+        *entry = next.value;
+        at = next.next;
     }
-    at >= text.len()
+    at >= lines.len()
 }
 
 // A next may stand at a weight: not below the next before it, and below the weight, but 255 may keep 255.
@@ -91,41 +95,30 @@ fn table_of(entries: &[i64], table: &mut [i16]) -> bool
     ensures { TableMade entries.now result table.new }
 {
     let mut before: i64 = -1;
-    let mut w: usize = 0;
-    while w < 256 {
-        let next = entries[w];
-        if !keeps(w, before, next) {
+    for (w, next) in entries.iter().enumerate() {
+        if !keeps(w, before, *next) {
             return false;
         }
-        table[w] = next as i16;
-        before = next;
-        w += 1;
+        table[w] = *next as i16;
+        before = *next;
     }
     true
 }
 
-// Our table, with a refusal or 0.
-fn with_ours(refusal: u32) -> Given
-    ensures { result ≡ refused_text refusal }
+// The table of a text, ours for an empty one.
+pub fn read_table(text: &[u8]) -> Table
+    ensures { given_by result ≡ given text.now }
 {
-    let steps = rules::steps();
-    Given { refusal, steps }
-}
-
-// The table of a text, ours for an empty one. A text of another form is refused with 7, a table that breaks a rule with 17.
-pub fn read_table(text: &[u8]) -> Given
-    ensures { result ≡ given text.now }
-{
-    if text.len() == 0 {
-        return with_ours(0);
+    if text.is_empty() {
+        return Ok(rules::steps());
     }
     let mut entries = [0i64; 256];
     if !read_entries(text, &mut entries) {
-        return with_ours(refusal::MALFORMED);
+        return Err(TableFault::Malformed);
     }
     let mut steps = [0i16; 256];
     if !table_of(&entries, &mut steps) {
-        return with_ours(refusal::BAD_TABLE);
+        return Err(TableFault::BadTable);
     }
-    Given { refusal: 0, steps }
+    Ok(steps)
 }

@@ -1,28 +1,27 @@
 -- A rendering is that of one number, and of one line of so many values; what follows it is determined. Assumes nothing.
 use mathlib.Core.Path.{◌≡◌, refl, sym, ap, ◌∙◌}
-use mathlib.Core.Bool.{true, false}
+use mathlib.Core.Bool.{true}
 use mathlib.Core.List.{List, [], ◌∷◌, ◌++◌}
 use Prim.Native.Nat.{ℕ, suc, ◌≤◌, ◌<◌}
 use native.Mathlib.Omega.{arith}
 use lib.IntN.{ℤ, pos, negsuc}
 use lib.ListN.{length, drop}
 use Rattle.text.specs.Text.{digits, number, after, line, most, Allowed, AllAllowed}
-use Rattle.text.specs.declared.Number.{Number}
-use Rattle.text.proofs.Reading.{read_from, clash, digit_low, from_other, read_number, drop_end}
+use Rattle.std.proofs.lemmas.Option.{none-some}
+use Rattle.text.proofs.Reading.{value_of, read_from, digit_low, from_other, read_number, drop_end}
 use Rattle.text.proofs.Lines.{line_cons}
 
 module _ (end : ℕ) (low : end < 48) where
   digits_inj : (n m : ℕ) (s t : List ℕ) → n ≤ most → m ≤ most → digits n ++ (end ∷ s) ≡ digits m ++ (end ∷ t) → (n ≡ m) × (s ≡ t)
   digits_inj n m s t h l e =
-      let v : n ≡ m = ap (λ (x : Number). x.value) (sym (read_number end low n h s 0) ∙ ap (λ (x : List ℕ). read_from end x 0) e ∙ read_number end low m l t 0) in
+      let v : n ≡ m = ap value_of (sym (read_number end low n h s 0) ∙ ap (λ (x : List ℕ). read_from end x 0) e ∙ read_number end low m l t 0) in
       (v, sym (drop_end (digits n) end s) ∙ (λ p. drop (suc (length (digits (v p)))) (e p)) ∙ drop_end (digits m) end t)
 
   -- digits do not start with a sign
   pub sign_apart : (n : ℕ) (s t : List ℕ) → n ≤ most → digits n ++ (end ∷ s) ≡ 45 ∷ t → ⊥
   sign_apart n s t h e =
-      let a : (read_from end (45 ∷ t) 0).found ≡ true = ap (λ (x : List ℕ). (read_from end x 0).found) (sym e) ∙ ap (λ (x : Number). x.found) (read_number end low n h s 0) in
-      let b : (read_from end (45 ∷ t) 0).found ≡ false = ap (λ (x : Number). x.found) (from_other end 45 t 0 (digit_low 45 (omega arith))) in
-      clash (sym b ∙ a)
+      let a = ap (λ (x : List ℕ). read_from end x 0) (sym e) ∙ read_number end low n h s 0 in
+      none-some _ (sym (from_other end 45 t 0 (digit_low 45 (omega arith))) ∙ a)
 
   number_inj : (y z : ℤ) (s t : List ℕ) → Allowed true y → Allowed true z → number y ++ (end ∷ s) ≡ number z ++ (end ∷ t) → (y ≡ z) × (s ≡ t)
   number_inj (pos n) (pos m) s t h l e = let r = digits_inj n m s t h l e in (ap pos r.0, r.1)

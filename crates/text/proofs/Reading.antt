@@ -1,36 +1,42 @@
 -- One number read byte by byte, and that it is read exactly where the text is its rendering. Assumes nothing.
+use Rattle.std.proofs.lemmas.Bool.{false≢true}
 use mathlib.Core.Path.{◌≡◌, refl, sym, ap, ◌∙◌}
 use mathlib.Core.Logic.{◌≢◌}
 use mathlib.Core.Bool.{Bool, true, false, cond}
 use mathlib.Core.List.{List, [], ◌∷◌, ◌++◌, append_assoc}
 use Prim.Native.Nat.{ℕ, zero, suc, ◌+◌, ◌*◌, ◌-◌, ◌/◌, ◌%◌, ◌≤◌, ◌<◌}
-use native.Mathlib.Numerals.{add-one}
 use native.Mathlib.Omega.{arith}
 use borrow.Author.Tests.{lt-ltb, le-ltb, le-leb, lt-leb, ne_eqb, eq-eqb, ltb-true, ltb-false, leb-true, eqb-true, eqb-false}
 use lib.Dec.{ltb, leb, eqb}
 use lib.ListN.{length, get_or, drop, length-append, drop_of_length-le}
 use lib.Seq.{drop-drop, drop-cons}
 use Rattle.text.specs.Text.{digits, most}
-use Rattle.text.specs.Read.{is_digit, no_number, NumberRead}
-use Rattle.text.specs.declared.Number.{Number}
+use Rattle.std.specs.Prelude.{Option, None, Some, IfSome}
+use Rattle.text.specs.Read.{is_digit, NumberRead}
+use Rattle.text.specs.declared.Found.{Found}
 use Rattle.text.proofs.Digits.{digits_one, digits_more, digits_next}
 
-abbrev number_at : ℕ → ℕ → Number
-number_at v n = record { value = v; next = n; found = true }
+abbrev pub number_at : ℕ → ℕ → Option (Found ℕ)
+number_at v n = Some (record { value = v; next = n })
+
+-- the number that is read, 0 where none is
+abbrev pub value_of : Option (Found ℕ) → ℕ
+value_of None = 0
+value_of (Some m) = m.value
 
 -- the number with one digit more
 abbrev grown : ℕ → ℕ → ℕ
 grown v b = v * 10 + (b - 48)
 
 -- what is read of s, which stands at `at`, after the digits of v
-abbrev pub read_on : (end v : ℕ) → List ℕ → ℕ → Number
-read_on end v [] at = no_number
-read_on end v (b ∷ s) at = cond (is_digit b) (cond (eqb v 0) no_number (cond (ltb most (grown v b)) no_number (read_on end (grown v b) s (suc at)))) (cond (eqb b end) (number_at v (suc at)) no_number)
+abbrev pub read_on : (end v : ℕ) → List ℕ → ℕ → Option (Found ℕ)
+read_on end v [] at = None
+read_on end v (b ∷ s) at = cond (is_digit b) (cond (eqb v 0) None (cond (ltb most (grown v b)) None (read_on end (grown v b) s (suc at)))) (cond (eqb b end) (number_at v (suc at)) None)
 
 -- what is read of s, which stands at `at`
-abbrev pub read_from : (end : ℕ) → List ℕ → ℕ → Number
-read_from end [] at = no_number
-read_from end (b ∷ s) at = cond (is_digit b) (read_on end (b - 48) s (suc at)) no_number
+abbrev pub read_from : (end : ℕ) → List ℕ → ℕ → Option (Found ℕ)
+read_from end [] at = None
+read_from end (b ∷ s) at = cond (is_digit b) (read_on end (b - 48) s (suc at)) None
 
 -- ── the tests of one turn ──
 digit_yes : (b : ℕ) → 48 ≤ b → b ≤ 57 → is_digit b ≡ true
@@ -39,25 +45,22 @@ digit_yes b h l = rw (le-leb 48 b h, le-leb b 57 l)
 pub digit_low : (b : ℕ) → b < 48 → is_digit b ≡ false
 digit_low b h = rw (lt-leb 48 b h)
 
-pub clash : {A : Type 0} → false ≡ true → A
-clash e = let z : ◌≡◌ {A = ℕ} 0 1 = cc in absurd (omega arith)
-
 pub digit_range : (b : ℕ) → is_digit b ≡ true → (48 ≤ b) × (b ≤ 57)
 digit_range b e = go (leb 48 b) refl (leb b 57) refl e
   where
     go : (x : Bool) → leb 48 b ≡ x → (y : Bool) → leb b 57 ≡ y → is_digit b ≡ true → (48 ≤ b) × (b ≤ 57)
     go true p true q t = (leb-true 48 b p, leb-true b 57 q)
-    go true p false q t = clash (sym (rw (p, q)) ∙ t)
-    go false p y q t = clash (sym (rw p) ∙ t)
+    go true p false q t = absurd (false≢true (sym (rw (p, q)) ∙ t))
+    go false p y q t = absurd (false≢true (sym (rw p) ∙ t))
 
 module _ (end v b : ℕ) (s : List ℕ) (at : ℕ) where
-  on_zero : is_digit b ≡ true → v ≡ 0 → read_on end v (b ∷ s) at ≡ no_number
+  on_zero : is_digit b ≡ true → v ≡ 0 → read_on end v (b ∷ s) at ≡ None
   on_zero e z = rw (e, eq-eqb v 0 z)
 
-  on_large : is_digit b ≡ true → most < grown v b → read_on end v (b ∷ s) at ≡ no_number
+  on_large : is_digit b ≡ true → most < grown v b → read_on end v (b ∷ s) at ≡ None
   on_large e l = go (eqb v 0) refl
     where
-      go : (x : Bool) → eqb v 0 ≡ x → read_on end v (b ∷ s) at ≡ no_number
+      go : (x : Bool) → eqb v 0 ≡ x → read_on end v (b ∷ s) at ≡ None
       go true q = rw (e, q)
       go false q = rw (e, q, lt-ltb most (grown v b) l)
 
@@ -67,28 +70,24 @@ module _ (end v b : ℕ) (s : List ℕ) (at : ℕ) where
   on_end : is_digit b ≡ false → b ≡ end → read_on end v (b ∷ s) at ≡ number_at v (suc at)
   on_end e q = rw (e, eq-eqb b end q)
 
-  on_other : is_digit b ≡ false → b ≢ end → read_on end v (b ∷ s) at ≡ no_number
+  on_other : is_digit b ≡ false → b ≢ end → read_on end v (b ∷ s) at ≡ None
   on_other e q = rw (e, ne_eqb b end q)
 
-pub from_other : (end b : ℕ) (s : List ℕ) (at : ℕ) → is_digit b ≡ false → read_from end (b ∷ s) at ≡ no_number
+pub from_other : (end b : ℕ) (s : List ℕ) (at : ℕ) → is_digit b ≡ false → read_from end (b ∷ s) at ≡ None
 from_other end b s at e = rw e
 
 from_digit : (end b : ℕ) (s : List ℕ) (at : ℕ) → is_digit b ≡ true → read_from end (b ∷ s) at ≡ read_on end (b - 48) s (suc at)
 from_digit end b s at e = rw e
 
 -- ── what is read is a rendering ──
-abbrev Sound : ℕ → List ℕ → List ℕ → ℕ → Number → Type 0
+abbrev Sound : ℕ → List ℕ → List ℕ → ℕ → Option (Found ℕ) → Type 0
 Sound end front s at r =
-    r.found ≡ true
-    → (r.value ≤ most) × (at < r.next) × (r.next + length front ≡ at + suc (length (digits r.value))) × (front ++ s ≡ digits r.value ++ (end ∷ drop (r.next - at) s))
-
-no_sound : (end : ℕ) (front s : List ℕ) (at : ℕ) → Sound end front s at no_number
-no_sound end front s at e = clash e
+    IfSome r (λ m. (m.value ≤ most) × (at < m.next) × (m.next + length front ≡ at + suc (length (digits m.value))) × (front ++ s ≡ digits m.value ++ (end ∷ drop (m.next - at) s)))
 
 -- one digit more
-carry : (end v b : ℕ) (s : List ℕ) (at : ℕ) (r : Number) → is_digit b ≡ true → 1 ≤ v → Sound end (digits (grown v b)) s (suc at) r → Sound end (digits v) (b ∷ s) at r
-carry end v b s at r d h f e =
-    let g = f e in
+carry : (end v b : ℕ) (s : List ℕ) (at : ℕ) (r : Option (Found ℕ)) → is_digit b ≡ true → 1 ≤ v → Sound end (digits (grown v b)) s (suc at) r → Sound end (digits v) (b ∷ s) at r
+carry end v b s at None d h g = tt
+carry end v b s at (Some r) d h g =
     let l : b - 48 < 10 = omega (arith, (digit_range b d).0, (digit_range b d).1) in
     let q : 48 + (b - 48) ≡ b = omega (arith, (digit_range b d).0) in
     let n : digits (grown v b) ≡ digits v ++ (b ∷ []) = digits_next v (b - 48) h l ∙ ap (λ (k : ℕ). digits v ++ (k ∷ [])) q in
@@ -96,13 +95,24 @@ carry end v b s at r d h f e =
     let w : r.next - at ≡ suc (r.next - suc at) = omega (arith, g.1) in
     (g.0, omega (arith, g.1), omega (arith, g.2, m), rw w (sym (append_assoc (digits v) (b ∷ []) s) ∙ (rw n at g.3)))
 
+-- the first digit
+start : (end b : ℕ) (s : List ℕ) (at : ℕ) (r : Option (Found ℕ)) → is_digit b ≡ true → Sound end (digits (b - 48)) s (suc at) r → Sound end [] (b ∷ s) at r
+start end b s at None d g = tt
+start end b s at (Some r) d g =
+    let l : b - 48 < 10 = omega (arith, (digit_range b d).0, (digit_range b d).1) in
+    let q : 48 + (b - 48) ≡ b = omega (arith, (digit_range b d).0) in
+    let n : digits (b - 48) ≡ b ∷ [] = digits_one (b - 48) l ∙ ap (λ (k : ℕ). k ∷ []) q in
+    let m : length (digits (b - 48)) ≡ 1 = rw n in
+    let w : r.next - at ≡ suc (r.next - suc at) = omega (arith, g.1) in
+    (g.0, omega (arith, g.1), omega (arith, g.2, m), rw w (rw n at g.3))
+
 sound : (end v : ℕ) (s : List ℕ) (at : ℕ) → v ≤ most → Sound end (digits v) s at (read_on end v s at)
-sound end v [] at h = no_sound end (digits v) [] at
+sound end v [] at h = tt
 sound end v (b ∷ s) at h = go (is_digit b) refl (λ k. sound end (grown v b) s (suc at) k)
   where
     more : is_digit b ≡ true → (grown v b ≤ most → Sound end (digits (grown v b)) s (suc at) (read_on end (grown v b) s (suc at))) → (x : Bool) → eqb v 0 ≡ x → (y : Bool) → ltb most (grown v b) ≡ y → Sound end (digits v) (b ∷ s) at (read_on end v (b ∷ s) at)
-    more d ih true p y q = rw (on_zero end v b s at d (eqb-true v 0 p)) (no_sound end (digits v) (b ∷ s) at)
-    more d ih false p true q = rw (on_large end v b s at d (ltb-true most (grown v b) q)) (no_sound end (digits v) (b ∷ s) at)
+    more d ih true p y q = rw (on_zero end v b s at d (eqb-true v 0 p)) tt
+    more d ih false p true q = rw (on_large end v b s at d (ltb-true most (grown v b) q)) tt
     more d ih false p false q =
         let n : v ≢ 0 = eqb-false v 0 p in
         let l : grown v b ≤ most = ltb-false most (grown v b) q in
@@ -113,44 +123,22 @@ sound end v (b ∷ s) at h = go (is_digit b) refl (λ k. sound end (grown v b) s
     last d true p =
         let q : b ≡ end = eqb-true b end p in
         let w : suc at - at ≡ 1 = omega arith in
-        rw (on_end end v b s at d q) (λ e. (h, omega arith, omega arith, rw (w, q)))
-    last d false p = rw (on_other end v b s at d (eqb-false b end p)) (no_sound end (digits v) (b ∷ s) at)
+        rw (on_end end v b s at d q) (h, omega arith, omega arith, rw (w, q))
+    last d false p = rw (on_other end v b s at d (eqb-false b end p)) tt
 
     go : (x : Bool) → is_digit b ≡ x → (grown v b ≤ most → Sound end (digits (grown v b)) s (suc at) (read_on end (grown v b) s (suc at))) → Sound end (digits v) (b ∷ s) at (read_on end v (b ∷ s) at)
     go true d ih = more d ih (eqb v 0) refl (ltb most (grown v b)) refl
     go false d ih = last d (eqb b end) refl
 
 sound_from : (end : ℕ) (s : List ℕ) (at : ℕ) → Sound end [] s at (read_from end s at)
-sound_from end [] at = no_sound end [] [] at
+sound_from end [] at = tt
 sound_from end (b ∷ s) at = go (is_digit b) refl
   where
     go : (x : Bool) → is_digit b ≡ x → Sound end [] (b ∷ s) at (read_from end (b ∷ s) at)
-    go false d = rw (from_other end b s at d) (no_sound end [] (b ∷ s) at)
-    go true d = rw (from_digit end b s at d) (λ e.
-        let l : b - 48 < 10 = omega (arith, (digit_range b d).0, (digit_range b d).1) in
-        let q : 48 + (b - 48) ≡ b = omega (arith, (digit_range b d).0) in
-        let o : b - 48 ≤ most = omega arith in
-        let g = sound end (b - 48) s (suc at) o e in
-        let n : digits (b - 48) ≡ b ∷ [] = digits_one (b - 48) l ∙ ap (λ (k : ℕ). k ∷ []) q in
-        let m : length (digits (b - 48)) ≡ 1 = rw n in
-        let w : (read_on end (b - 48) s (suc at)).next - at ≡ suc ((read_on end (b - 48) s (suc at)).next - suc at) = omega (arith, g.1) in
-        (g.0, omega (arith, g.1), omega (arith, g.2, m), rw w (rw n at g.3)))
-
--- ── where nothing is found ──
-abbrev None : Number → Type 0
-None r = r.found ≡ false → r ≡ no_number
-
-either : (b : Bool) (x y : Number) → None x → None y → None (cond b x y)
-either true x y f g = f
-either false x y f g = g
-
-none_on : (end v : ℕ) (s : List ℕ) (at : ℕ) → None (read_on end v s at)
-none_on end v [] at = λ e. refl
-none_on end v (b ∷ s) at = either (is_digit b) _ _ (either (eqb v 0) _ _ (λ e. refl) (either (ltb most (grown v b)) _ _ (λ e. refl) (none_on end (grown v b) s (suc at)))) (either (eqb b end) _ _ (λ e. clash (sym e)) (λ e. refl))
-
-none_from : (end : ℕ) (s : List ℕ) (at : ℕ) → None (read_from end s at)
-none_from end [] at = λ e. refl
-none_from end (b ∷ s) at = either (is_digit b) _ _ (none_on end (b - 48) s (suc at)) (λ e. refl)
+    go false d = rw (from_other end b s at d) tt
+    go true d =
+        let o : b - 48 ≤ most = omega (arith, (digit_range b d).1) in
+        rw (from_digit end b s at d) (start end b s at (read_on end (b - 48) s (suc at)) d (sound end (b - 48) s (suc at) o))
 
 -- ── a rendering is read ──
 -- past a rendering and the byte after it
@@ -180,49 +168,45 @@ module _ (end : ℕ) (e : end < 48) where
   pub read_number : (n : ℕ) → n ≤ most → (rest : List ℕ) (at : ℕ) → read_from end (digits n ++ (end ∷ rest)) at ≡ number_at n (suc (at + length (digits n)))
   read_number n l rest at = read_digits (suc n) n (omega arith) l (end ∷ rest) at ∙ on_end end n end rest (at + length (digits n)) (digit_low end e) refl
 
+  sound_read : (text : List ℕ) (at : ℕ) (r : Option (Found ℕ)) → Sound end [] (drop at text) at r → IfSome r (λ m. (m.value ≤ most) × (m.next ≡ at + suc (length (digits m.value))) × (drop at text ≡ digits m.value ++ (end ∷ drop m.next text)))
+  sound_read text at None g = tt
+  sound_read text at (Some r) g =
+      let w : at + (r.next - at) ≡ r.next = omega (arith, g.1) in
+      (g.0, omega (arith, g.2), rw (drop-drop, w) at g.3)
+
   -- the whole contract
-  pub number_read : (text : List ℕ) (at : ℕ) (r : Number) → r ≡ read_from end (drop at text) at → NumberRead text at end r
+  number_read : (text : List ℕ) (at : ℕ) (r : Option (Found ℕ)) → r ≡ read_from end (drop at text) at → NumberRead text at end r
   number_read text at r q = record {
-    read = λ f.
-        let g : Sound end [] (drop at text) at r = rw q (sound_from end (drop at text) at) in
-        let w : at + (r.next - at) ≡ r.next = omega (arith, (g f).1) in
-        ((g f).0, omega (arith, (g f).2), rw (drop-drop, w) at (g f).3);
+    read = sound_read text at r (rw q (sound_from end (drop at text) at));
     each = λ n rest l d.
         let p : r ≡ number_at n (suc (at + length (digits n))) = q ∙ ap (λ (s : List ℕ). read_from end s at) d ∙ read_number n l rest at in
         let m : suc (at + length (digits n)) ≡ at + suc (length (digits n)) = omega arith in
         let w : drop (suc (at + length (digits n))) text ≡ rest = ap (λ (k : ℕ). drop k text) m ∙ sym (drop-drop (suc (length (digits n))) at text) ∙ ap (λ (s : List ℕ). drop (suc (length (digits n))) s) d ∙ drop_end (digits n) end rest in
-        (ap (λ (x : Number). x.found) p, ap (λ (x : Number). x.value) p, ap (λ (x : Number). drop x.next text) p ∙ w);
-    none = rw q (none_from end (drop at text) at);
+        rw p (refl, w);
   }
 
 -- ── the loop: the whole answer is the answer from i on ──
-module _ (end : ℕ) (text : List ℕ) (at : ℕ) where
-  pub start_end : length text ≤ at → no_number ≡ read_from end (drop at text) at
-  start_end h = rw (drop_of_length-le text h)
+module _ (end : ℕ) (low : end < 48) (text : List ℕ) (at : ℕ) where
+  pub start_end : length text ≤ at → NumberRead text at end None
+  start_end h = number_read end low text at None (rw (drop_of_length-le text h))
 
-  pub start_other : at < length text → is_digit (get_or text at 0) ≡ false → no_number ≡ read_from end (drop at text) at
-  start_other h d = sym (ap (λ (s : List ℕ). read_from end s at) (drop-cons text at 0 h) ∙ from_other end (get_or text at 0) (drop (suc at) text) at d)
-
-  pub start_digit : at < length text → is_digit (get_or text at 0) ≡ true → read_from end (drop at text) at ≡ read_on end (get_or text at 0 - 48) (drop (at + 1) text) (at + 1)
-  start_digit h d = rw add-one (ap (λ (s : List ℕ). read_from end s at) (drop-cons text at 0 h) ∙ from_digit end (get_or text at 0) (drop (suc at) text) at d)
+  pub start_other : at < length text → is_digit (get_or text at 0) ≡ false → NumberRead text at end None
+  start_other h d = number_read end low text at None (sym (ap (λ (s : List ℕ). read_from end s at) (drop-cons text at 0 h) ∙ from_other end (get_or text at 0) (drop (suc at) text) at d))
 
   module _ (v i : ℕ) (inv : read_from end (drop at text) at ≡ read_on end v (drop i text) i) where
-    pub turn_done : length text ≤ i → no_number ≡ read_from end (drop at text) at
-    turn_done h = sym (inv ∙ rw (drop_of_length-le text h))
+    pub turn_done : length text ≤ i → NumberRead text at end None
+    turn_done h = number_read end low text at None (sym (inv ∙ rw (drop_of_length-le text h)))
 
     module _ (h : i < length text) where
       here : read_from end (drop at text) at ≡ read_on end v (get_or text i 0 ∷ drop (suc i) text) i
       here = inv ∙ ap (λ (s : List ℕ). read_on end v s i) (drop-cons text i 0 h)
 
-      pub turn_end : is_digit (get_or text i 0) ≡ false → cond (eqb (get_or text i 0) end) (number_at v (suc i)) no_number ≡ read_from end (drop at text) at
-      turn_end d = sym (here ∙ rw d)
+      pub turn_end : is_digit (get_or text i 0) ≡ false → NumberRead text at end (cond (eqb (get_or text i 0) end) (number_at v (suc i)) None)
+      turn_end d = number_read end low text at _ (sym (here ∙ rw d))
 
-      pub turn_zero : is_digit (get_or text i 0) ≡ true → v ≡ 0 → no_number ≡ read_from end (drop at text) at
-      turn_zero d z = sym (here ∙ on_zero end v (get_or text i 0) (drop (suc i) text) i d z)
+      module _ (d : is_digit (get_or text i 0) ≡ true) where
+        pub turn_zero : v ≡ 0 → NumberRead text at end None
+        turn_zero z = number_read end low text at None (sym (here ∙ on_zero end v (get_or text i 0) (drop (suc i) text) i d z))
 
-      pub turn_large : is_digit (get_or text i 0) ≡ true → most < v * 10 + (get_or text i 0 - 48) → no_number ≡ read_from end (drop at text) at
-      turn_large d l = sym (here ∙ on_large end v (get_or text i 0) (drop (suc i) text) i d l)
-
-      pub turn_more : is_digit (get_or text i 0) ≡ true → v ≢ 0 → v * 10 + (get_or text i 0 - 48) ≤ most
-          → read_from end (drop at text) at ≡ read_on end (v * 10 + (get_or text i 0 - 48)) (drop (i + 1) text) (i + 1)
-      turn_more d n l = rw add-one (here ∙ on_more end v (get_or text i 0) (drop (suc i) text) i d n l)
+        pub turn_large : most < v * 10 + (get_or text i 0 - 48) → NumberRead text at end None
+        turn_large l = number_read end low text at None (sym (here ∙ on_large end v (get_or text i 0) (drop (suc i) text) i d l))

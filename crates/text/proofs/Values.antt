@@ -1,7 +1,9 @@
 -- One signed number: with its sign, and without. Assumes nothing.
-use mathlib.Core.Path.{◌≡◌, refl, sym, ap, subst, ◌∙◌}
+use Rattle.std.proofs.lemmas.Bool.{false≢true}
+use mathlib.Core.Path.{◌≡◌, refl, sym, ap, ◌∙◌}
 use mathlib.Core.Logic.{◌≢◌}
 use mathlib.Core.Bool.{Bool, true, false, ◌&&◌}
+use Rattle.std.proofs.lemmas.Option.{none-some}
 use mathlib.Core.List.{List, [], ◌∷◌, ◌++◌}
 use Prim.Native.Nat.{ℕ, zero, suc, ◌+◌, ◌≤◌, ◌<◌}
 use native.Mathlib.Numerals.{add-one}
@@ -12,15 +14,15 @@ use lib.IntN.{ℤ, pos, negsuc, neg_ℤ}
 use lib.ListN.{length, get_or, drop, drop_of_length-le}
 use lib.Seq.{drop-cons}
 use Rattle.text.specs.Text.{digits, number, most, Allowed}
-use Rattle.text.specs.Read.{has_sign, no_value, NumberRead, ValueRead}
-use Rattle.text.specs.declared.Number.{Number}
-use Rattle.text.specs.declared.Value.{Value}
-use Rattle.text.proofs.Reading.{read_from, clash, digit_low, from_other, read_number}
+use Rattle.std.specs.Prelude.{Option, None, Some, IfSome, IsSomeAnd}
+use Rattle.text.specs.Read.{has_sign, NumberRead, ValueRead}
+use Rattle.text.specs.declared.Found.{Found}
+use Rattle.text.proofs.Reading.{read_from, digit_low, from_other, read_number}
 
 -- ── the test of the sign ──
 and_true : (a b : Bool) → a && b ≡ true → (a ≡ true) × (b ≡ true)
 and_true true b e = (refl, e)
-and_true false b e = clash e
+and_true false b e = absurd (false≢true e)
 
 module _ (text : List ℕ) (at : ℕ) where
   pub sign_there : (signed : Bool) → has_sign text at signed ≡ true → (signed ≡ true) × (at < length text) × (get_or text at 0 ≡ 45)
@@ -46,41 +48,43 @@ module _ (text : List ℕ) (at : ℕ) where
       head : drop at text ≡ get_or text at 0 ∷ drop (suc at) text → get_or text at 0 ≡ 45
       head d = cc
 
-abbrev pub value_at : ℤ → ℕ → Value
-value_at z n = record { value = z; next = n; found = true }
-
 -- where nothing is read
-none_read : (text : List ℕ) (at end : ℕ) (signed : Bool) (r : Value) → r ≡ no_value → ((z : ℤ) (rest : List ℕ) → Allowed signed z → drop at text ≡ number z ++ (end ∷ rest) → ⊥) → ValueRead text at end signed r
-none_read text at end signed r q f = record { read = λ t. clash (sym (ap (λ (x : Value). x.found) q) ∙ t); each = λ z rest l d. absurd (f z rest l d); none = λ t. q }
+none_read : (text : List ℕ) (at end : ℕ) (signed : Bool) → ((z : ℤ) (rest : List ℕ) → Allowed signed z → drop at text ≡ number z ++ (end ∷ rest) → ⊥) → ValueRead text at end signed None
+none_read text at end signed f = record { read = tt; each = f }
 
 -- ── a number without sign ──
-module _ (text : List ℕ) (at end : ℕ) (n : Number) (m : NumberRead text at end n) (r : Value) where
-  pub plain_none : n.found ≡ false → r ≡ no_value → ValueRead text at end false r
-  plain_none f q = none_read text at end false r q never
+module _ (text : List ℕ) (at end : ℕ) where
+  pub plain_none : NumberRead text at end None → ValueRead text at end false None
+  plain_none m = none_read text at end false never
     where
       never : (z : ℤ) (rest : List ℕ) → Allowed false z → drop at text ≡ number z ++ (end ∷ rest) → ⊥
-      never (pos k) rest l d = clash (sym f ∙ (m.each k rest l d).0)
+      never (pos k) rest l d = m.each k rest l d
       never (negsuc k) rest l d = l
 
-  pub plain_some : n.found ≡ true → r ≡ value_at (pos n.value) n.next → ValueRead text at end false r
-  plain_some f q = subst (λ (x : Value). ValueRead text at end false x) (sym q) record { read = λ t. m.read f; each = some; none = λ t. clash (sym t) }
+  pub plain_some : (n : Found ℕ) → NumberRead text at end (Some n) → ValueRead text at end false (Some (record { value = pos n.value; next = n.next }))
+  plain_some n m = record { read = m.read; each = some }
     where
-      some : (z : ℤ) (rest : List ℕ) → Allowed false z → drop at text ≡ number z ++ (end ∷ rest) → (true ≡ true) × (pos n.value ≡ z) × (drop n.next text ≡ rest)
-      some (pos k) rest l d = let e = m.each k rest l d in (refl, ap pos e.1, e.2)
+      some : (z : ℤ) (rest : List ℕ) → Allowed false z → drop at text ≡ number z ++ (end ∷ rest) → (pos n.value ≡ z) × (drop n.next text ≡ rest)
+      some (pos k) rest l d = let e = m.each k rest l d in (ap pos e.0, e.1)
       some (negsuc k) rest l d = absurd l
 
 -- without a sign, one may be allowed
-pub plain_signed : (text : List ℕ) (at end : ℕ) (signed : Bool) (r : Value) → has_sign text at signed ≡ false → ValueRead text at end false r → ValueRead text at end signed r
+pub plain_signed : (text : List ℕ) (at end : ℕ) (signed : Bool) (r : Option (Found ℤ)) → has_sign text at signed ≡ false → ValueRead text at end false r → ValueRead text at end signed r
 plain_signed text at end false r h v = v
-plain_signed text at end true r h v = record { read = λ t. let g = v.read t in (up r.value g.0, g.1, g.2); each = each; none = v.none }
+plain_signed text at end true r h v = record { read = up r v.read; each = each }
   where
-    up : (z : ℤ) → Allowed false z → Allowed true z
-    up (pos k) l = l
-    up (negsuc k) l = absurd l
+    allowed : (z : ℤ) → Allowed false z → Allowed true z
+    allowed (pos k) l = l
+    allowed (negsuc k) l = absurd l
 
-    each : (z : ℤ) (rest : List ℕ) → Allowed true z → drop at text ≡ number z ++ (end ∷ rest) → (r.found ≡ true) × (r.value ≡ z) × (drop r.next text ≡ rest)
+    up : (o : Option (Found ℤ)) → IfSome o (λ m. Allowed false m.value × (m.next ≡ at + suc (length (number m.value))) × (drop at text ≡ number m.value ++ (end ∷ drop m.next text)))
+        → IfSome o (λ m. Allowed true m.value × (m.next ≡ at + suc (length (number m.value))) × (drop at text ≡ number m.value ++ (end ∷ drop m.next text)))
+    up None g = tt
+    up (Some m) g = (allowed m.value g.0, g.1, g.2)
+
+    each : (z : ℤ) (rest : List ℕ) → Allowed true z → drop at text ≡ number z ++ (end ∷ rest) → IsSomeAnd r (λ m. (m.value ≡ z) × (drop m.next text ≡ rest))
     each (pos k) rest l d = v.each (pos k) rest l d
-    each (negsuc k) rest l d = clash (sym h ∙ sign_seen text at (digits (suc k) ++ (end ∷ rest)) d)
+    each (negsuc k) rest l d = absurd (false≢true (sym h ∙ sign_seen text at (digits (suc k) ++ (end ∷ rest)) d))
 
 -- ── a number with its sign ──
 module _ (text : List ℕ) (at end : ℕ) (low : end < 48) (h : at < length text) (s : get_or text at 0 ≡ 45) where
@@ -90,44 +94,44 @@ module _ (text : List ℕ) (at end : ℕ) (low : end < 48) (h : at < length text
   -- digits do not start with a sign
   no_digits : (k : ℕ) (rest : List ℕ) → k ≤ most → drop at text ≡ digits k ++ (end ∷ rest) → ⊥
   no_digits k rest l d =
-      let a : (read_from end (drop at text) at).found ≡ true = ap (λ (x : List ℕ). (read_from end x at).found) d ∙ ap (λ (x : Number). x.found) (read_number end low k l rest at) in
-      let b : (read_from end (drop at text) at).found ≡ false = ap (λ (x : List ℕ). (read_from end x at).found) starts ∙ ap (λ (x : Number). x.found) (from_other end 45 (drop (at + 1) text) at (digit_low 45 (omega arith))) in
-      clash (sym b ∙ a)
+      let a : read_from end (drop at text) at ≡ Some _ = ap (λ (x : List ℕ). read_from end x at) d ∙ read_number end low k l rest at in
+      let b : read_from end (drop at text) at ≡ None = ap (λ (x : List ℕ). read_from end x at) starts ∙ from_other end 45 (drop (at + 1) text) at (digit_low 45 (omega arith)) in
+      none-some _ (sym b ∙ a)
 
-  module _ (n : Number) (m : NumberRead text (at + 1) end n) (r : Value) where
-    rest_is : (k : ℕ) (rest : List ℕ) → drop at text ≡ 45 ∷ digits (suc k) ++ (end ∷ rest) → drop (at + 1) text ≡ digits (suc k) ++ (end ∷ rest)
-    rest_is k rest d = let e = starts in cc
+  rest_is : (k : ℕ) (rest : List ℕ) → drop at text ≡ 45 ∷ digits (suc k) ++ (end ∷ rest) → drop (at + 1) text ≡ digits (suc k) ++ (end ∷ rest)
+  rest_is k rest d = let e = starts in cc
 
-    pub negative_none : n.found ≡ false → r ≡ no_value → ValueRead text at end true r
-    negative_none f q = none_read text at end true r q never
+  pub negative_none : NumberRead text (at + 1) end None → ValueRead text at end true None
+  negative_none m = none_read text at end true never
+    where
+      never : (z : ℤ) (rest : List ℕ) → Allowed true z → drop at text ≡ number z ++ (end ∷ rest) → ⊥
+      never (pos k) rest l d = no_digits k rest l d
+      never (negsuc k) rest l d = m.each (suc k) rest l (rest_is k rest d)
+
+  module _ (n : Found ℕ) (m : NumberRead text (at + 1) end (Some n)) where
+    pub negative_zero : n.value ≡ 0 → ValueRead text at end true None
+    negative_zero f = none_read text at end true never
       where
         never : (z : ℤ) (rest : List ℕ) → Allowed true z → drop at text ≡ number z ++ (end ∷ rest) → ⊥
         never (pos k) rest l d = no_digits k rest l d
-        never (negsuc k) rest l d = clash (sym f ∙ (m.each (suc k) rest l (rest_is k rest d)).0)
+        never (negsuc k) rest l d = absurd (omega (arith, (m.each (suc k) rest l (rest_is k rest d)).0))
 
-    pub negative_zero : n.value ≡ 0 → r ≡ no_value → ValueRead text at end true r
-    negative_zero f q = none_read text at end true r q never
+    pub negative_some : n.value ≢ 0 → ValueRead text at end true (Some (record { value = neg_ℤ (pos n.value); next = n.next }))
+    negative_some w = go n.value refl w
       where
-        never : (z : ℤ) (rest : List ℕ) → Allowed true z → drop at text ≡ number z ++ (end ∷ rest) → ⊥
-        never (pos k) rest l d = no_digits k rest l d
-        never (negsuc k) rest l d = absurd (omega (arith, (m.each (suc k) rest l (rest_is k rest d)).1))
-
-    pub negative_some : n.found ≡ true → n.value ≢ 0 → r ≡ value_at (neg_ℤ (pos n.value)) n.next → ValueRead text at end true r
-    negative_some f w q = go n.value refl w q
-      where
-        go : (v : ℕ) → n.value ≡ v → v ≢ 0 → r ≡ value_at (neg_ℤ (pos v)) n.next → ValueRead text at end true r
-        go zero e w q = absurd (w refl)
-        go (suc v) e w q = subst (λ (x : Value). ValueRead text at end true x) (sym q) record { read = read; each = each; none = λ t. clash (sym t) }
+        go : (v : ℕ) → n.value ≡ v → v ≢ 0 → ValueRead text at end true (Some (record { value = neg_ℤ (pos v); next = n.next }))
+        go zero e w = absurd (w refl)
+        go (suc v) e w = record { read = read; each = each }
           where
-            read : true ≡ true → (suc v ≤ most) × (n.next ≡ at + suc (suc (length (digits (suc v))))) × (drop at text ≡ 45 ∷ digits (suc v) ++ (end ∷ drop n.next text))
-            read t =
-                let g = m.read f in
+            read : (suc v ≤ most) × (n.next ≡ at + suc (suc (length (digits (suc v))))) × (drop at text ≡ 45 ∷ digits (suc v) ++ (end ∷ drop n.next text))
+            read =
+                let g = m.read in
                 let len : length (digits n.value) ≡ length (digits (suc v)) = rw e in
                 (omega (arith, g.0), omega (arith, g.1, len), starts ∙ ap (λ (x : List ℕ). 45 ∷ x) (g.2 ∙ ap (λ (x : ℕ). digits x ++ (end ∷ drop n.next text)) e))
 
-            each : (z : ℤ) (rest : List ℕ) → Allowed true z → drop at text ≡ number z ++ (end ∷ rest) → (true ≡ true) × (negsuc v ≡ z) × (drop n.next text ≡ rest)
+            each : (z : ℤ) (rest : List ℕ) → Allowed true z → drop at text ≡ number z ++ (end ∷ rest) → (negsuc v ≡ z) × (drop n.next text ≡ rest)
             each (pos k) rest l d = absurd (no_digits k rest l d)
             each (negsuc k) rest l d =
                 let g = m.each (suc k) rest l (rest_is k rest d) in
-                let j : v ≡ k = omega (arith, g.1) in
-                (refl, ap negsuc j, g.2)
+                let j : v ≡ k = omega (arith, g.0) in
+                (ap negsuc j, g.1)

@@ -116,9 +116,6 @@ pub record Pending (at : ℕ) (zs : List ℤ) (before : List ℕ) (next i : ℕ)
   pub bytes : put next (line (drop i zs)) buf ≡ put at (line zs) before
 
 module _ (at : ℕ) (zs : List ℤ) (before : List ℕ) (h : Room at (line zs) before) where
-  pub pending_start : Pending at zs before at 0 before
-  pending_start = record { size = refl; end = refl; bytes = refl }
-
   module _ (next i : ℕ) (buf : List ℕ) (p : Pending at zs before next i buf) where
     pub pending_end : length zs ≤ i → Written at (line zs) before next buf
     pending_end l =

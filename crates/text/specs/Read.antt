@@ -1,9 +1,7 @@
 -- What is read of a text: exactly what a rendering gives. Assumes nothing.
-use Rattle.std.specs.Prelude.{◌≡◌, ◌≢◌, Bool, true, false, cond, ◌&&◌, List, ◌∷◌, ◌++◌, ℕ, suc, ◌+◌, ◌≤◌, leb, ltb, eqb, ℤ, pos, length, get_or, drop}
+use Rattle.std.specs.Prelude.{◌≡◌, Bool, cond, ◌&&◌, List, ◌∷◌, ◌++◌, ℕ, suc, ◌+◌, ◌≤◌, leb, ltb, eqb, ℤ, length, get_or, drop, Option, None, IfSome, IsSomeAnd}
 use Rattle.text.specs.Text.{digits, number, line, most, Allowed, AllAllowed}
-use Rattle.text.specs.declared.Number.{Number}
-use Rattle.text.specs.declared.Value.{Value}
-use Rattle.text.specs.declared.Line.{Line}
+use Rattle.text.specs.declared.Found.{Found}
 
 abbrev pub is_digit : ℕ → Bool
 is_digit b = leb 48 b && leb b 57
@@ -16,34 +14,18 @@ has_sign text at signed = signed && (ltb at (length text) && eqb (get_or text at
 abbrev pub column_end : ℕ → ℕ → ℕ
 column_end i n = cond (ltb (i + 1) n) 32 10
 
-abbrev pub no_number : Number
-no_number = record { value = 0; next = 0; found = false }
+-- digits are read from `at` exactly where the text goes on with those of a number and the byte `end`
+pub record NumberRead (text : List ℕ) (at end : ℕ) (r : Option (Found ℕ)) : Type 0 where
+  pub read : IfSome r (λ m. (m.value ≤ most) × (m.next ≡ at + suc (length (digits m.value))) × (drop at text ≡ digits m.value ++ (end ∷ drop m.next text)))
+  pub each : (n : ℕ) (rest : List ℕ) → n ≤ most → drop at text ≡ digits n ++ (end ∷ rest) → IsSomeAnd r (λ m. (m.value ≡ n) × (drop m.next text ≡ rest))
 
-abbrev pub no_value : Value
-no_value = record { value = pos 0; next = 0; found = false }
+-- a number is read from `at` exactly where the text goes on with its rendering and the byte `end`
+pub record ValueRead (text : List ℕ) (at end : ℕ) (signed : Bool) (r : Option (Found ℤ)) : Type 0 where
+  pub read : IfSome r (λ m. Allowed signed m.value × (m.next ≡ at + suc (length (number m.value))) × (drop at text ≡ number m.value ++ (end ∷ drop m.next text)))
+  pub each : (z : ℤ) (rest : List ℕ) → Allowed signed z → drop at text ≡ number z ++ (end ∷ rest) → IsSomeAnd r (λ m. (m.value ≡ z) × (drop m.next text ≡ rest))
 
-abbrev pub no_line : Line
-no_line = record { next = 0; found = false }
-
--- digits are read from `at` exactly where the text goes on with those of a number and the byte `end`; where none are read the answer is no_number
-pub record NumberRead (text : List ℕ) (at end : ℕ) (r : Number) : Type 0 where
-  pub read : r.found ≡ true → (r.value ≤ most) × (r.next ≡ at + suc (length (digits r.value))) × (drop at text ≡ digits r.value ++ (end ∷ drop r.next text))
-  pub each : (n : ℕ) (rest : List ℕ) → n ≤ most → drop at text ≡ digits n ++ (end ∷ rest) → (r.found ≡ true) × (r.value ≡ n) × (drop r.next text ≡ rest)
-  pub none : r.found ≡ false → r ≡ no_number
-
--- a number is read from `at` exactly where the text goes on with its rendering and the byte `end`; where none is read the answer is no_value
-pub record ValueRead (text : List ℕ) (at end : ℕ) (signed : Bool) (r : Value) : Type 0 where
-  pub read : r.found ≡ true → Allowed signed r.value × (r.next ≡ at + suc (length (number r.value))) × (drop at text ≡ number r.value ++ (end ∷ drop r.next text))
-  pub each : (z : ℤ) (rest : List ℕ) → Allowed signed z → drop at text ≡ number z ++ (end ∷ rest) → (r.found ≡ true) × (r.value ≡ z) × (drop r.next text ≡ rest)
-  pub none : r.found ≡ false → r ≡ no_value
-
--- a line of as many values as `before` has is read from `at` exactly where the text goes on with its rendering; `after` are the values then. Where none is read the answer is no_line, and the values are as before
-pub record LineRead (text : List ℕ) (at : ℕ) (signed : Bool) (before : List ℤ) (r : Line) (after : List ℤ) : Type 0 where
-  pub read : r.found ≡ true → AllAllowed signed after × (r.next ≡ at + length (line after)) × (drop at text ≡ line after ++ drop r.next text)
-  pub each : (zs : List ℤ) (rest : List ℕ) → length zs ≡ length before → AllAllowed signed zs → drop at text ≡ line zs ++ rest → (r.found ≡ true) × (after ≡ zs) × (drop r.next text ≡ rest)
-  pub none : r.found ≡ false → (r ≡ no_line) × (after ≡ before)
-
--- r tells whether a text begins with front
-pub record Begins (text front : List ℕ) (r : Bool) : Type 0 where
-  pub yes : r ≡ true → text ≡ front ++ drop (length front) text
-  pub no : r ≡ false → (rest : List ℕ) → text ≢ front ++ rest
+-- a line of as many values as `before` has is read from `at` exactly where the text goes on with its rendering, and r is where it goes on after that; `after` are the values then. Where none is read the values are as before
+pub record LineRead (text : List ℕ) (at : ℕ) (signed : Bool) (before : List ℤ) (r : Option ℕ) (after : List ℤ) : Type 0 where
+  pub read : IfSome r (λ next. AllAllowed signed after × (next ≡ at + length (line after)) × (drop at text ≡ line after ++ drop next text))
+  pub each : (zs : List ℤ) (rest : List ℕ) → length zs ≡ length before → AllAllowed signed zs → drop at text ≡ line zs ++ rest → IsSomeAnd r (λ next. (after ≡ zs) × (drop next text ≡ rest))
+  pub none : r ≡ None → after ≡ before

@@ -1,141 +1,94 @@
 // Reading: each number and line is read exactly where the text is its rendering.
-ghost use Rattle.std.specs.Prelude.{◌≡◌, true, false, cond, suc, ◌-◌, ◌≤◌, ◌<◌, eqb, length, get_or};
+ghost use Rattle.std.specs.Prelude.{◌≡◌, true, false, ◌-◌, ◌≤◌, ◌<◌, suc, cond, eqb, length, get_or, None, Some, MatchOption};
 ghost use Rattle.text.specs.Text.{most};
-ghost use Rattle.text.specs.Read.{is_digit, has_sign, no_number, no_value, no_line, NumberRead, ValueRead, LineRead, Begins};
+ghost use Rattle.text.specs.Read.{is_digit, has_sign, NumberRead, ValueRead, LineRead};
 
-use crate::{Line, MINUS, MOST, Number, Value, column_end, minus, plain};
-
-fn no_number() -> Number
-    ensures { result ≡ no_number }
-{
-    Number {
-        value: 0,
-        next: 0,
-        found: false,
-    }
-}
-
-fn is_digit(byte: u8) -> bool
-    ensures { result ≡ is_digit byte }
-{
-    48 <= byte && byte <= 57
-}
+use crate::{Found, MINUS, MOST, column_end};
 
 // The value of a digit.
-fn digit(byte: u8) -> u64
-    requires { is_digit byte ≡ true }
-    ensures { (result ≡ byte - 48) × (result ≤ 9) }
+fn digit(byte: u8) -> Option<u64>
+    ensures { MatchOption result (is_digit byte ≡ false) (λ d. (is_digit byte ≡ true) × (d ≡ byte - 48) × (d ≤ 9)) }
 {
-    (byte - 48) as u64
+    match byte {
+        b'0'..=b'9' => Some(u64::from(byte - b'0')),
+        _ => None,
+    }
 }
 
 // What is read of a number where a byte stands after its digits.
-fn ended(value: u64, byte: u8, end: u8, at: usize) -> Number
+fn ended(value: u64, byte: u8, end: u8, at: usize) -> Option<Found<u32>>
     requires { (value ≤ most) × (at < 18446744073709551615) }
-    ensures { result ≡ cond (eqb byte end) (record { value = value; next = suc at; found = true }) no_number }
+    ensures { result ≡ cond (eqb byte end) (Some (record { value = value; next = suc at })) None }
 {
     if byte != end {
-        return no_number();
+        return None;
     }
-    Number {
+    Some(Found {
         value: value as u32,
         next: at + 1,
-        found: true,
-    }
+    })
 }
 
 // The decimal number from `at` on, which the byte `end` must follow; the text goes on after that.
-pub fn read_number(text: &[u8], at: usize, end: u8) -> Number
+pub fn read_number(text: &[u8], at: usize, end: u8) -> Option<Found<u32>>
     requires { end < 48 }
     ensures { NumberRead text.now at end result }
 {
-    if at >= text.len() {
-        return no_number();
-    }
-    let first = text[at];
-    if !is_digit(first) {
-        return no_number();
-    }
-    let mut value = digit(first);
-    let mut i = at + 1;
-    while i < text.len() {
+    let first = *text.get(at)?;
+    let mut value = digit(first)?;
+    for i in at + 1..text.len() {
         let byte = text[i];
-        if !is_digit(byte) {
+        let Some(d) = digit(byte) else {
             return ended(value, byte, end, i);
-        }
+        };
         if value == 0 {
-            return no_number();
+            return None;
         }
-        value = value * 10 + digit(byte);
+        value = value * 10 + d;
         if value > MOST {
-            return no_number();
+            return None;
         }
-        i += 1;
     }
-    no_number()
-}
-
-fn no_value() -> Value
-    ensures { result ≡ no_value }
-{
-    Value {
-        value: 0,
-        next: 0,
-        found: false,
-    }
+    None
 }
 
 // A minus sign stands at `at`, where one is allowed.
 fn has_sign(text: &[u8], at: usize, signed: bool) -> bool
     ensures { result ≡ has_sign text.now at signed }
 {
-    if !signed {
-        return false;
-    }
-    if at >= text.len() {
-        return false;
-    }
-    text[at] == MINUS
+    signed && at < text.len() && text[at] == MINUS
 }
 
 // The number from `at` on, which has no sign.
-fn read_plain(text: &[u8], at: usize, end: u8) -> Value
+fn read_plain(text: &[u8], at: usize, end: u8) -> Option<Found<i64>>
     requires { end < 48 }
     ensures { ValueRead text.now at end false result }
 {
-    let n = read_number(text, at, end);
-    if !n.found {
-        return no_value();
-    }
-    Value {
-        value: plain(n.value),
+    let n = read_number(text, at, end)?;
+    Some(Found {
+        value: i64::from(n.value),
         next: n.next,
-        found: true,
-    }
+    })
 }
 
 // The number whose minus sign stands at `at`.
-fn read_negative(text: &[u8], at: usize, end: u8) -> Value
+fn read_negative(text: &[u8], at: usize, end: u8) -> Option<Found<i64>>
     requires { (end < 48) × (at < length text.now) × (get_or text.now at 0 ≡ 45) }
     ensures { ValueRead text.now at end true result }
 {
-    let n = read_number(text, at + 1, end);
-    if !n.found {
-        return no_value();
-    }
+    let n = read_number(text, at + 1, end)?;
     let size = n.value;
     if size == 0 {
-        return no_value();
+        return None;
     }
-    Value {
-        value: minus(plain(size)),
+    Some(Found {
+        value: -i64::from(size),
         next: n.next,
-        found: true,
-    }
+    })
 }
 
 // The number from `at` on, which the byte `end` must follow; a minus sign only where `signed` allows it.
-pub fn read_value(text: &[u8], at: usize, end: u8, signed: bool) -> Value
+pub fn read_value(text: &[u8], at: usize, end: u8, signed: bool) -> Option<Found<i64>>
     requires { end < 48 }
     ensures { ValueRead text.now at end signed result }
 {
@@ -145,52 +98,16 @@ pub fn read_value(text: &[u8], at: usize, end: u8, signed: bool) -> Value
     read_plain(text, at, end)
 }
 
-fn no_line() -> Line
-    ensures { result ≡ no_line }
-{
-    Line {
-        next: 0,
-        found: false,
-    }
-}
-
-// The line from `at` on, with as many values as there is room for. A value is stored only after the rest of the line was found.
-pub fn read_line(text: &[u8], at: usize, signed: bool, values: &mut [i64]) -> Line
+// Where the text goes on after the line from `at` on, with as many values as there is room for. A value is stored only after the rest of the line was found.
+pub fn read_line(text: &[u8], at: usize, signed: bool, values: &mut [i64]) -> Option<usize>
     requires { at ≤ length text.now }
     ensures { LineRead text.now at signed values.old result values.new }
 {
-    if values.len() == 0 {
-        return Line {
-            next: at,
-            found: true,
-        };
+    if values.is_empty() {
+        return Some(at);
     }
-    let first = read_value(text, at, column_end(0, values.len()), signed);
-    if !first.found {
-        return no_line();
-    }
-    let rest = read_line(text, first.next, signed, &mut values[1..]);
-    if !rest.found {
-        return rest;
-    }
-    let value = first.value;
-    values[0] = value;
-    rest
-}
-
-// The text begins with these bytes.
-pub fn begins_with(text: &[u8], front: &[u8]) -> bool
-    ensures { Begins text.now front.now result }
-{
-    if text.len() < front.len() {
-        return false;
-    }
-    let mut i: usize = 0;
-    while i < front.len() {
-        if text[i] != front[i] {
-            return false;
-        }
-        i += 1;
-    }
-    true
+    let first = read_value(text, at, column_end(0, values.len()), signed)?;
+    let next = read_line(text, first.next, signed, &mut values[1..])?;
+    values[0] = first.value;
+    Some(next)
 }

@@ -3,14 +3,14 @@ ghost use Rattle.std.specs.Prelude.{true, ◌<◌};
 ghost use Rattle.text.specs.Text.{digits, number, line, Allowed, AllAllowed};
 ghost use Rattle.text.specs.Write.{Room, Written};
 
-use crate::{MINUS, column_end, minus, unsigned};
+use crate::{MINUS, column_end, unsigned};
 
 // Writes one digit at `at`; the place after it.
 fn write_digit(buf: &mut [u8], at: usize, n: u32) -> usize
     requires { (n < 10) × Room at (digits n) buf.old }
     ensures { Written at (digits n) buf.old result buf.new }
 {
-    buf[at] = 48 + n as u8;
+    buf[at] = b'0' + n as u8;
     at + 1
 }
 
@@ -46,7 +46,7 @@ pub fn write_number(buf: &mut [u8], at: usize, z: i64) -> usize
         return write_plain(buf, at, unsigned(z));
     }
     buf[at] = MINUS;
-    write_plain(buf, at + 1, unsigned(minus(z)))
+    write_plain(buf, at + 1, unsigned(-z))
 }
 
 // Writes a line of values at `at`; the place after it.
@@ -55,13 +55,10 @@ pub fn write_line(buf: &mut [u8], at: usize, values: &[i64]) -> usize
     ensures { Written at (line values.now) buf.old result buf.new }
 {
     let mut next = at;
-    let mut i: usize = 0;
-    while i < values.len() {
-        let z = values[i];
-        let end = write_number(buf, next, z);
+    for (i, z) in values.iter().enumerate() {
+        let end = write_number(buf, next, *z);
         buf[end] = column_end(i, values.len());
         next = end + 1;
-        i += 1;
     }
     next
 }
@@ -71,10 +68,7 @@ pub fn write_bytes(buf: &mut [u8], at: usize, bytes: &[u8]) -> usize
     requires { Room at bytes.now buf.old }
     ensures { Written at bytes.now buf.old result buf.new }
 {
-    let mut i: usize = 0;
-    while i < bytes.len() {
-        buf[at + i] = bytes[i];
-        i += 1;
-    }
-    at + i
+    let end = at + bytes.len();
+    buf[at..end].copy_from_slice(bytes);
+    end
 }

@@ -1,5 +1,6 @@
 pub mod Writing
 pub mod Reading
+pub mod Faults
 pub mod ReadWays
 pub mod RoundTrip
 pub mod Examples

@@ -21,9 +21,9 @@ use Rattle.steptable.proofs.Right.{given_number}
 use Rattle.regfile.specs.FileText.{filed}
 use Rattle.regfile.specs.Parsed.{Parsed}
 use Rattle.regfile.proofs.FileRight.{filed_number, filed_passing}
-use Rattle.register.specs.Made.{refused_by, answered_by}
 use Rattle.transfer.specs.FileOn.{read_refusal, ReadMade}
 use Rattle.transfer.proofs.Reading.{read_long, read_file_malformed, read_table_malformed, read_broken, read_unformed, read_heavy, read_refused, read_accepted}
+use Rattle.register.specs.Answer.{refused_by, answered_by}
 
 module _ (text table b : List ℕ) where
   refused_by_lem : (n : ℕ) → read_refusal (given table) (filed text) b ≡ n → n ≢ 0 → ReadMade text table b (refused_by n) b

@@ -11,7 +11,7 @@ use lib.ListN.{length}
 use Rattle.rules.specs.Refusal.{too_heavy}
 use Rattle.rules.proofs.Lists.{yes, no, eq_or}
 use Rattle.block.specs.Layout.{block_size}
-use Rattle.steptable.specs.declared.Given.{Given}
+use Rattle.steptable.specs.TableText.{Given}
 use Rattle.regfile.specs.FileText.{Filed}
 use Rattle.register.specs.CallOn.{Result, turned}
 use Rattle.transfer.specs.FileOn.{read_refusal, holding, read_on}

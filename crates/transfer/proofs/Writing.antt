@@ -19,8 +19,8 @@ use Rattle.block.proofs.Held.{held_formed}
 use Rattle.text.specs.Write.{put, Room, Written}
 use Rattle.regfile.specs.FileText.{file_text}
 use Rattle.regfile.proofs.Sizes.{file_short}
-use Rattle.transfer.specs.declared.Filled.{Filled}
-use Rattle.transfer.specs.FileOn.{text_size, write_refusal, unfilled_by, WriteMade, WriteFront}
+use Rattle.transfer.specs.Filled.{Filled, unfilled_by}
+use Rattle.transfer.specs.FileOn.{text_size, write_refusal, WriteMade, WriteFront}
 
 module _ (b buf : List ℕ) where
   -- no refusal applies

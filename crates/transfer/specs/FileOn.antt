@@ -4,13 +4,13 @@ use Rattle.rules.specs.Register.{Register}
 use Rattle.rules.specs.Refusal.{first_of, unsupported}
 use Rattle.block.specs.Block.{decode, encode}
 use Rattle.steptable.specs.TableText.{given}
-use Rattle.steptable.specs.declared.Given.{Given}
+use Rattle.steptable.specs.TableText.{Given}
 use Rattle.refusals.specs.Early.{wrong_length, wrong_lengths, not_well_formed}
 use Rattle.regfile.specs.FileText.{Filed, file_text, filed}
 use Rattle.register.specs.CallOn.{Result, turned}
 use Rattle.register.specs.Made.{result_of}
-use Rattle.register.specs.declared.Answer.{Answer}
-use Rattle.transfer.specs.declared.Filled.{Filled}
+use Rattle.register.specs.Answer.{Answer}
+use Rattle.transfer.specs.Filled.{Filled}
 
 -- ── out ──
 
@@ -21,10 +21,6 @@ text_size = 8192
 -- the first that applies of 1 and 8
 unfoldable pub write_refusal : List ℕ → List ℕ → ℕ
 write_refusal b buf = first_of (wrong_lengths text_size b buf ∷ not_well_formed b ∷ [])
-
--- what a refused write returns
-abbrev pub unfilled_by : ℕ → Filled
-unfilled_by n = record { refusal = n; length = 0 }
 
 -- what a write promises
 pub record WriteMade (b before : List ℕ) (o : Filled) (after : List ℕ) : Type 0 where

@@ -1,3 +1,4 @@
+pub mod Filled
 pub mod FileOn
 pub mod RoundTrip
 pub mod Examples

@@ -1,84 +1,62 @@
 // The register as a file: written as text into a lent buffer, and read from text into a block of any content.
 #![tactic(auto)]
 
-ghost use Rattle.std.specs.Prelude.{◌≡◌};
-ghost use Rattle.transfer.specs.FileOn.{unfilled_by, WriteMade, WriteFront, ReadMade};
+ghost use Rattle.std.specs.Prelude.{◌≡◌, IfOk};
+ghost use Rattle.rules.specs.Refused.{refused_with};
+ghost use Rattle.register.specs.Answer.{answer_of};
+ghost use Rattle.transfer.specs.Filled.{filled_of};
+ghost use Rattle.transfer.specs.FileOn.{write_refusal, WriteMade, WriteFront, ReadMade};
 
 use block::layout;
-use register::Answer;
-use rules::refusal;
+use regfile::FileFault;
+use register::Answers;
+use rules::Refusal;
 
 // The least length of the lent buffer.
 pub const TEXT_SIZE: usize = 8192;
 
-// The refusal number of a write, 0 when accepted, and how many bytes were written.
-#[derive(Clone, Copy)]
-pub struct Filled {
-    pub refusal: u32,
-    pub length: usize,
-}
-
-// Refused: no byte is written.
-fn unfilled(number: u32) -> Filled
-    ensures { result ≡ unfilled_by number }
-{
-    Filled {
-        refusal: number,
-        length: 0,
-    }
-}
-
-// Writes the text of a well-formed register into `buf`, supported or not.
-pub fn write_file(block: &[u8], buf: &mut [u8]) -> Filled
-    ensures { WriteMade block.now buf.old result buf.new }
+// Writes the text of a well-formed register into `buf`, supported or not; how many bytes.
+pub fn write_file(block: &[u8], buf: &mut [u8]) -> Result<usize, Refusal>
+    ensures { WriteMade block.now buf.old (filled_of result) buf.new }
 {
     if block.len() != layout::BLOCK_SIZE {
-        return unfilled(refusal::WRONG_LENGTH);
+        return Err(Refusal::WrongLength);
     }
     if buf.len() < TEXT_SIZE {
-        return unfilled(refusal::WRONG_LENGTH);
+        return Err(Refusal::WrongLength);
     }
     if !block::well_formed(block) {
-        return unfilled(refusal::NOT_WELL_FORMED);
+        return Err(Refusal::NotWellFormed);
     }
-    let length = regfile::render(block, buf);
-    Filled {
-        refusal: 0,
-        length: length,
-    }
+    Ok(regfile::render(block, buf))
 }
 
-// The same: tells the refusal, 0 when accepted, and hands back the filled front of `buf`, empty where refused.
-pub fn file<'a>(block: &[u8], refusal: &mut u32, buf: &'a mut [u8]) -> &'a mut [u8]
-    ensures { WriteFront block.now buf.old refusal.new result.now × (result.ref_ptr ≡ buf.entry.ref_ptr) }
+// The same: hands back the filled front of `buf`.
+pub fn file<'a>(block: &[u8], buf: &'a mut [u8]) -> Result<&'a mut [u8], Refusal>
+    ensures refusal { refused_with result ≡ write_refusal block.now buf.old }
+    ensures front { IfOk result (λ part. WriteFront block.now buf.old 0 part.now × (part.ref_ptr ≡ buf.entry.ref_ptr)) }
 {
-    let written = write_file(block, buf);
-    let end = written.length;
-    refusals::front(written.refusal, end, refusal, buf)
+    let length = write_file(block, buf)?;
+    Ok(&mut buf[..length])
 }
 
 // Reads the register of a text into a block of any content, by the step table of a text, ours where it is empty. The block changes only at the end.
-pub fn read_file(block: &mut [u8], text: &[u8], table: &[u8]) -> Answer
-    ensures { ReadMade text.now table.now block.old result block.new }
+pub fn read_file(block: &mut [u8], text: &[u8], table: &[u8]) -> Result<Answers, Refusal>
+    ensures { ReadMade text.now table.now block.old (answer_of result) block.new }
 {
     if block.len() != layout::BLOCK_SIZE {
-        return register::refused(refusal::WRONG_LENGTH);
+        return Err(Refusal::WrongLength);
     }
     let mut read = [0u8; layout::BLOCK_SIZE];
-    let n = regfile::parse(text, &mut read);
-    if n == refusal::MALFORMED {
-        return register::refused(n);
+    let parsed = regfile::parse(text, &mut read);
+    if parsed == Err(FileFault::Malformed) {
+        return Err(Refusal::Malformed);
     }
-    let g = steptable::read_table(table);
-    if g.refusal != 0 {
-        return register::refused(g.refusal);
-    }
-    if n != 0 {
-        return register::refused(n);
-    }
-    if !rounds::supports(&mut read, &g.steps) {
-        return register::refused(refusal::UNSUPPORTED);
+    let steps = steptable::read_table(table)?;
+    parsed?;
+    if !rounds::supports(&mut read, &steps) {
+        return Err(Refusal::Unsupported);
     }
     change::copy(&read, block);
-    register::answered(0, 0, 0)
+    Ok(Answers::new(0, 0, 0))
 }

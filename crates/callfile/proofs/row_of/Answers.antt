@@ -1,5 +1,5 @@
 -- `callfile::row_of` is the row of seven values. Assumes nothing.
-use mathlib.Core.Path.{refl, sym, ◌∙◌}
+use mathlib.Core.Path.{sym, ◌∙◌}
 use mathlib.Core.List.{[], ◌∷◌}
 use native.Mathlib.Omega.{arith}
 use Rattle.callfile.proofs.Lines.{value_allowed, value_is, seven}
@@ -30,4 +30,4 @@ pub returns : goal.returns
 returns c =
     let vs = c.args.values.now in
     let a = c.requires.1 in
-    ((λ p. value_is vs a 0 (omega arith) c.unsigned.ensures p ∷ value_is vs a 1 (omega arith) c.unsigned-2.ensures p ∷ value_is vs a 2 (omega arith) c.unsigned-3.ensures p ∷ value_is vs a 3 (omega arith) c.unsigned-4.ensures p ∷ value_is vs a 4 (omega arith) c.unsigned-5.ensures p ∷ value_is vs a 5 (omega arith) c.unsigned-6.ensures p ∷ value_is vs a 6 (omega arith) c.unsigned-7.ensures p ∷ []) ∙ sym (seven vs c.requires.0), refl, refl)
+    (λ p. value_is vs a 0 (omega arith) c.unsigned.ensures p ∷ value_is vs a 1 (omega arith) c.unsigned-2.ensures p ∷ value_is vs a 2 (omega arith) c.unsigned-3.ensures p ∷ value_is vs a 3 (omega arith) c.unsigned-4.ensures p ∷ value_is vs a 4 (omega arith) c.unsigned-5.ensures p ∷ value_is vs a 5 (omega arith) c.unsigned-6.ensures p ∷ value_is vs a 6 (omega arith) c.unsigned-7.ensures p ∷ []) ∙ sym (seven vs c.requires.0)

@@ -1,41 +1,57 @@
--- `callfile::run_calls` goes over the text turn by turn. Assumes nothing.
-use Rattle.std.proofs.Common.{◌∙◌, ap, Bor, List, ℕ}
-use Rattle.callfile.proofs.Going.{turn_start, turn_asks, turn_made}
+-- `callfile::run_calls` goes over the lines call by call. Assumes nothing.
+use Rattle.std.proofs.Common.{refl, ap, ◌∙◌, Bor, List, ℕ, arith}
+use Rattle.callfile.proofs.Going.{going_start, going_stop, going_end, going_room, going_asks, going_more, line_inside}
 use Rattle.callfile.proofs.run_calls.Goals as goal
 
-pub loop-p-init : goal.loop-p-init
-loop-p-init c =
+pub loop-row-init : goal.loop-row-init
+loop-row-init c =
     let a = c.args in
-    let r = c.reader-r in
+    record { same = refl; going = going_start a.lines.now a.block.now a.out.now a.to c.requires }
+
+pub write_answer-end-requires : goal.write_answer-end-requires
+write_answer-end-requires c =
+    let a = c.args in
+    let l = c.loop-row in
+    let m = rw l.invariant.same at c.in-Some.ensures in
+    going_asks a.lines.now a.block.now a.out.now a.to c.requires l.calls.at l.end l.number l.block l.out l.invariant.going c.in-Some.row c.read_next.new.self.at m.0
+
+pub loop-row-preserved : goal.loop-row-preserved
+loop-row-preserved c =
+    let a = c.args in
+    let l = c.loop-row in
+    let w = c.write_answer-end in
+    let m = rw l.invariant.same at c.in-Some.ensures in
     record {
-      same = ap (λ (t : Bor (List ℕ)). t.now) r.ensures.0;
-      stands = rw r.ensures.1 (turn_start a.text.now a.at a.block.now a.out.now a.to c.requires);
+      same = ap (λ (t : Bor (List ℕ)). t.now) c.read_next.ensures.1 ∙ l.invariant.same;
+      going = going_more a.lines.now a.block.now a.out.now a.to c.requires l.calls.at l.end l.number l.block l.out l.invariant.going c.in-Some.row c.read_next.new.self.at m.0 w.result w.new.block w.new.out w.ensures w.auto.out;
     }
 
-pub answer_row-p-requires : goal.answer_row-p-requires
-answer_row-p-requires c =
+pub loop-row-smaller : goal.loop-row-smaller
+loop-row-smaller c =
     let a = c.args in
-    let l = c.loop-p in
-    let w = c.read_next-row in
-    turn_asks a.text.now a.at a.block.now a.out.now a.to c.requires l.r.at l.p l.block l.out l.invariant.stands c.loop-p-test.true w.result (rw l.invariant.same at w.ensures.0)
+    let l = c.loop-row in
+    let m = rw l.invariant.same at c.in-Some.ensures in
+    let i = line_inside a.lines.now a.block.now a.out.now a.to c.requires l.calls.at l.end l.number l.block l.out l.invariant.going c.in-Some.row c.read_next.new.self.at m.0 in
+    omega (arith, i.0, i.1)
 
-pub loop-p-preserved : goal.loop-p-preserved
-loop-p-preserved c =
+pub write_malformed-requires : goal.write_malformed-requires
+write_malformed-requires c =
     let a = c.args in
-    let l = c.loop-p in
-    let w = c.read_next-row in
-    let o = c.answer_row-p in
-    let t = turn_made a.text.now a.at a.block.now a.out.now a.to c.requires l.r.at l.p l.block l.out l.invariant.stands c.loop-p-test.true w.result (rw l.invariant.same at w.ensures.0) o.result o.new.block o.new.out o.ensures o.auto.block o.auto.out in
-    record {
-      same = ap (λ (t : Bor (List ℕ)). t.now) w.ensures.1 ∙ l.invariant.same;
-      stands = rw w.ensures.2 t.0;
-    }
+    let l = c.loop-row in
+    going_room a.lines.now a.block.now a.out.now a.to c.requires l.calls.at l.end l.number l.block l.out l.invariant.going
 
-pub loop-p-smaller : goal.loop-p-smaller
-loop-p-smaller c =
+pub returns-then-calls-lines : goal.returns-then-calls-lines
+returns-then-calls-lines c =
     let a = c.args in
-    let l = c.loop-p in
-    let w = c.read_next-row in
-    let o = c.answer_row-p in
-    let t = turn_made a.text.now a.at a.block.now a.out.now a.to c.requires l.r.at l.p l.block l.out l.invariant.stands c.loop-p-test.true w.result (rw l.invariant.same at w.ensures.0) o.result o.new.block o.new.out o.ensures o.auto.block o.auto.out in
-    rw w.ensures.2 t.1
+    let l = c.loop-row in
+    let m = rw l.invariant.same at c.in_default.ensures in
+    let n = m.0.none refl in
+    going_stop a.lines.now a.block.now a.out.now a.to c.requires l.calls.at l.end l.number l.block l.out l.invariant.going (omega (arith, n.1, c.if-calls-lines.true)) n.0 c.write_malformed.result c.write_malformed.new.out c.write_malformed.ensures
+
+pub returns : goal.returns
+returns c =
+    let a = c.args in
+    let l = c.loop-row in
+    let m = rw l.invariant.same at c.in_default.ensures in
+    let n = m.0.none refl in
+    going_end a.lines.now a.block.now a.out.now a.to c.requires l.calls.at l.end l.number l.block l.out l.invariant.going (omega (arith, n.1, c.if-calls-lines.false))

@@ -1,13 +1,13 @@
--- `callfile::run_calls` goes over the text turn by turn. Assumes nothing.
+-- `callfile::run_calls` goes over the lines call by call. Assumes nothing.
 use Rattle.std.proofs.Common.{◌≡◌, ◌-◌, length}
-use Rattle.callfile.proofs.Going.{Turn, turns}
+use Rattle.callfile.proofs.Going.{Going}
 use Rattle.callfile.proofs.run_calls.Given as goal
 
-abbrev pub invariant-loop-p : goal.invariant-loop-p
-invariant-loop-p l = record {
-  same : l.r.text.now ≡ l.text;
-  stands : Turn l.text l.at l.initial.block l.initial.out l.to l.r.at l.p l.block l.out;
+abbrev pub invariant-loop-row : goal.invariant-loop-row
+invariant-loop-row l = record {
+  same : l.calls.lines.now ≡ l.lines;
+  going : Going l.lines l.initial.block l.initial.out l.to l.calls.at l.end l.number l.block l.out;
 }
 
-abbrev pub decreases-loop-p : goal.decreases-loop-p
-decreases-loop-p l = turns l.p.more (length l.text - l.r.at)
+abbrev pub decreases-loop-row : goal.decreases-loop-row
+decreases-loop-row l = length l.lines - l.calls.at

@@ -1,27 +1,32 @@
 -- `callfile::write_answer` makes a call and writes its answers. Assumes nothing.
-use native.Mathlib.Omega.{arith}
+use Rattle.std.proofs.Common.{sym, subst, [], arith, rules}
+use mir.Syntax.{w32}
+use mir.Val.{SFits}
+use Rattle.demands.specs.History.{lent_to}
+use Rattle.register.specs.Answer.{Answer, as_numbers}
+use Rattle.register.specs.Made.{Made}
 use Rattle.callfile.specs.Row.{made_of_row}
-use Rattle.callfile.proofs.Answers.{wide, answer_room, answered}
+use Rattle.callfile.proofs.Answers.{machine_is, answer_room, answered}
 use Rattle.callfile.proofs.write_answer.Goals as goal
-
-pub overflow_cast-line-2 : goal.overflow_cast-line-2
-overflow_cast-line-2 c = wide c.call-o.result.first record { sfits = omega (arith, c.struct_told-1.given) }
-
-pub overflow_cast-line-3 : goal.overflow_cast-line-3
-overflow_cast-line-3 c = wide c.call-o.result.second record { sfits = omega (arith, c.struct_told-2-1.given) }
-
-pub overflow_cast-line-4 : goal.overflow_cast-line-4
-overflow_cast-line-4 c = wide c.call-o.result.third record { sfits = omega (arith, c.struct_told-3-1.given) }
 
 pub write_line-requires : goal.write_line-requires
 write_line-requires c =
-    let o = c.call-o.result in
-    let t = c.struct_told-3-1.given in
-    answer_room o (omega (arith, t)) record { sfits = omega (arith, t) } record { sfits = omega (arith, t) } record { sfits = omega (arith, t) } c.args.at c.args.out.now c.requires.1
+    let (n, r) = c.told-refusal.result in
+    let o = as_numbers n r in
+    let f : SFits w32 o.first = search rules in
+    let g : SFits w32 o.second = search rules in
+    let h : SFits w32 o.third = search rules in
+    let e = machine_is o (omega arith) f g h c.from.ensures c.from-2.ensures c.from-3.ensures c.from-4.ensures in
+    answer_room o (omega arith) f g h _ e c.args.at c.args.out.now c.requires.1
 
 pub returns : goal.returns
 returns c =
-    let o = c.call-o in
-    let w = c.write_line in
-    let t = c.struct_told-3-1.given in
-    answered o.result (omega (arith, t)) record { sfits = omega (arith, t) } record { sfits = omega (arith, t) } record { sfits = omega (arith, t) } (made_of_row c.args.r) c.args.block.now c.args.out.now c.args.at w.result o.new.block w.new.buf (o.ensures.made c.requires.0) w.ensures
+    let (n, r) = c.told-refusal.result in
+    let o = as_numbers n r in
+    let d = made_of_row c.args.r in
+    let f : SFits w32 o.first = search rules in
+    let g : SFits w32 o.second = search rules in
+    let h : SFits w32 o.third = search rules in
+    let e = machine_is o (omega arith) f g h c.from.ensures c.from-2.ensures c.from-3.ensures c.from-4.ensures in
+    answered o (omega arith) f g h _ e c.args.at c.args.out.now d c.args.block.now c.write_line.result c.call.new.block c.write_line.new.buf
+    (subst (λ (x : Answer). Made (lent_to d []) d c.args.block.now x c.call.new.block) (sym c.told-refusal.ensures) (c.call.ensures.made c.requires.0)) c.write_line.ensures

@@ -1,17 +1,21 @@
 -- `chain::chain_table` hands back the front of the buffer that it filled. Assumes nothing.
+use Rattle.std.proofs.Common.{◌≤◌, ◌*◌, length, sym, ap, subst, arith}
+use lib.Seq.{length-take-le}
 use Rattle.steptable.specs.TableText.{given}
-use Rattle.chain.proofs.ChainWays.{front_fits, front_made}
+use Rattle.chain.specs.Answer.{ChainAnswer, chain_answer}
+use Rattle.chain.specs.ChainOn.{ChainMade}
+use Rattle.chain.proofs.ChainWays.{front_fits}
 use Rattle.chain.proofs.chain_table.Goals as goal
+use Rattle.chain.proofs.chain_table.Goals.{In_ok-links}
 
-pub front-requires : goal.front-requires
-front-requires c =
-    let w = c.write_chain_table-written in
+fits : (c : In_ok-links) → 2 * c.in_ok-links.links ≤ length c.write_chain_table.new.buf
+fits c =
     let a = c.args in
-    front_fits (given a.table.now) a.block.now a.giver a.receiver a.buf.now w.result w.new.buf w.ensures
+    let made = subst (λ (o : ChainAnswer). ChainMade (given a.table.now) a.block.now a.giver a.receiver a.buf.now o c.write_chain_table.new.buf) (ap chain_answer c.in_ok-links.was) c.write_chain_table.ensures in
+    front_fits (given a.table.now) a.block.now a.giver a.receiver a.buf.now _ c.write_chain_table.new.buf made
 
-pub returns : goal.returns
-returns c =
-    let w = c.write_chain_table-written in
-    let a = c.args in
-    let e = c.front.ensures in
-    (rw (e.0, e.1) (front_made (given a.table.now) a.block.now a.giver a.receiver a.buf.now w.result w.new.buf w.ensures), e.2)
+pub overflow_mul-buf : goal.overflow_mul-buf
+overflow_mul-buf c = omega (arith, fits (goal.at.overflow_mul-buf c).In_ok-links)
+
+pub slice_bounds-result-end : goal.slice_bounds-result-end
+slice_bounds-result-end c = sym (length-take-le _ _ (fits (goal.at.slice_bounds-result-end c).In_ok-links))

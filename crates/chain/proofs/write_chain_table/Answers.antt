@@ -3,7 +3,7 @@ use Rattle.steptable.proofs.Right.{given_keeps}
 use Rattle.chain.proofs.write_chain_table.Goals as goal
 
 pub write_chain_by-requires : goal.write_chain_by-requires
-write_chain_by-requires c = rw c.read_table-g.ensures (given_keeps c.args.table.now)
+write_chain_by-requires c = rw c.read_table.ensures (given_keeps c.args.table.now)
 
 pub returns : goal.returns
-returns c = rw (← c.read_table-g.ensures) c.write_chain_by.ensures
+returns c = rw (← c.read_table.ensures) c.write_chain_by.ensures

@@ -15,9 +15,6 @@ pub put_marks-requires : goal.put_marks-requires
 put_marks-requires c =
     simp length-set (omega (arith, fitting_size c.args.b.now c.requires.0, c.subjects-n.ensures, c.requires.1))
 
-pub shape_of-b : goal.shape_of-b
-shape_of-b c = omega (arith, simp length-set at c.put_marks.auto.b)
-
 pub returns : goal.returns
 returns c =
     let a = c.args in

@@ -1,11 +1,22 @@
 -- `change::remove` removes the pair's delegation. Assumes nothing.
+use mathlib.Core.Path.{◌≡◌, ap, ◌∙◌}
 use mathlib.Core.Bool.{not}
-use Prim.Native.Nat.{◌<◌}
+use mathlib.Core.List.{List}
+use Prim.Native.Nat.{ℕ, ◌+◌, ◌-◌, ◌≤◌, ◌<◌}
 use native.Mathlib.Omega.{arith}
+use borrow.Rule.Slice.PartMut.{mid_of, mid_len}
+use lib.ListN.{length, replicate}
+use lib.Seq.{sets}
+use Rattle.std.proofs.Common.{rules}
 use Rattle.rules.specs.Pair.{is_pair}
+use Rattle.rules.specs.Register.{no_delegation}
+use Rattle.block.specs.Layout.{count_at, record_size}
+use Rattle.block.specs.Bytes.{two_bytes}
+use Rattle.block.specs.Block.{record_bytes}
 use Rattle.block.proofs.Bytes.{fits_bytes}
 use Rattle.block.proofs.Held.{has_head, has_records}
 use Rattle.change.proofs.Changing.{Among, among, place_below, remove_held}
+use Rattle.change.proofs.Storing.{stored}
 use Rattle.change.proofs.remove.Goals as goal
 use Rattle.change.proofs.remove.Goals.{After-find}
 
@@ -36,21 +47,22 @@ shift_down-requires c = let p = known (goal.at.shift_down-requires c).After-find
 pub overflow_sub-last : goal.overflow_sub-last
 overflow_sub-last c = omega (arith, below (goal.at.overflow_sub-last c).After-find)
 
-pub record_place-requires-2 : goal.record_place-requires-2
-record_place-requires-2 c = let p = known (goal.at.record_place-requires-2 c).After-find in omega arith
+pub record_place-start-requires : goal.record_place-start-requires
+record_place-start-requires c = let p = known (goal.at.record_place-start-requires c).After-find in omega arith
 
-pub put_record-requires : goal.put_record-requires
-put_record-requires c = let p = known (goal.at.put_record-requires c).After-find in omega (arith, below (goal.at.put_record-requires c).After-find, c.record_place-2.ensures, c.shift_down.auto.b)
-
-pub overflow_cast-last : goal.overflow_cast-last
-overflow_cast-last c = let p = known (goal.at.overflow_cast-last c).After-find in omega arith
-
-pub put_two-requires : goal.put_two-requires
-put_two-requires c = let p = known (goal.at.put_two-requires c).After-find in omega (arith, c.put_record.auto.b, c.shift_down.auto.b)
+pub slice_bounds-fill-end : goal.slice_bounds-fill-end
+slice_bounds-fill-end c = let p = known (goal.at.slice_bounds-fill-end c).After-find in omega (arith, below (goal.at.slice_bounds-fill-end c).After-find, c.record_place-start.ensures, c.shift_down.auto.b)
 
 pub returns : goal.returns
 returns c =
     let n = c.count-n in
     let a = c.args in
-    rw (c.put_two.ensures, c.put_record.ensures, c.record_place-2.ensures, c.shift_down.ensures, c.record_place.ensures, c.record_place-at.ensures)
+    let last = record_bytes no_delegation in
+    let p = known (goal.at.returns c).After-find in
+    let last_room : c.record_place-start.result + length last ≤ length c.shift_down.new.b = omega (arith, below (goal.at.returns c).After-find, c.record_place-start.ensures, c.shift_down.auto.b) in
+    let start = c.record_place-start.result in
+    let wide : length (mid_of start (start + record_size - start) c.shift_down.new.b) ≡ record_size = omega (arith, mid_len start (start + record_size) c.shift_down.new.b last_room) in
+    c.put_two.ensures
+    ∙ ap (λ (l : List ℕ). sets l count_at (two_bytes (n.result - 1))) (stored c.shift_down.new.b last c.fill.new.self c.record_place-start.result _ (c.fill.ensures.after (λ y e. search rules) ∙ ap (λ (m : ℕ). replicate m 0) wide) (omega arith) (last_room))
+    ∙ rw (c.record_place-start.ensures, c.shift_down.ensures, c.record_place.ensures, c.record_place-at.ensures)
     (remove_held a.b.now (fits_bytes c.args.b.now c.slice_known-1.given) c.requires.0 n.result n.ensures a.giver a.receiver c.find.result c.find.ensures c.requires.1)

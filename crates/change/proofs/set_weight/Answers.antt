@@ -27,9 +27,6 @@ find-requires c = rw c.count-n.ensures (has_records c.args.b.now (fits_bytes c.a
 pub record_place-at-requires : goal.record_place-at-requires
 record_place-at-requires c = let p = known c in omega arith
 
-pub overflow_add-b : goal.overflow_add-b
-overflow_add-b c = let p = known (goal.at.overflow_add-b c).After-find in omega (arith, c.record_place-at.ensures)
-
 pub bounds-b-at : goal.bounds-b-at
 bounds-b-at c = let p = known (goal.at.bounds-b-at c).After-find in omega (arith, below (goal.at.bounds-b-at c).After-find, c.record_place-at.ensures)
 

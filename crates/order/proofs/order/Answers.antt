@@ -1,24 +1,21 @@
 -- `order::order` hands back the front of the buffer that it filled. Assumes nothing.
-use native.Mathlib.Omega.{arith}
+use Rattle.std.proofs.Common.{◌≤◌, ◌*◌, length, sym, ap, subst, arith}
+use lib.Seq.{length-take-le}
 use Rattle.steptable.specs.TableText.{given}
-use Rattle.order.proofs.OrderWays.{front_fits, front_made}
+use Rattle.order.specs.Listed.{Listed, listed_of}
+use Rattle.order.specs.OrderOn.{OrderMade}
+use Rattle.order.proofs.OrderWays.{front_fits}
 use Rattle.order.proofs.order.Goals as goal
+use Rattle.order.proofs.order.Goals.{In_ok-subjects}
 
-pub overflow_mul-end : goal.overflow_mul-end
-overflow_mul-end c =
-    let w = c.write_order-written in
+fits : (c : In_ok-subjects) → 2 * c.in_ok-subjects.subjects ≤ length c.write_order.new.buf
+fits c =
     let a = c.args in
-    omega (arith, front_fits (given a.table.now) a.block.now a.receiver a.buf.now w.result _ w.ensures)
+    let made = subst (λ (o : Listed). OrderMade (given a.table.now) a.block.now a.receiver a.buf.now o c.write_order.new.buf) (ap listed_of c.in_ok-subjects.was) c.write_order.ensures in
+    front_fits (given a.table.now) a.block.now a.receiver a.buf.now _ c.write_order.new.buf made
 
-pub front-requires : goal.front-requires
-front-requires c =
-    let w = c.write_order-written in
-    let a = c.args in
-    front_fits (given a.table.now) a.block.now a.receiver a.buf.now w.result _ w.ensures
+pub overflow_mul-buf : goal.overflow_mul-buf
+overflow_mul-buf c = omega (arith, fits (goal.at.overflow_mul-buf c).In_ok-subjects)
 
-pub returns : goal.returns
-returns c =
-    let w = c.write_order-written in
-    let a = c.args in
-    let e = c.front.ensures in
-    (rw (e.0, e.1) (front_made (given a.table.now) a.block.now a.receiver a.buf.now w.result _ w.ensures), e.2)
+pub slice_bounds-result-end : goal.slice_bounds-result-end
+slice_bounds-result-end c = sym (length-take-le _ _ (fits (goal.at.slice_bounds-result-end c).In_ok-subjects))

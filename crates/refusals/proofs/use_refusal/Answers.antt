@@ -1,20 +1,17 @@
 -- `refusals::use_refusal` is the whole refusal of the call. Assumes nothing.
+use Rattle.std.proofs.Common.{rules}
 use Rattle.rules.specs.Table.{steps}
 use Rattle.rules.specs.Call.{ask_use}
 use Rattle.rules.specs.Refusal.{held}
-use Rattle.refusals.proofs.EarlyTests.{EarlyFound, early_found}
+use Rattle.refusals.proofs.EarlyTests.{early_refused, early_checked, early_late}
 use Rattle.refusals.proofs.use_refusal.Goals as goal
-use Rattle.refusals.proofs.use_refusal.Goals.{After-early-n}
 
-found : (c : After-early-n) → EarlyFound 0 c.args.block.now (ask_use c.args.receiver) c.early-n.result
-found c = early_found c.use_passed.ensures c.early-n.ensures
+pub returns-in_err-early_told : goal.returns-in_err-early_told
+returns-in_err-early_told c = search (rules, early_refused 0 c.args.block.now (ask_use c.args.receiver) c.use_passed.ensures c.early_told.ensures c.in_err-early_told.was steps)
 
-pub returns-then-n-ne0 : goal.returns-then-n-ne0
-returns-then-n-ne0 c = (found (goal.at.returns-then-n-ne0 c).After-early-n).refused c.if-n-ne0.true steps
-
-pub subject_held-requires : goal.subject_held-requires
-subject_held-requires c = ((found (goal.at.subject_held-requires c).After-early-n).checked c.if-n-ne0.false).formed
+pub subjects_held-requires : goal.subjects_held-requires
+subjects_held-requires c = (early_checked 0 c.args.block.now (ask_use c.args.receiver) c.use_passed.ensures c.early_told.ensures c.in_ok-early_told.was).formed
 
 pub returns : goal.returns
 unfolding held
-returns c = (found (goal.at.returns c).After-early-n).late c.if-n-ne0.false steps _ c.subject_held.ensures
+returns c = early_late 0 c.args.block.now (ask_use c.args.receiver) c.use_passed.ensures c.early_told.ensures c.in_ok-early_told.was steps _ c.subjects_held.ensures

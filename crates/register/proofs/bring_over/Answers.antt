@@ -5,15 +5,15 @@ use Rattle.register.proofs.BringWays.{bring_old, bring_new, bring_unformed, brin
 use Rattle.register.proofs.bring_over.Goals as goal
 
 pub returns-then-old-ne-OLD_BLOCK_SIZE : goal.returns-then-old-ne-OLD_BLOCK_SIZE
-returns-then-old-ne-OLD_BLOCK_SIZE c = rw c.refused.ensures (bring_old c.args.old.now c.args.block.now c.if-old-ne-OLD_BLOCK_SIZE.true)
+returns-then-old-ne-OLD_BLOCK_SIZE c = (bring_old c.args.old.now c.args.block.now c.if-old-ne-OLD_BLOCK_SIZE.true)
 
 pub returns-then-block-ne-BLOCK_SIZE : goal.returns-then-block-ne-BLOCK_SIZE
-returns-then-block-ne-BLOCK_SIZE c = rw c.refused-then-block-ne-BLOCK_SIZE.ensures (bring_new c.args.old.now c.args.block.now c.if-old-ne-OLD_BLOCK_SIZE.false c.if-block-ne-BLOCK_SIZE.true)
+returns-then-block-ne-BLOCK_SIZE c = (bring_new c.args.old.now c.args.block.now c.if-old-ne-OLD_BLOCK_SIZE.false c.if-block-ne-BLOCK_SIZE.true)
 
 pub returns-then-not-well_formed : goal.returns-then-not-well_formed
 returns-then-not-well_formed c =
-    rw c.refused-then-not-well_formed.ensures (bring_unformed c.args.old.now c.args.block.now c.if-old-ne-OLD_BLOCK_SIZE.false c.if-block-ne-BLOCK_SIZE.false (ap well_formed (sym c.write_brought.ensures) ∙ sym c.well_formed-2.ensures ∙ c.if-not-well_formed.true))
+    (bring_unformed c.args.old.now c.args.block.now c.if-old-ne-OLD_BLOCK_SIZE.false c.if-block-ne-BLOCK_SIZE.false (ap well_formed (sym c.write_brought.ensures) ∙ sym c.well_formed-2.ensures ∙ c.if-not-well_formed.true))
 
 pub returns : goal.returns
 returns c =
-    rw c.answered.ensures (bring_done c.args.old.now c.args.block.now c.if-old-ne-OLD_BLOCK_SIZE.false c.if-block-ne-BLOCK_SIZE.false (ap well_formed (sym c.write_brought.ensures) ∙ sym c.well_formed-2.ensures ∙ c.if-not-well_formed.false) c.copy.new.to (c.copy.ensures ∙ c.write_brought.ensures))
+    rw c.new.ensures (bring_done c.args.old.now c.args.block.now c.if-old-ne-OLD_BLOCK_SIZE.false c.if-block-ne-BLOCK_SIZE.false (ap well_formed (sym c.write_brought.ensures) ∙ sym c.well_formed-2.ensures ∙ c.if-not-well_formed.false) c.copy.new.to (c.copy.ensures ∙ c.write_brought.ensures))

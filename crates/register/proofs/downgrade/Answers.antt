@@ -3,7 +3,7 @@ use Rattle.rules.proofs.Table.{steps_rule}
 use Rattle.register.proofs.downgrade.Goals as goal
 
 pub downgrade_by-requires : goal.downgrade_by-requires
-downgrade_by-requires c = rw c.steps-table.ensures steps_rule
+downgrade_by-requires c = rw c.steps.ensures steps_rule
 
 pub returns : goal.returns
-returns c = rw c.steps-table.ensures at c.downgrade_by.ensures
+returns c = rw c.steps.ensures at c.downgrade_by.ensures

@@ -2,8 +2,8 @@
 use Rattle.steptable.proofs.Right.{given_keeps}
 use Rattle.register.proofs.downgrade_table.Goals as goal
 
-pub downgrade_by-requires : goal.downgrade_by-requires
-downgrade_by-requires c = rw c.read_table-g.ensures (given_keeps c.args.table.now)
+pub downgrade_lent-requires : goal.downgrade_lent-requires
+downgrade_lent-requires c = rw c.read_table.ensures (given_keeps c.args.table.now)
 
 pub returns : goal.returns
-returns c = rw (← c.read_table-g.ensures) c.downgrade_by.ensures
+returns c = rw (← c.read_table.ensures) c.downgrade_lent.ensures

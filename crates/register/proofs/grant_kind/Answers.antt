@@ -3,7 +3,7 @@ use Rattle.steptable.proofs.Right.{given_keeps}
 use Rattle.register.proofs.grant_kind.Goals as goal
 
 pub grant_by-requires : goal.grant_by-requires
-grant_by-requires c = rw c.read_table-g.ensures (given_keeps c.args.table.now)
+grant_by-requires c = rw c.read_table.ensures (given_keeps c.args.table.now)
 
 pub returns : goal.returns
-returns c = rw (← c.read_table-g.ensures) c.grant_by.ensures
+returns c = rw (← c.read_table.ensures) c.grant_by.ensures

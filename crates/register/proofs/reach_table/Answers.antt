@@ -3,7 +3,7 @@ use Rattle.steptable.proofs.Right.{given_keeps}
 use Rattle.register.proofs.reach_table.Goals as goal
 
 pub reach_by-requires : goal.reach_by-requires
-reach_by-requires c = rw c.read_table-g.ensures (given_keeps c.args.table.now)
+reach_by-requires c = rw c.read_table.ensures (given_keeps c.args.table.now)
 
 pub returns : goal.returns
-returns c = rw (← c.read_table-g.ensures) c.reach_by.ensures
+returns c = rw (← c.read_table.ensures) c.reach_by.ensures

@@ -3,7 +3,7 @@ use Rattle.steptable.proofs.Right.{given_keeps}
 use Rattle.register.proofs.set_marks.Goals as goal
 
 pub set_marks_by-requires : goal.set_marks_by-requires
-set_marks_by-requires c = rw c.read_table-g.ensures (given_keeps c.args.table.now)
+set_marks_by-requires c = rw c.read_table.ensures (given_keeps c.args.table.now)
 
 pub returns : goal.returns
-returns c = rw (← c.read_table-g.ensures) c.set_marks_by.ensures
+returns c = rw (← c.read_table.ensures) c.set_marks_by.ensures

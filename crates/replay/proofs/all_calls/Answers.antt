@@ -1,5 +1,5 @@
 -- `replay::all_calls` tests every call number. Assumes nothing.
-use mathlib.Core.Path.{◌≡◌, refl, sym, ◌∙◌}
+use mathlib.Core.Path.{◌≡◌, sym, ◌∙◌}
 use mathlib.Core.Bool.{Bool}
 use mathlib.Core.List.{List}
 use Prim.Native.Nat.{ℕ, ◌-◌}
@@ -15,25 +15,22 @@ pub loop-i-init : goal.loop-i-init
 loop-i-init c =
     let n : ℕ = call_count c.args.calls.now in
     let z : n - 0 ≡ n = omega arith in
-    (refl, rw z)
-
-pub is_call-requires : goal.is_call-requires
-is_call-requires c = tt
+    rw z
 
 pub returns-then-not-is_call : goal.returns-then-not-is_call
 returns-then-not-is_call c =
     let s = c.args.calls.now in
     let l = c.loop-i in
-    all_stop (test s) l.i (call_count s) l.invariant.1 (omega arith) (sym c.is_call.ensures ∙ c.if-not-is_call.true)
+    all_stop (test s) l.i (call_count s) l.invariant (omega arith) (sym c.is_call.ensures ∙ c.if-not-is_call.true)
 
 pub loop-i-preserved : goal.loop-i-preserved
 loop-i-preserved c =
     let s = c.args.calls.now in
     let l = c.loop-i in
-    (refl, all_on (test s) l.i (call_count s) l.invariant.1 (omega arith) (sym c.is_call.ensures ∙ c.if-not-is_call.false))
+    all_on (test s) l.i (call_count s) l.invariant (omega arith) (sym c.is_call.ensures ∙ c.if-not-is_call.false)
 
 pub returns : goal.returns
 returns c =
     let s = c.args.calls.now in
     let l = c.loop-i in
-    all_end (test s) l.i (call_count s) l.invariant.1 (omega arith)
+    all_end (test s) l.i (call_count s) l.invariant (omega arith)

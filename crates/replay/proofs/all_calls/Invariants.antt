@@ -6,7 +6,4 @@ use Rattle.replay.specs.Replay.{is_call, call_count, number_at}
 use Rattle.replay.proofs.all_calls.Given as goal
 
 abbrev pub invariant-loop-i : goal.invariant-loop-i
-invariant-loop-i l = (l.n ≡ call_count l.calls) × (all_from (λ k. is_call (number_at l.calls k)) 0 l.n ≡ all_from (λ k. is_call (number_at l.calls k)) l.i (l.n - l.i))
-
-abbrev pub decreases-loop-i : goal.decreases-loop-i
-decreases-loop-i l = l.n - l.i
+invariant-loop-i l = all_from (λ k. is_call (number_at l.calls k)) 0 (call_count l.calls) ≡ all_from (λ k. is_call (number_at l.calls k)) l.i (call_count l.calls - l.i)

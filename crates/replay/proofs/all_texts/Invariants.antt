@@ -6,7 +6,4 @@ use Rattle.replay.specs.Replay.{call_count, text_fits_at}
 use Rattle.replay.proofs.all_texts.Given as goal
 
 abbrev pub invariant-loop-i : goal.invariant-loop-i
-invariant-loop-i l = (l.n ≡ call_count l.calls) × (all_from (text_fits_at l.calls l.texts) 0 l.n ≡ all_from (text_fits_at l.calls l.texts) l.i (l.n - l.i))
-
-abbrev pub decreases-loop-i : goal.decreases-loop-i
-decreases-loop-i l = l.n - l.i
+invariant-loop-i l = all_from (text_fits_at l.calls l.texts) 0 (call_count l.calls) ≡ all_from (text_fits_at l.calls l.texts) l.i (call_count l.calls - l.i)

@@ -2,6 +2,7 @@
 use mathlib.Core.Path.{sym, subst}
 use lib.Dec.{T, leb→le}
 use lib.ListN.{length, drop}
+use Rattle.register.specs.Answer.{answer_of}
 use Rattle.replay.proofs.Calling.{call_at}
 use Rattle.replay.proofs.Texts.{made_lent}
 use Rattle.replay.proofs.call_at.Goals as goal
@@ -17,4 +18,4 @@ returns c =
     let a = c.args in
     let p = c.text_place-place in
     let r = c.call in
-    made_lent (drop a.at a.calls.now) a.texts.now p.result p.ensures _ (call_at a.calls.now a.at) a.block.now r.result r.new.block (r.ensures.made c.requires.1)
+    made_lent (drop a.at a.calls.now) a.texts.now p.result p.ensures _ (call_at a.calls.now a.at) a.block.now (answer_of r.result) r.new.block (r.ensures.made c.requires.1)

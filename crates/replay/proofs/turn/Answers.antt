@@ -5,6 +5,7 @@ use Prim.Native.Nat.{◌+◌, ◌*◌, ◌-◌}
 use native.Mathlib.Omega.{arith}
 use lib.ListN.{length}
 use Rattle.block.specs.Layout.{block_size}
+use Rattle.register.specs.Answer.{answer_of}
 use Rattle.replay.proofs.Turns.{turned}
 use Rattle.replay.proofs.turn.Goals as goal
 
@@ -18,5 +19,5 @@ returns c =
     let m = block_size * (a.i + 1) in
     turned a.calls.now a.texts.now a.blocks.now a.refusals.now a.answers.now a.i
     copy.new.blocks copy.ensures m (m + block_size - m) (omega arith) (omega arith) (omega (arith, c.requires.place, c.requires.sizes.blocks))
-    made.result made.new.block (post_of m (m + block_size - m) copy.new.blocks) made.auto.block made.ensures
+    (answer_of made.result) made.new.block (post_of m (m + block_size - m) copy.new.blocks) made.auto.block made.ensures
     stored.new.refusals stored.new.answers stored.ensures

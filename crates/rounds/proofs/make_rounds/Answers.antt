@@ -17,25 +17,10 @@ pub loop-starts-init : goal.loop-starts-init
 loop-starts-init c =
     (refl, on_first c.args.table.now c.args.block.now (fits_bytes c.args.block.now (search rules)) c.requires.0, refl, record { size = refl; none = empty_waits groups }, refl, c.index_of-index.ensures)
 
-pub slice_bounds-round-end : goal.slice_bounds-round-end
-slice_bounds-round-end c = sym c.loop-starts.invariant.5.starts.size
-
-pub slice_bounds-round-end-in-loop-starts : goal.slice_bounds-round-end-in-loop-starts
-slice_bounds-round-end-in-loop-starts c = sym c.loop-starts.invariant.2
-
-pub slice_bounds-round-end-in-loop-starts-2 : goal.slice_bounds-round-end-in-loop-starts-2
-slice_bounds-round-end-in-loop-starts-2 c = sym c.loop-starts.invariant.3.size
-
-pub slice_bounds-round-end-in-loop-starts-3 : goal.slice_bounds-round-end-in-loop-starts-3
-slice_bounds-round-end-in-loop-starts-3 c = sym c.loop-starts.invariant.4
-
 pub round-requires : goal.round-requires
 round-requires c =
     let l = c.loop-starts in
     (record { formed = on_formed c.args.table.now (decode c.args.block.now) l.changed l.block l.invariant.1; rule = c.requires.1 }, l.invariant.5, record { size = l.invariant.2; queue = l.invariant.3 }, l.invariant.4)
-
-pub slice_bounds-renewed-end : goal.slice_bounds-renewed-end
-slice_bounds-renewed-end c = sym c.loop-starts.invariant.5.starts.size
 
 pub renewed-index-requires : goal.renewed-index-requires
 renewed-index-requires c =
@@ -48,9 +33,6 @@ pub overflow_add-changed : goal.overflow_add-changed
 overflow_add-changed c =
     let l = c.loop-starts in
     omega (arith, on_few c.args.table.now (decode c.args.block.now) l.changed l.block l.invariant.1 (held_formed c.args.block.now (fits_bytes c.args.block.now (search rules)) c.requires.0))
-
-pub shape_of-block-then-once : goal.shape_of-block-then-once
-shape_of-block-then-once c = c.round.auto.block ∙ c.loop-starts.invariant.0
 
 pub returns-then-once : goal.returns-then-once
 returns-then-once c =
@@ -77,9 +59,6 @@ loop-starts-preserved c =
       o.auto.weights ∙ l.invariant.4,
       c.renewed-index.ensures,
     )
-
-pub shape_of-block : goal.shape_of-block
-shape_of-block c = c.round.auto.block ∙ c.loop-starts.invariant.0
 
 pub returns : goal.returns
 returns c =

@@ -1,5 +1,4 @@
 -- `rounds::renewed` has the index of the present block. Assumes nothing.
-use mathlib.Core.Path.{sym, ◌∙◌}
 use native.Mathlib.Omega.{arith}
 use Rattle.block.proofs.Bytes.{fits_bytes}
 use Rattle.block.proofs.Held.{size_held}
@@ -8,9 +7,3 @@ use Rattle.rounds.proofs.renewed.Goals as goal
 pub count-requires : goal.count-requires
 count-requires c =
     omega (arith, size_held c.args.block.now (fits_bytes c.args.block.now c.type_inv.block) c.requires.0)
-
-pub returns-then-count-index : goal.returns-then-count-index
-returns-then-count-index c = c.requires.2 (sym c.count.ensures ∙ c.if-count-index.true)
-
-pub returns : goal.returns
-returns c = c.index_of.ensures

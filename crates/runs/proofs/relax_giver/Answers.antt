@@ -16,10 +16,10 @@ run : (s : Start) → Run s.args.records.now s.args.giver (get_or s.args.starts.
 run s = run_of s.args.table.now s.args.records.now s.args.starts.now s.args.giver s.requires.0 s.requires.1
 
 pub slice_bounds-relax_run-count : goal.slice_bounds-relax_run-count
-slice_bounds-relax_run-count c = let r = run (goal.at.slice_bounds-relax_run-count c).Start in omega (arith, r.order, r.within, r.few, r.size)
+slice_bounds-relax_run-count c = let r = run (goal.at.slice_bounds-relax_run-count c).Start in omega (arith, r.order, r.within, r.few, r.size, c.from-a.ensures, c.from-e.ensures)
 
 pub slice_bounds-relax_run-start : goal.slice_bounds-relax_run-start
-slice_bounds-relax_run-start c = let r = run (goal.at.slice_bounds-relax_run-start c).Start in omega (arith, r.order, r.within, r.few, r.size)
+slice_bounds-relax_run-start c = let r = run (goal.at.slice_bounds-relax_run-start c).Start in omega (arith, r.order, r.within, r.few, r.size, c.from-a.ensures, c.from-e.ensures)
 
 pub relax_run-requires : goal.relax_run-requires
 relax_run-requires c =
@@ -28,7 +28,7 @@ relax_run-requires c =
     let from = get_or a.starts.now g 0 in
     let past = get_or a.starts.now (g + 1) 0 in
     let lent = c.requires.0.lent in
-    let r = run (goal.at.relax_run-requires c).Start in (
+    let r = run (goal.at.relax_run-requires c).Start in rw (c.from-a.ensures, c.from-e.ensures) (
       lent.rule,
       record {
         few = omega (arith, part_count a.records.now from past r.order r.within, r.order, r.within, r.few);
@@ -50,6 +50,6 @@ returns c =
     let f = c.relax_run in
     let e = read_limit a.limits.now g (omega (arith, c.requires.2.lists.limits)) (omega arith) in (
       gave a.table.now a.records.now a.marks g a.limits.now a.parents.now (a.sets.here ∷ a.sets.near ∷ a.waiting.now) _ _ _ _ _ _ r.low r.high r.order
-          e f.ensures.0,
+          e (rw (c.from-a.ensures, c.from-e.ensures) at f.ensures.0),
       f.ensures.1,
     )

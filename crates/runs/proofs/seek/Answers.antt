@@ -9,6 +9,6 @@ returns-then-bound-giver c =
     let inv = c.loop-k.invariant in
     record {
       within = omega arith;
-      below = inv.2;
+      below = inv.1;
       above = λ j h l. omega (arith, giver_at c.args.records.now k, c.if-bound-giver.true, records_rise_lem c.args.records.now _ c.requires.2 k j h l);
     }

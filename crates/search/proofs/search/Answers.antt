@@ -1,35 +1,29 @@
 -- `search::search` finds the reaches by settling the heaviest open subject, the lowest where several are, until none waits; one that was raised is settled at its new limit, and waits no more; and lists them as it settles them. Assumes nothing.
-use mathlib.Core.Path.{sym, subst, ◌∙◌}
-use mathlib.Core.Logic.{◌≢◌}
-use Prim.Native.Nat.{◌≤◌, ◌<◌}
+use mathlib.Core.Path.{◌≡◌, ◌∙◌}
+use Rattle.std.specs.Prelude.{Some}
+use Prim.Native.Nat.{ℕ, ◌≤◌}
 use native.Mathlib.Omega.{arith}
 use Rattle.queue.specs.Queue.{Lowest}
-use Rattle.queue.specs.declared.Sets.{Sets}
 use Rattle.runs.specs.Lent.{SubjectLists}
 use Rattle.search.proofs.Whole.{measure}
 use Rattle.search.proofs.Midway.{Midway, midway_start, midway_on, midway_down, midway_turn, midway_ready, midway_settle, midway_less, midway_found, midway_empty}
 use Rattle.search.proofs.Listing.{listing_start, listing_room, listing_next, listing_end}
 use Rattle.search.proofs.search.Goals as goal
-use Rattle.search.proofs.search.Goals.{After-sets_of-sets}
+use Rattle.search.proofs.search.Goals.{After-at_hand-turn}
 
 -- ── with a level at hand ──
-module _ (c : After-sets_of-sets) where
-  abbrev Now : Sets → Type 0
-  Now x = let v = c.loop-sets in Midway c.args.table.now c.args.records.now c.args.marks v.limits v.parents c.at_hand-turn.new.waiting x v.settled × (measure v.settled x.near x.far ≤ measure v.settled v.sets.near v.sets.far)
-
-  on : Now c.sets_of-sets.result
+module _ (c : After-at_hand-turn) where
+  on : let v = c.loop-sets in let h = c.at_hand-turn in Midway c.args.table.now c.args.records.now c.args.marks v.limits v.parents h.new.waiting h.result.sets v.settled × (measure v.settled h.result.sets.near h.result.sets.far ≤ measure v.settled v.sets.near v.sets.far)
   on =
       let v = c.loop-sets in
       let h = c.at_hand-turn in
-      subst Now (sym c.sets_of-sets.ensures)
-      (midway_on c.args.table.now c.args.records.now c.requires.0.lent c.args.marks v.limits v.parents v.waiting v.sets v.settled v.invariant.0 h.result h.new.waiting h.ensures)
+      midway_on c.args.table.now c.args.records.now c.requires.0.lent c.args.marks v.limits v.parents v.waiting v.sets v.settled v.invariant.0 h.result h.new.waiting h.ensures
 
-  who : c.at_hand-turn.result.here ≢ 0 → Lowest c.sets_of-sets.result.here c.at_hand-turn.result.subject
-  who some =
+  who : (u : ℕ) → c.at_hand-turn.result.subject ≡ Some u → Lowest c.at_hand-turn.result.sets.here u
+  who u some =
       let v = c.loop-sets in
       let h = c.at_hand-turn in
-      subst (λ (x : Sets). Lowest x.here h.result.subject) (sym c.sets_of-sets.ensures)
-      (midway_turn c.args.table.now c.args.records.now c.requires.0.lent c.args.marks v.limits v.parents v.waiting v.sets v.settled v.invariant.0 h.result h.new.waiting some h.ensures)
+      midway_turn c.args.table.now c.args.records.now c.requires.0.lent c.args.marks v.limits v.parents v.waiting v.sets v.settled v.invariant.0 h.result h.new.waiting u some h.ensures
 
 pub loop-sets-init : goal.loop-sets-init
 loop-sets-init c =
@@ -42,41 +36,41 @@ loop-sets-init c =
 -- ── one is settled ──
 pub append-count-requires : goal.append-count-requires
 append-count-requires c =
-    let here = (goal.at.append-count-requires c).After-sets_of-sets in
+    let here = (goal.at.append-count-requires c).After-at_hand-turn in
     let v = c.loop-sets in
-    let u = who here c.if-turn-ne0.true in
-    (listing_room c.args.table.now c.args.records.now c.requires.0.lent c.args.marks v.limits v.parents c.at_hand-turn.new.waiting c.sets_of-sets.result v.settled (on here).0 v.order v.count v.invariant.1 _ u _ c.with-settled.ensures, u.small)
+    let u = who here c.in-Some.u c.in-Some.is in
+    (listing_room c.args.table.now c.args.records.now c.requires.0.lent c.args.marks v.limits v.parents c.at_hand-turn.new.waiting c.at_hand-turn.result.sets v.settled (on here).0 v.order v.count v.invariant.1 _ u _ c.with-settled.ensures, u.small)
 
 pub relax_giver-sets-requires : goal.relax_giver-sets-requires
 relax_giver-sets-requires c =
-    let here = (goal.at.relax_giver-sets-requires c).After-sets_of-sets in
+    let here = (goal.at.relax_giver-sets-requires c).After-at_hand-turn in
     let v = c.loop-sets in
-    let u = who here c.if-turn-ne0.true in
-    (c.requires.0, u.small, midway_ready c.args.table.now c.args.records.now c.requires.0.lent c.args.marks v.limits v.parents c.at_hand-turn.new.waiting c.sets_of-sets.result v.settled (on here).0 c.at_hand-turn.result.subject u.small u.member c.apart.result c.apart.ensures.2)
+    let u = who here c.in-Some.u c.in-Some.is in
+    (c.requires.0, u.small, midway_ready c.args.table.now c.args.records.now c.requires.0.lent c.args.marks v.limits v.parents c.at_hand-turn.new.waiting c.at_hand-turn.result.sets v.settled (on here).0 c.in-Some.u u.small u.member c.apart.result c.apart.ensures.2)
 
-pub loop-sets-smaller-then-turn-ne0 : goal.loop-sets-smaller-then-turn-ne0
-loop-sets-smaller-then-turn-ne0 c =
-    let here = (goal.at.loop-sets-smaller-then-turn-ne0 c).After-sets_of-sets in
+pub loop-sets-smaller-in-Some : goal.loop-sets-smaller-in-Some
+loop-sets-smaller-in-Some c =
+    let here = (goal.at.loop-sets-smaller-in-Some c).After-at_hand-turn in
     let v = c.loop-sets in
-    let u = who here c.if-turn-ne0.true in
+    let u = who here c.in-Some.u c.in-Some.is in
     let o = c.apart in
     omega (
       arith,
-      midway_less c.args.table.now c.args.records.now c.requires.0.lent c.args.marks v.limits v.parents c.at_hand-turn.new.waiting c.sets_of-sets.result v.settled (on here).0 c.at_hand-turn.result.subject u.small u.member o.result _ o.ensures.0 o.ensures.1 c.with-settled.ensures c.relax_giver-sets.result,
+      midway_less c.args.table.now c.args.records.now c.requires.0.lent c.args.marks v.limits v.parents c.at_hand-turn.new.waiting c.at_hand-turn.result.sets v.settled (on here).0 c.in-Some.u u.small u.member o.result _ o.ensures.0 o.ensures.1 c.with-settled.ensures c.relax_giver-sets.result,
       (on here).1,
     )
 
-pub loop-sets-preserved-then-turn-ne0 : goal.loop-sets-preserved-then-turn-ne0
-loop-sets-preserved-then-turn-ne0 c =
-    let here = (goal.at.loop-sets-preserved-then-turn-ne0 c).After-sets_of-sets in
+pub loop-sets-preserved-in-Some : goal.loop-sets-preserved-in-Some
+loop-sets-preserved-in-Some c =
+    let here = (goal.at.loop-sets-preserved-in-Some c).After-at_hand-turn in
     let v = c.loop-sets in
-    let u = who here c.if-turn-ne0.true in
+    let u = who here c.in-Some.u c.in-Some.is in
     let o = c.apart in
     let g = c.relax_giver-sets in
     let w = c.with-settled in
     let p = c.append-count in (
-      midway_settle c.args.table.now c.args.records.now c.requires.0.lent c.args.marks v.limits v.parents c.at_hand-turn.new.waiting c.sets_of-sets.result v.settled (on here).0 c.at_hand-turn.result.subject u.small u.member o.result _ o.ensures.0 o.ensures.1 w.ensures _ _ _ g.result g.ensures.0 g.ensures.1,
-      rw (p.ensures.0, p.ensures.1) (listing_next c.args.table.now c.args.records.now c.requires.0.lent c.args.marks v.limits v.parents c.at_hand-turn.new.waiting c.sets_of-sets.result v.settled (on here).0 v.order v.count v.invariant.1 _ u _ w.ensures),
+      midway_settle c.args.table.now c.args.records.now c.requires.0.lent c.args.marks v.limits v.parents c.at_hand-turn.new.waiting c.at_hand-turn.result.sets v.settled (on here).0 c.in-Some.u u.small u.member o.result _ o.ensures.0 o.ensures.1 w.ensures _ _ _ g.result g.ensures.0 g.ensures.1,
+      rw (p.ensures.0, p.ensures.1) (listing_next c.args.table.now c.args.records.now c.requires.0.lent c.args.marks v.limits v.parents c.at_hand-turn.new.waiting c.at_hand-turn.result.sets v.settled (on here).0 v.order v.count v.invariant.1 _ u _ w.ensures),
     )
 
 -- ── none waits at the level found ──
@@ -84,11 +78,10 @@ pub loop-sets-smaller : goal.loop-sets-smaller
 loop-sets-smaller c =
     let v = c.loop-sets in
     let h = c.at_hand-turn in
-    let down = midway_down c.args.table.now c.args.records.now c.requires.0.lent c.args.marks v.limits v.parents v.waiting v.sets v.settled v.invariant.0 h.result h.new.waiting c.if-turn-ne0.false h.ensures in
-    subst (λ (x : Sets). measure v.settled x.near x.far < measure v.settled v.sets.near v.sets.far) (sym c.sets_of-sets.ensures) down
+    midway_down c.args.table.now c.args.records.now c.requires.0.lent c.args.marks v.limits v.parents v.waiting v.sets v.settled v.invariant.0 h.result h.new.waiting c.in_default.is h.ensures
 
 pub loop-sets-preserved : goal.loop-sets-preserved
-loop-sets-preserved c = ((on (goal.at.loop-sets-preserved c).After-sets_of-sets).0, c.loop-sets.invariant.1)
+loop-sets-preserved c = ((on (goal.at.loop-sets-preserved c).After-at_hand-turn).0, c.loop-sets.invariant.1)
 
 pub returns : goal.returns
 returns c =

@@ -1,6 +1,7 @@
 -- `seatreg::seatreg_downgrade_table` downgrades by the step table of a text, or refuses, and hands out. Assumes nothing.
 use Rattle.rules.specs.Call.{downgrade}
 use Rattle.steptable.specs.TableText.{given}
+use Rattle.register.specs.Answer.{answer_of}
 use Rattle.seatreg.proofs.Entry.{cut_short, cut_made}
 use Rattle.seatreg.proofs.seatreg_downgrade_table.Goals as goal
 
@@ -14,4 +15,4 @@ returns c =
     let h = c.hand_out in
     let a = c.args in
     cut_made a.block.now a.answers.now (given a.table.now) (downgrade a.by a.giver a.receiver a.weight)
-    c.if-answers-ne-ANSWERS_SIZE.false c.downgrade_table-o.result c.downgrade_table-o.new.block c.downgrade_table-o.ensures h.result h.new.answers h.ensures
+    c.if-answers-ne-ANSWERS_SIZE.false (answer_of c.downgrade_table-o.result) c.downgrade_table-o.new.block c.downgrade_table-o.ensures h.result h.new.answers h.ensures

@@ -1,6 +1,7 @@
 -- `seatreg::seatreg_enrol` enrols, or refuses, and hands out. Assumes nothing.
 use Rattle.rules.specs.Call.{enrol}
 use Rattle.steptable.specs.TableText.{ours}
+use Rattle.register.specs.Answer.{answer_of}
 use Rattle.seatreg.proofs.Entry.{short, made}
 use Rattle.seatreg.proofs.seatreg_enrol.Goals as goal
 
@@ -14,4 +15,4 @@ returns c =
     let h = c.hand_out in
     let a = c.args in
     made a.block.now a.answers.now ours (enrol a.marks)
-    c.if-answers-ne-ANSWERS_SIZE.false c.enrol-o.result c.enrol-o.new.block c.enrol-o.ensures h.result h.new.answers h.ensures
+    c.if-answers-ne-ANSWERS_SIZE.false (answer_of c.enrol-o.result) c.enrol-o.new.block c.enrol-o.ensures h.result h.new.answers h.ensures

@@ -2,6 +2,7 @@
 use Rattle.rules.specs.Register.{granted}
 use Rattle.rules.specs.Call.{grant}
 use Rattle.steptable.specs.TableText.{given}
+use Rattle.register.specs.Answer.{answer_of}
 use Rattle.seatreg.proofs.Entry.{short, made}
 use Rattle.seatreg.proofs.seatreg_grant_kind.Goals as goal
 
@@ -15,4 +16,4 @@ returns c =
     let h = c.hand_out in
     let a = c.args in
     made a.block.now a.answers.now (given a.table.now) (grant (granted a.giver a.receiver a.weight a.need a.bar a.kind))
-    c.if-answers-ne-ANSWERS_SIZE.false c.grant_kind-o.result c.grant_kind-o.new.block c.grant_kind-o.ensures h.result h.new.answers h.ensures
+    c.if-answers-ne-ANSWERS_SIZE.false (answer_of c.grant_kind-o.result) c.grant_kind-o.new.block c.grant_kind-o.ensures h.result h.new.answers h.ensures

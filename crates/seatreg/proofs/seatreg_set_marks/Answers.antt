@@ -1,6 +1,7 @@
 -- `seatreg::seatreg_set_marks` sets marks by the step table of a text, or refuses, and hands out. Assumes nothing.
 use Rattle.rules.specs.Call.{set_marks}
 use Rattle.steptable.specs.TableText.{given}
+use Rattle.register.specs.Answer.{answer_of}
 use Rattle.seatreg.proofs.Entry.{cut_short, cut_made}
 use Rattle.seatreg.proofs.seatreg_set_marks.Goals as goal
 
@@ -14,4 +15,4 @@ returns c =
     let h = c.hand_out in
     let a = c.args in
     cut_made a.block.now a.answers.now (given a.table.now) (set_marks a.by a.subject a.marks)
-    c.if-answers-ne-ANSWERS_SIZE.false c.set_marks-o.result c.set_marks-o.new.block c.set_marks-o.ensures h.result h.new.answers h.ensures
+    c.if-answers-ne-ANSWERS_SIZE.false (answer_of c.set_marks-o.result) c.set_marks-o.new.block c.set_marks-o.ensures h.result h.new.answers h.ensures

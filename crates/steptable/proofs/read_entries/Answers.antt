@@ -1,39 +1,37 @@
 -- `steptable::read_entries` reads the entries of a table exactly where the text is its text. Assumes nothing.
-use mathlib.Core.Path.{refl}
+use Rattle.std.proofs.Common.{refl, arith, length, None, Some}
 use lib.Dec.{leb}
-use lib.ListN.{length}
-use borrow.Author.Tests.{not-true, not-false}
+use Rattle.std.proofs.lemmas.Bool.Decides.{Decides-eqb}
+use Rattle.std.proofs.lemmas.Slice.Eq.{strip_prefix_is}
 use Rattle.steptable.specs.TableText.{table_names}
 use Rattle.steptable.proofs.Entries.{no_names, names, lines_end, no_line_lem, value_held, line_more}
 use Rattle.steptable.proofs.read_entries.Goals as goal
 
-pub returns-then-not-begins_with : goal.returns-then-not-begins_with
+pub returns-in_default : goal.returns-in_default
 unfolding table_names
-returns-then-not-begins_with c =
-    let b = c.begins_with in
-    no_names c.args.text.now b.result c.args.entries.now b.ensures c.if-not-begins_with.true
+returns-in_default c = no_names c.args.text.now c.args.entries.now (strip_prefix_is Decides-eqb c.args.text.now table_names None c.in_default.ensures.cases)
 
 pub loop-w-init : goal.loop-w-init
-unfolding table_names
-loop-w-init c =
-    let b = c.begins_with in
-    names c.args.text.now b.result c.args.entries.now b.ensures c.if-not-begins_with.false c.requires
+loop-w-init c = names c.in-Some.lines.now c.args.entries.now c.requires
 
-pub returns-then-not-entry : goal.returns-then-not-entry
-returns-then-not-entry c =
+pub returns-in_default-read_entry : goal.returns-in_default-read_entry
+unfolding table_names
+returns-in_default-read_entry c =
     let l = c.loop-w in
-    let e = c.read_entry-entry in
-    no_line_lem c.args.text.now l.at l.w l.entries l.invariant c.loop-w-test.true e.result e.ensures (not-true _ c.if-not-entry.true)
+    let e = strip_prefix_is Decides-eqb c.args.text.now table_names (Some c.in-Some.lines) c.in-Some.ensures.cases in
+    rw e (no_line_lem c.in-Some.lines.now l.at l.w l.entries l.invariant (omega arith) _ c.in_default-read_entry.ensures)
 
 pub loop-w-preserved : goal.loop-w-preserved
 loop-w-preserved c =
     let l = c.loop-w in
-    let e = c.read_entry-entry in
-    let f = not-false _ c.if-not-entry.false in
-    rw (value_held c.args.text.now l.at l.w l.entries l.invariant c.loop-w-test.true e.result e.ensures f)
-    (line_more c.args.text.now l.at l.w l.entries l.invariant c.loop-w-test.true e.result e.ensures f)
+    let v = c.in-Some-read_entry.next in
+    let m = c.in-Some-read_entry.ensures in
+    rw (value_held c.in-Some.lines.now l.at l.w l.entries l.invariant (omega arith) v m)
+    (line_more c.in-Some.lines.now l.at l.w l.entries l.invariant (omega arith) v m)
 
 pub returns : goal.returns
+unfolding table_names
 returns c =
     let l = c.loop-w in
-    lines_end c.args.text.now l.at l.w l.entries l.invariant c.loop-w-test.false (leb (length c.args.text.now) l.at) refl
+    let e = strip_prefix_is Decides-eqb c.args.text.now table_names (Some c.in-Some.lines) c.in-Some.ensures.cases in
+    rw e (lines_end c.in-Some.lines.now l.at l.w l.entries l.invariant (omega arith) (leb (length c.in-Some.lines.now) l.at) refl)

@@ -9,24 +9,24 @@ loop-w-init c = making_start c.args.entries.now c.requires.0 c.requires.2 c.args
 pub keeps-requires : goal.keeps-requires
 keeps-requires c =
     let l = c.loop-w in
-    (omega arith, l.invariant.good, making_entry c.args.entries.now c.requires.0 c.requires.2 _ l.w l.table l.invariant c.loop-w-test.true)
+    (omega arith, l.invariant.good, making_entry c.args.entries.now c.requires.0 c.requires.2 _ l.w l.table l.invariant (omega arith))
 
 pub returns-then-not-keeps : goal.returns-then-not-keeps
 returns-then-not-keeps c =
     let l = c.loop-w in
-    making_not c.args.entries.now c.requires.0 c.requires.2 _ l.w l.table l.invariant c.loop-w-test.true c.keeps.result c.keeps.ensures c.if-not-keeps.true
+    making_not c.args.entries.now c.requires.0 c.requires.2 _ l.w l.table l.invariant (omega arith) c.keeps.result c.keeps.ensures c.if-not-keeps.true
 
 pub overflow_cast-table : goal.overflow_cast-table
 overflow_cast-table c =
     let l = c.loop-w in
-    making_fits c.args.entries.now c.requires.0 c.requires.2 _ l.w l.table l.invariant c.loop-w-test.true c.keeps.result c.keeps.ensures c.if-not-keeps.false
+    making_fits c.args.entries.now c.requires.0 c.requires.2 _ l.w l.table l.invariant (omega arith) c.keeps.result c.keeps.ensures c.if-not-keeps.false
 
 pub loop-w-preserved : goal.loop-w-preserved
 loop-w-preserved c =
     let l = c.loop-w in
-    making_more c.args.entries.now c.requires.0 c.requires.2 _ l.w l.table l.invariant c.loop-w-test.true c.keeps.result c.keeps.ensures c.if-not-keeps.false
+    making_more c.args.entries.now c.requires.0 c.requires.2 _ l.w l.table l.invariant (omega arith) c.keeps.result c.keeps.ensures c.if-not-keeps.false
 
 pub returns : goal.returns
 returns c =
     let l = c.loop-w in
-    making_end c.args.entries.now c.requires.0 c.requires.2 _ l.w l.table l.invariant c.loop-w-test.false
+    making_end c.args.entries.now c.requires.0 c.requires.2 _ l.w l.table l.invariant (omega arith)

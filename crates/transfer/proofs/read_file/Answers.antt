@@ -1,75 +1,95 @@
 -- `transfer::read_file` reads the register of a text or refuses. Assumes nothing.
-use mathlib.Core.Path.{◌≡◌, sym, ap, ◌∙◌}
-use mathlib.Core.Bool.{not}
-use lib.ListN.{length}
+use Rattle.std.proofs.Common.{◌≡◌, ◌≢◌, sym, ap, ◌∙◌, subst, not, ℕ, true, false, Err, rules}
+use Rattle.rules.specs.Table.{TableRule}
 use Rattle.rules.specs.Refusal.{too_heavy}
-use Rattle.rules.proofs.Lists.{not_true, not_false}
-use Rattle.block.specs.Layout.{block_size}
 use Rattle.block.specs.Block.{decode}
-use Rattle.steptable.specs.TableText.{given}
-use Rattle.steptable.specs.declared.Given.{Given}
+use Rattle.steptable.specs.TableText.{Given, given}
+use Rattle.steptable.specs.Lent.{given_by}
 use Rattle.steptable.proofs.Right.{given_keeps}
+use Rattle.refusals.proofs.First.{number_some}
+use Rattle.regfile.specs.declared.FileFault.TheVariants.{Malformed}
+use Rattle.regfile.specs.Faults.{number_in}
+use Rattle.register.specs.Answer.{refused_by}
+use Rattle.transfer.specs.FileOn.{ReadMade}
+use Rattle.transfer.proofs.Faults.{not_seven, error_some}
 use Rattle.transfer.proofs.ReadWays.{other_length, text_malformed, table_refused, text_unformed, bytes_formed, unsupported, read_done}
 use Rattle.transfer.proofs.read_file.Goals as goal
-use Rattle.transfer.proofs.read_file.Goals.{After-parse-n, After-supports, Else-g-ne0}
+use Rattle.transfer.proofs.read_file.Goals.{After-read_table, After-supports, In_ok-steps, In_ok-parsed}
 
-abbrev long : (c : After-parse-n) → length c.args.block.now ≡ block_size
-long c = c.if-block-ne-BLOCK_SIZE.false
+-- 7 does not apply to the text
+plain : (c : After-read_table) → number_in c.parse-parsed.result ≢ 7
+plain c =
+    let n : c.parse-parsed.result ≡ Err Malformed → ⊥ = search rules in
+    not_seven c.parse-parsed.result n
 
-passes : (c : Else-g-ne0) → (given c.args.table.now).refusal ≡ 0
-passes c = ap (λ (g : Given). g.refusal) (sym c.read_table-g.ensures) ∙ c.if-g-ne0.false
+-- neither does 7 or 17 to the table's
+passes : (c : In_ok-steps) → (given c.args.table.now).refusal ≡ 0
+passes c = ap (λ (g : Given). g.refusal) (sym c.read_table.ensures) ∙ ap (λ r. (given_by r).refusal) c.in_ok-steps.was
 
-found : (c : After-supports) → let R = decode c.parse-n.new.b in c.supports.result ≡ not (too_heavy (given c.args.table.now).steps R R.delegations)
+steps : (c : In_ok-steps) → c.in_ok-steps.steps ≡ (given c.args.table.now).steps
+steps c = sym (ap (λ r. (given_by r).steps) c.in_ok-steps.was) ∙ ap (λ (g : Given). g.steps) c.read_table.ensures
+
+found : (c : After-supports) → let R = decode c.parse-parsed.new.b in c.supports.result ≡ not (too_heavy (given c.args.table.now).steps R R.delegations)
 found c =
-    let R = decode c.parse-n.new.b in
-    c.supports.ensures.told ∙ ap (λ (g : Given). not (too_heavy g.steps R R.delegations)) c.read_table-g.ensures
+    let R = decode c.parse-parsed.new.b in
+    c.supports.ensures.told ∙ ap (λ t. not (too_heavy t R R.delegations)) (sym (ap (λ r. (given_by r).steps) c.in_ok-steps.was) ∙ ap (λ (g : Given). g.steps) c.read_table.ensures)
 
 pub returns-then-block-ne-BLOCK_SIZE : goal.returns-then-block-ne-BLOCK_SIZE
 returns-then-block-ne-BLOCK_SIZE c =
     let a = c.args in
-    rw c.refused.ensures (other_length a.text.now a.table.now a.block.now c.if-block-ne-BLOCK_SIZE.true)
+    other_length a.text.now a.table.now a.block.now c.if-block-ne-BLOCK_SIZE.true
 
-pub returns-then-n-eq-MALFORMED : goal.returns-then-n-eq-MALFORMED
-returns-then-n-eq-MALFORMED c =
+pub returns-then-eq : goal.returns-then-eq
+returns-then-eq c =
     let a = c.args in
-    let r = c.parse-n in
-    rw c.refused-then-n-eq-MALFORMED.ensures (text_malformed a.text.now a.table.now a.block.now (long (goal.at.returns-then-n-eq-MALFORMED c).After-parse-n) r.result r.new.b r.ensures c.if-n-eq-MALFORMED.true)
+    let r = c.parse-parsed in
+    let w : r.result ≡ Err Malformed = search rules in
+    let e = ap number_in w in
+    subst (λ (n : ℕ). ReadMade a.text.now a.table.now a.block.now (refused_by n) a.block.now) e (text_malformed a.text.now a.table.now a.block.now c.if-block-ne-BLOCK_SIZE.false (number_in r.result) r.new.b r.ensures e)
 
-pub returns-then-g-ne0 : goal.returns-then-g-ne0
-returns-then-g-ne0 c =
+pub returns-in_err-steps : goal.returns-in_err-steps
+returns-in_err-steps c =
     let a = c.args in
-    let r = c.parse-n in
-    rw (c.refused-then-g-ne0.ensures, c.read_table-g.ensures)
-    (table_refused a.text.now a.table.now a.block.now (long (goal.at.returns-then-g-ne0 c).After-parse-n) r.result r.new.b r.ensures c.if-n-eq-MALFORMED.false
-    (λ z. c.if-g-ne0.true (ap (λ (g : Given). g.refusal) c.read_table-g.ensures ∙ z)))
+    let r = c.parse-parsed in
+    let e = ap (λ (g : Given). g.refusal) (sym c.read_table.ensures) ∙ ap (λ r. (given_by r).refusal) c.in_err-steps.was in
+    search (
+      rules,
+      subst (λ (n : ℕ). ReadMade a.text.now a.table.now a.block.now (refused_by n) a.block.now) e
+          (table_refused a.text.now a.table.now a.block.now c.if-block-ne-BLOCK_SIZE.false (number_in r.result) r.new.b r.ensures (plain (goal.at.returns-in_err-steps c).After-read_table) (λ z. number_some _ (sym e ∙ z))),
+    )
 
-pub returns-then-n-ne0 : goal.returns-then-n-ne0
-returns-then-n-ne0 c =
+pub returns-in_err-parsed : goal.returns-in_err-parsed
+returns-in_err-parsed c =
     let a = c.args in
-    let r = c.parse-n in
-    rw c.refused-then-n-ne0.ensures (text_unformed a.text.now a.table.now a.block.now (long (goal.at.returns-then-n-ne0 c).After-parse-n) r.result r.new.b r.ensures c.if-n-eq-MALFORMED.false (passes (goal.at.returns-then-n-ne0 c).Else-g-ne0) c.if-n-ne0.true)
+    let r = c.parse-parsed in
+    search (
+      rules,
+      subst (λ (n : ℕ). ReadMade a.text.now a.table.now a.block.now (refused_by n) a.block.now) (ap number_in c.in_err-parsed.was)
+          (text_unformed a.text.now a.table.now a.block.now c.if-block-ne-BLOCK_SIZE.false (number_in r.result) r.new.b r.ensures (plain (goal.at.returns-in_err-parsed c).After-read_table) (passes (goal.at.returns-in_err-parsed c).In_ok-steps) (error_some c.in_err-parsed.was)),
+    )
 
 pub supports-requires : goal.supports-requires
 supports-requires c =
     let a = c.args in
-    let r = c.parse-n in (
-      bytes_formed a.text.now a.table.now a.block.now (long (goal.at.supports-requires c).After-parse-n) r.result r.new.b r.ensures c.if-n-eq-MALFORMED.false (passes (goal.at.supports-requires c).Else-g-ne0) c.if-n-ne0.false,
-      rw c.read_table-g.ensures (given_keeps a.table.now),
+    let r = c.parse-parsed in
+    let s = (goal.at.supports-requires c).In_ok-steps in (
+      bytes_formed a.text.now a.table.now a.block.now c.if-block-ne-BLOCK_SIZE.false (number_in r.result) r.new.b r.ensures (plain (goal.at.supports-requires c).After-read_table) (passes s) (ap number_in c.in_ok-parsed.was),
+      subst TableRule (sym (steps s)) (given_keeps a.table.now),
     )
 
 pub returns-then-not-supports : goal.returns-then-not-supports
 returns-then-not-supports c =
     let a = c.args in
-    let r = c.parse-n in
-    rw c.refused-then-not-supports.ensures
-    (unsupported a.text.now a.table.now a.block.now (long (goal.at.returns-then-not-supports c).After-parse-n) r.result r.new.b r.ensures c.if-n-eq-MALFORMED.false (passes (goal.at.returns-then-not-supports c).Else-g-ne0) c.if-n-ne0.false
-    c.supports.result (found (goal.at.returns-then-not-supports c).After-supports) (not_true c.supports.result c.if-not-supports.true-raw))
+    let r = c.parse-parsed in
+    let t : c.supports.result ≡ false = search rules in
+    unsupported a.text.now a.table.now a.block.now c.if-block-ne-BLOCK_SIZE.false (number_in r.result) r.new.b r.ensures (plain (goal.at.returns-then-not-supports c).After-read_table) (passes (goal.at.returns-then-not-supports c).In_ok-steps) (ap number_in c.in_ok-parsed.was)
+    c.supports.result (found (goal.at.returns-then-not-supports c).After-supports) t
 
 pub returns : goal.returns
 returns c =
     let a = c.args in
-    let r = c.parse-n in
-    let t = not_false c.supports.result c.if-not-supports.false-raw in
-    rw c.answered.ensures
-    (read_done a.text.now a.table.now a.block.now (long (goal.at.returns c).After-parse-n) r.result r.new.b r.ensures c.if-n-eq-MALFORMED.false (passes (goal.at.returns c).Else-g-ne0) c.if-n-ne0.false
+    let r = c.parse-parsed in
+    let t : c.supports.result ≡ true = search rules in
+    rw c.new.ensures
+    (read_done a.text.now a.table.now a.block.now c.if-block-ne-BLOCK_SIZE.false (number_in r.result) r.new.b r.ensures (plain (goal.at.returns c).After-read_table) (passes (goal.at.returns c).In_ok-steps) (ap number_in c.in_ok-parsed.was)
     c.supports.result (found (goal.at.returns c).After-supports) t c.copy.new.to (c.copy.ensures ∙ c.supports.ensures.same t))

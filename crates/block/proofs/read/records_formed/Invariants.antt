@@ -6,6 +6,3 @@ use Rattle.block.proofs.read.records_formed.Given as goal
 
 abbrev pub invariant-loop-k : goal.invariant-loop-k
 invariant-loop-k l = passes l.subjects l.b 0 0 0 l.count ≡ passes l.subjects l.b l.kinds l.last l.k (l.count - l.k)
-
-abbrev pub decreases-loop-k : goal.decreases-loop-k
-decreases-loop-k l = l.count - l.k

@@ -10,7 +10,7 @@ use Rattle.block.specs.Bytes.{all_from}
 use Rattle.block.specs.Block.{retired_in}
 use Rattle.block.specs.Records.{delegation_at}
 use Rattle.block.specs.WellFormed.{all_pass, right_size, head_tests, head_formed, owner_unmarked, rest_unmarked, retired_formed, records_formed, records_rise, is_apart, records_apart, rest_zero, well_formed}
-use Rattle.block.proofs.Fields.{head_some, head_few}
+use Rattle.block.proofs.Fields.{head_few}
 use Rattle.block.proofs.Tests.{tests_group, tests_on, tests_stop, tests_last}
 use Rattle.block.proofs.read.well_formed.Goals as goal
 use Rattle.block.proofs.read.well_formed.Goals.{After-count-records, After-records_formed, After-retired_formed, After-zero_range}
@@ -97,19 +97,16 @@ pub returns-then-not-zero_range : goal.returns-then-not-zero_range
 returns-then-not-zero_range c =
     tests_stop rest_unmarked from_records c.args.b.now (past_owner c.args.b.now (eq-eqb _ _ c.if-b-ne-BLOCK_SIZE.false) (sym c.head_formed.ensures ∙ not-false c.head_formed.result c.if-not-head_formed.false-raw) (eq-eqb _ _ (sym c.read_two.ensures ∙ c.if-read_two-ne0.false))) (sym (rest_is (goal.at.returns-then-not-zero_range c).After-zero_range) ∙ not-true c.zero_range.result c.if-not-zero_range.true-raw)
 
-pub records_formed-requires : goal.records_formed-requires
-records_formed-requires c = (rw c.subjects-n.ensures (head_some c.args.b.now (sym c.head_formed.ensures ∙ not-false c.head_formed.result c.if-not-head_formed.false-raw)), omega (arith, few (goal.at.records_formed-requires c).After-count-records))
-
 pub returns-then-not-records_formed : goal.returns-then-not-records_formed
 returns-then-not-records_formed c =
     tests_stop (all_pass of_records) from_retired c.args.b.now (past_rest c.args.b.now (eq-eqb _ _ c.if-b-ne-BLOCK_SIZE.false) (sym c.head_formed.ensures ∙ not-false c.head_formed.result c.if-not-head_formed.false-raw) (eq-eqb _ _ (sym c.read_two.ensures ∙ c.if-read_two-ne0.false)) (sym (rest_is (goal.at.returns-then-not-records_formed c).After-zero_range) ∙ not-false c.zero_range.result c.if-not-zero_range.false-raw)) (sym (records_are (goal.at.returns-then-not-records_formed c).After-records_formed) ∙ not-true c.records_formed.result c.if-not-records_formed.true-raw)
 
-pub retired_formed-requires : goal.retired_formed-requires
-retired_formed-requires c = (omega (arith, few (goal.at.retired_formed-requires c).After-count-records), omega (arith, few (goal.at.retired_formed-requires c).After-count-records))
-
 pub returns-then-not-retired_formed : goal.returns-then-not-retired_formed
 returns-then-not-retired_formed c =
     tests_stop (all_pass of_retired) from_rest c.args.b.now (past_records c.args.b.now (eq-eqb _ _ c.if-b-ne-BLOCK_SIZE.false) (sym c.head_formed.ensures ∙ not-false c.head_formed.result c.if-not-head_formed.false-raw) (eq-eqb _ _ (sym c.read_two.ensures ∙ c.if-read_two-ne0.false)) (sym (rest_is (goal.at.returns-then-not-retired_formed c).After-zero_range) ∙ not-false c.zero_range.result c.if-not-zero_range.false-raw) (sym (records_are (goal.at.returns-then-not-retired_formed c).After-records_formed) ∙ not-false c.records_formed.result c.if-not-records_formed.false-raw)) (sym (retired_are (goal.at.returns-then-not-retired_formed c).After-retired_formed) ∙ not-true c.retired_formed.result c.if-not-retired_formed.true-raw)
+
+pub zero_range-requires-2 : goal.zero_range-requires-2
+zero_range-requires-2 c = (omega (arith, few (goal.at.zero_range-requires-2 c).After-count-records), omega (arith, c.if-b-ne-BLOCK_SIZE.false))
 
 pub overflow_mul-records : goal.overflow_mul-records
 overflow_mul-records c = omega (arith, few (goal.at.overflow_mul-records c).After-count-records)

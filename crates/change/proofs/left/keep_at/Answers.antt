@@ -8,6 +8,7 @@ use lib.IntN.{nat_abs}
 use lib.Signed.{non_neg}
 use Rattle.rules.proofs.Signed.{kept}
 use Rattle.block.specs.Records.{delegation_at}
+use Rattle.change.specs.Record.{delegation_of}
 use Rattle.block.proofs.Bytes.{fits_bytes}
 use Rattle.change.proofs.Writing.{none_written, weight_fits, weight_written, one_written}
 use Rattle.change.proofs.left.keep_at.Goals as goal
@@ -36,11 +37,10 @@ returns-then-from-to c =
     let b = c.args.block.now in
     rw (← c.if-from-to.true) (weight_written c.args.weight c.ranges.weight c.if-weight-lt0.false c.requires.most b _ (fits_bytes b c.slice_known-1.given) _ c.args.from (rw c.if-from-to.true c.record_place-at.ensures) refl)
 
-pub overflow_cast-weight : goal.overflow_cast-weight
-overflow_cast-weight c = weight_known (goal.at.overflow_cast-weight c).After-record_place-at
+pub overflow_cast-delegation : goal.overflow_cast-delegation
+overflow_cast-delegation c = weight_known (goal.at.overflow_cast-delegation c).After-record_place-at
 
 pub returns : goal.returns
 returns c =
-    one_written c.args.weight c.ranges.weight c.if-weight-lt0.false c.requires.most c.args.block.now _ _ _ _ _ _ _ (delegation_at c.args.block.now c.args.from)
-    c.giver-giver.ensures c.receiver-receiver.ensures
-    c.need-need.ensures c.bar-bar.ensures c.kind-kind.ensures (rw c.record_place-at.ensures at c.put_record.ensures)
+    one_written c.args.weight c.ranges.weight c.if-weight-lt0.false c.requires.most c.args.block.now _ _ (delegation_of c.at.result) (delegation_at c.args.block.now c.args.from)
+    c.at.ensures (rw c.record_place-at.ensures at c.put_record.ensures)

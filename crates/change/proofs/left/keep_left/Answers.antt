@@ -1,5 +1,5 @@
 -- `change::keep_left` writes what is left of the first records. Assumes nothing.
-use mathlib.Core.Path.{◌≡◌, sym, ◌∙◌}
+use mathlib.Core.Path.{sym, ◌∙◌}
 use native.Mathlib.Omega.{arith}
 use lib.IntN.{pos}
 use lib.ListN.{get_or}
@@ -40,13 +40,3 @@ loop-k-preserved c =
       | then-keep_at t ↦ (omega arith, rw t.kept-is (left_one b w v.k v.kept v.block v.invariant.1 (omega arith) _ (omega arith) h r.ensures.1 (sym t.if-keep_at.true ∙ r.ensures.0)))
       | else-keep_at t ↦ (omega arith, rw t.kept-is (left_same b w v.k v.kept v.block v.invariant.1 (omega arith) _ (omega arith) h r.ensures.1 (sym t.if-keep_at.false ∙ r.ensures.0)))
     ]
-
-pub shape_of-block : goal.shape_of-block
-shape_of-block c =
-    let v = c.loop-k in
-    left_length c.args.block.now c.args.weights.now v.k v.kept v.block v.invariant.1 (omega arith)
-
-pub returns : goal.returns
-returns c =
-    let e : c.loop-k.k ≡ c.args.n = omega arith in
-    rw e at c.loop-k.invariant.1

@@ -4,14 +4,11 @@ use Rattle.block.specs.Records.{delegation_at}
 use Rattle.reckoning.proofs.Filling.{names_on}
 use Rattle.reckoning.proofs.indexed.named_marks.Goals as goal
 
-pub loop-k-init : goal.loop-k-init
-loop-k-init c = (omega arith, λ k h. absurd (omega arith))
-
 pub loop-k-preserved : goal.loop-k-preserved
 loop-k-preserved c =
     let b = c.args.block.now in
     let l = c.loop-k in
-    (omega arith, rw (c.need.ensures, c.bar.ensures) (names_on (λ j. (delegation_at b j).need) (λ j. (delegation_at b j).bar) l.named l.k l.invariant.1))
+    rw (c.need.ensures, c.bar.ensures) (names_on (λ j. (delegation_at b j).need) (λ j. (delegation_at b j).bar) l.named l.k l.invariant)
 
 pub returns : goal.returns
-returns c = λ k h. c.loop-k.invariant.1 k (omega arith)
+returns c = λ k h. c.loop-k.invariant k (omega arith)

@@ -1,13 +1,10 @@
 -- `reckoning::decoded` decodes a run of records. Assumes nothing.
 use mathlib.Core.Path.{◌≡◌}
-use Prim.Native.Nat.{◌+◌, ◌-◌, ◌≤◌}
+use Prim.Native.Nat.{◌+◌}
 use lib.ListN.{length}
 use Rattle.block.specs.Records.{delegation_at}
 use Rattle.reckoning.specs.Reckoned.{run_size, Decoded}
 use Rattle.reckoning.proofs.lower.decoded.Given as goal
 
 abbrev pub invariant-loop-k : goal.invariant-loop-k
-invariant-loop-k l = (l.k ≤ l.n) × (length l.ds ≡ run_size) × Decoded (λ j. delegation_at l.block (l.first + j)) l.k l.ds
-
-abbrev pub decreases-loop-k : goal.decreases-loop-k
-decreases-loop-k l = l.n - l.k
+invariant-loop-k l = (length l.ds ≡ run_size) × Decoded (λ j. delegation_at l.block (l.first + j)) l.k l.ds

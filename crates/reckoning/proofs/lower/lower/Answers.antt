@@ -1,15 +1,16 @@
 -- `reckoning::lower` lowers each delegation of a run. Assumes nothing.
-use mathlib.Core.Path.{◌≡◌, ap, ◌∙◌}
-use Prim.Native.Nat.{ℕ}
 use native.Mathlib.Omega.{arith}
-use lib.ListN.{length}
+use mir.Syntax.{w16}
+use mir.Facts.{to_z-of_z}
+use lib.ListN.{get_or}
+use Rattle.std.proofs.lemmas.List.{get_or_default}
+use Rattle.std.proofs.lemmas.List.Edits.{map_over_more}
 use Rattle.reckoning.specs.Reckoned.{none_decoded, lower_one}
-use Rattle.reckoning.proofs.Lowering.{each_to, each_all}
 use Rattle.reckoning.proofs.lower.lower.Goals as goal
 
-pub returns : goal.returns
-returns c =
-    let xs = c.args.ds.now in
-    let f = lower_one c.args.reaches.now in
-    let e : c.loop-i.i ≡ length xs = omega arith in
-    c.loop-i.invariant.1 ∙ ap (λ (n : ℕ). each_to f none_decoded n xs) e ∙ each_all f none_decoded xs
+pub loop-d-preserved : goal.loop-d-preserved
+loop-d-preserved c =
+    let l = c.loop-d in
+    let d = get_or l.ds l.d-index none_decoded in
+    let e = map_over_more (lower_one c.args.reaches.now) c.args.ds.now l.ds l.d-index d (omega arith) l.invariant (get_or_default l.ds l.d-index none_decoded d (omega arith)) in
+    rw (to_z-of_z {w = w16} record { sfits = c.lowered_weight-d.type_inv }, c.lowered_weight-d.ensures, to_z-of_z {w = w16} {z = d.weight} record { sfits = omega arith }) e

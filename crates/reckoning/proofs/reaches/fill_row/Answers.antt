@@ -1,5 +1,5 @@
 -- `reckoning::fill_row` fills the row of one receiver. Assumes nothing.
-use mathlib.Core.Path.{refl, sym, ap, ◌∙◌}
+use mathlib.Core.Path.{sym, ap, ◌∙◌}
 use Prim.Native.Nat.{ℕ, ◌-◌, ◌<◌}
 use native.Mathlib.Omega.{arith}
 use lib.Bits.{bit_and}
@@ -15,29 +15,20 @@ marks-requires c =
     let r = rules_of c.args.block.now (fits_bytes c.args.block.now c.type_inv.block) c.requires.block.block.formed in
     omega (arith, r.size, r.most, c.requires.receiver)
 
-pub loop-other-init : goal.loop-other-init
-loop-other-init c = (omega arith, refl)
-
-pub overflow_sub-other : goal.overflow_sub-other
-overflow_sub-other c = omega (arith, c.loop-other-test.true)
-
 pub overflow_shr-set : goal.overflow_shr-set
 overflow_shr-set c =
     let r = rules_of c.args.block.now (fits_bytes c.args.block.now c.type_inv.block) c.requires.block.block.formed in
-    omega (arith, r.most, c.requires.receiver, c.loop-other.invariant.0)
+    omega (arith, r.most, c.requires.receiver)
 
 pub marks-requires-then-set-other-eq1 : goal.marks-requires-then-set-other-eq1
 marks-requires-then-set-other-eq1 c =
     let r = rules_of c.args.block.now (fits_bytes c.args.block.now c.type_inv.block) c.requires.block.block.formed in
-    omega (arith, r.size, r.most, c.requires.receiver, c.loop-other.invariant.0)
+    omega (arith, r.size, r.most, c.requires.receiver)
 
 pub copy_row-requires : goal.copy_row-requires
 copy_row-requires c =
     let r = rules_of c.args.block.now (fits_bytes c.args.block.now c.type_inv.block) c.requires.block.block.formed in
-    (omega (arith, c.loop-other-test.true, c.loop-other.invariant.0), omega (arith, r.most, c.requires.receiver), ap length c.loop-other.invariant.1 ∙ c.requires.filled.size)
-
-pub shape_of-reaches-then-marks-named : goal.shape_of-reaches-then-marks-named
-shape_of-reaches-then-marks-named c = c.copy_row.auto.reaches ∙ ap length c.loop-other.invariant.1
+    (omega (arith, c.loop-other-test.true), omega (arith, r.most, c.requires.receiver), ap length c.loop-other.invariant ∙ c.requires.filled.size)
 
 pub returns-then-marks-named : goal.returns-then-marks-named
 returns-then-marks-named c =
@@ -46,28 +37,9 @@ returns-then-marks-named c =
     let n = c.args.named in
     let j = c.loop-other.other - 1 in
     let v = c.args.receiver in
-    let o : j < v = omega (arith, c.loop-other-test.true, c.loop-other.invariant.0) in
+    let o : j < v = omega (arith, c.loop-other-test.true) in
     let other = sym (marks_held b g c.requires.block.block.formed j (omega (arith, o, c.requires.receiver))) ∙ sym c.marks-then-set-other-eq1.ensures in
     let own = c.marks.ensures ∙ marks_held b g c.requires.block.block.formed v c.requires.receiver in
     let e = ap (λ (x : ℕ). bit_and x n) other ∙ c.if-marks-named.true ∙ ap (λ (x : ℕ). bit_and x n) own in
     let h = sym (bit_read c.args.set j) ∙ c.if-set-other-eq1.true in
-    (row_copied c.args.table.now (decode b) c.args.set n j v c.args.reaches.now c.copy_row.new.reaches c.requires.names (c.requires.filled.rows j o h) e (rw c.loop-other.invariant.1 at c.copy_row.ensures), c.requires.queue)
-
-pub loop-other-smaller : goal.loop-other-smaller
-loop-other-smaller c = omega (arith, c.loop-other-test.true)
-
-pub loop-other-preserved : goal.loop-other-preserved
-loop-other-preserved c = (omega (arith, c.loop-other.invariant.0), c.loop-other.invariant.1)
-
-pub search_row-requires : goal.search_row-requires
-search_row-requires c =
-    (c.requires.block, c.requires.receiver, record { size = ap length c.loop-other.invariant.1 ∙ c.requires.filled.size; queue = c.requires.queue })
-
-pub shape_of-reaches : goal.shape_of-reaches
-shape_of-reaches c = c.search_row.auto.reaches ∙ ap length c.loop-other.invariant.1
-
-pub shape_of-waiting : goal.shape_of-waiting
-shape_of-waiting c = c.search_row.auto.waiting
-
-pub returns : goal.returns
-returns c = rw c.loop-other.invariant.1 at c.search_row.ensures
+    (row_copied c.args.table.now (decode b) c.args.set n j v c.args.reaches.now c.copy_row.new.reaches c.requires.names (c.requires.filled.rows j o h) e (rw c.loop-other.invariant at c.copy_row.ensures), c.requires.queue)

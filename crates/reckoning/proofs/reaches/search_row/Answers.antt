@@ -1,5 +1,4 @@
 -- `reckoning::search_row` writes the reaches of one receiver into its row. Assumes nothing.
-use borrow.Author.Rules.{rules}
 use mathlib.Core.Path.{◌≡◌, ◌∙◌}
 use Prim.Native.Nat.{◌+◌, ◌*◌, ◌-◌, ◌≤◌}
 use native.Mathlib.Omega.{arith}
@@ -26,9 +25,6 @@ room b receiver reaches bytes formed small size = omega (arith, (rules_of b byte
 
 pub slice_bounds-limits_by-end : goal.slice_bounds-limits_by-end
 slice_bounds-limits_by-end c = omega (arith, room c.args.block.now c.args.receiver c.args.reaches.now (fits_bytes c.args.block.now c.type_inv.block) c.requires.0.block.formed c.requires.1 c.requires.2.size)
-
-pub limits_by-requires : goal.limits_by-requires
-limits_by-requires c = (search rules, search rules, record { lists = search rules; queue = search rules })
 
 pub returns : goal.returns
 returns c =

@@ -1,4 +1,4 @@
--- `refusals::no_place` joins the tests of 11 and 12. Assumes nothing.
+-- `refusals::no_place` makes the tests of 11 and 12. Assumes nothing.
 use native.Mathlib.Omega.{arith}
 use Rattle.rules.specs.Register.{granted}
 use Rattle.block.proofs.Bytes.{fits_bytes}
@@ -21,7 +21,7 @@ find-k-requires c = rw c.count-count.ensures (has_records c.args.block.now (fits
 pub returns-then-k-count : goal.returns-then-k-count
 returns-then-k-count c =
     rw (c.tested.ensures, c.count-count.ensures)
-    (place_missing c.args.block.now (fits_bytes c.args.block.now c.shared_slice_known-1.given) c.requires.formed (let a = c.args in granted a.giver a.receiver a.weight a.need a.bar a.kind) c.args.n c.find-k.result (rw (← c.count-count.ensures) c.find-k.ensures) (rw (← c.count-count.ensures) c.if-k-count.true))
+    (place_missing c.args.block.now (fits_bytes c.args.block.now c.shared_slice_known-1.given) c.requires.formed (let a = c.args in granted a.giver a.receiver a.weight a.need a.bar a.kind) c.find-k.result (rw (← c.count-count.ensures) c.find-k.ensures) (rw (← c.count-count.ensures) c.if-k-count.true))
 
 pub is_raise-requires : goal.is_raise-requires
 is_raise-requires c =
@@ -31,4 +31,4 @@ is_raise-requires c =
 pub returns : goal.returns
 returns c =
     rw (c.tested-2.ensures, c.is_raise.ensures)
-    (place_found c.args.block.now (fits_bytes c.args.block.now c.shared_slice_known-1.given) c.requires.formed (let a = c.args in granted a.giver a.receiver a.weight a.need a.bar a.kind) c.args.n c.find-k.result (rw (← c.count-count.ensures) c.find-k.ensures) (rw (← c.count-count.ensures) c.if-k-count.false))
+    (place_found c.args.block.now (fits_bytes c.args.block.now c.shared_slice_known-1.given) c.requires.formed (let a = c.args in granted a.giver a.receiver a.weight a.need a.bar a.kind) c.find-k.result (rw (← c.count-count.ensures) c.find-k.ensures) (rw (← c.count-count.ensures) c.if-k-count.false))

@@ -1,10 +1,7 @@
--- `refusals::not_below` joins the test of 15. Assumes nothing.
-use mathlib.Core.Path.{sym, ap, ◌∙◌}
-use mathlib.Core.Bool.{Bool}
-use native.Mathlib.Omega.{arith}
+-- `refusals::not_below` is the test of 15. Assumes nothing.
+use Rattle.std.proofs.Common.{sym, ap, ◌∙◌, Bool, cond, arith}
 use Rattle.block.proofs.Bytes.{fits_bytes}
 use Rattle.block.proofs.Held.{size_held, count_most}
-use Rattle.refusals.specs.Joined.{or_else}
 use Rattle.refusals.proofs.CutHolding.{below_missing, below_found}
 use Rattle.refusals.proofs.held.not_below.Goals as goal
 
@@ -20,8 +17,7 @@ find-k-requires c =
 pub returns-then-k-count : goal.returns-then-k-count
 returns-then-k-count c =
     let b = c.args.block.now in
-    c.tested.ensures
-    ∙ ap (λ (x : Bool). or_else c.args.n (15, x))
+    ap (λ (x : Bool). cond x 15 0)
     (sym (below_missing b (fits_bytes b c.shared_slice_known-1.given) c.requires.0 c.args.giver c.args.receiver c.find-k.result (rw (← c.count-count.ensures) c.find-k.ensures) (rw (← c.count-count.ensures) c.if-k-count.true) c.args.weight))
 
 pub weight-requires : goal.weight-requires
@@ -33,6 +29,6 @@ weight-requires c =
 pub returns : goal.returns
 returns c =
     let b = c.args.block.now in
-    c.tested-2.ensures
-    ∙ ap (λ (x : Bool). or_else c.args.n (15, x))
+    c.tested.ensures
+    ∙ ap (λ (x : Bool). cond x 15 0)
     (sym (below_found b (fits_bytes b c.shared_slice_known-1.given) c.requires.0 c.args.giver c.args.receiver c.find-k.result (rw (← c.count-count.ensures) c.find-k.ensures) (rw (← c.count-count.ensures) c.if-k-count.false) c.args.weight c.weight.result c.weight.ensures))

@@ -1,7 +1,8 @@
--- `refusals::enrol_passed` is the first refusal of an enrolment by what was passed. Assumes nothing.
+-- `refusals::enrol_passed` makes the tests of `passed` in their order. Assumes nothing.
+use Rattle.std.proofs.Common.{rules}
 use Rattle.rules.specs.Refusal.{passed}
 use Rattle.refusals.proofs.passed.enrol_passed.Goals as goal
 
 pub returns : goal.returns
 unfolding passed
-returns c = c.no_marks.ensures
+returns c = search rules

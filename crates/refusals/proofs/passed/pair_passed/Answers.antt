@@ -1,14 +1,16 @@
--- `refusals::pair_passed` is the first refusal of a call that names a pair by what was passed. Assumes nothing.
-use mathlib.Core.Path.{◌∙◌}
-use mathlib.Core.List.{[], ◌∷◌}
-use lib.Dec.{ltb}
-use Rattle.rules.specs.Refusal.{no_subject, equal_pair, to_owner, passed}
-use Rattle.refusals.proofs.Joining.{joined_first, any_tests}
+-- `refusals::pair_passed` makes the tests of `passed` in their order. Assumes nothing.
+use Rattle.std.proofs.Common.{rules}
+use Rattle.rules.specs.Refusal.{passed}
 use Rattle.refusals.proofs.passed.pair_passed.Goals as goal
+
+pub returns-in_err-no_subject : goal.returns-in_err-no_subject
+unfolding passed
+returns-in_err-no_subject c = search rules
+
+pub returns-in_err-equal_pair : goal.returns-in_err-equal_pair
+unfolding passed
+returns-in_err-equal_pair c = search rules
 
 pub returns : goal.returns
 unfolding passed
-returns c =
-    let a = c.args in
-    rw (c.to_owner.ensures, c.equal_pair-n.ensures, c.no_subject-n-2.ensures, c.no_subject-n.ensures)
-    (joined_first (no_subject (a.giver ∷ []) ∷ no_subject (a.receiver ∷ []) ∷ equal_pair a.giver a.receiver ∷ to_owner a.receiver ∷ []) tt ∙ any_tests 2 (λ x. ltb 63 x) (a.giver ∷ a.receiver ∷ []) (equal_pair a.giver a.receiver ∷ to_owner a.receiver ∷ []))
+returns c = search rules

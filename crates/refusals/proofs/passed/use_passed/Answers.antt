@@ -1,7 +1,8 @@
--- `refusals::use_passed` is the first refusal of a use by what was passed. Assumes nothing.
+-- `refusals::use_passed` makes the tests of `passed` in their order. Assumes nothing.
+use Rattle.std.proofs.Common.{rules}
 use Rattle.rules.specs.Refusal.{passed}
 use Rattle.refusals.proofs.passed.use_passed.Goals as goal
 
 pub returns : goal.returns
 unfolding passed
-returns c = c.no_subject.ensures
+returns c = search rules

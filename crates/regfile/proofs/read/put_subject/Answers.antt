@@ -1,28 +1,32 @@
 -- `regfile::put_subject` stores a subject's row, or no well-formed register has it there. Assumes nothing.
 use mathlib.Core.Path.{sym, ap, ◌∙◌}
+use Prim.Native.Nat.{ℕ}
 use lib.IntN.{pos}
+use Rattle.std.specs.Prelude.{Ok, Err}
+use Rattle.regfile.specs.FileText.{value_at}
 use native.Mathlib.Omega.{arith}
 use Rattle.block.proofs.Fitting.{fitting_size}
-use Rattle.regfile.proofs.Storing.{Next, subject_full, subject_other, subject_large, subject_beyond, added_held, subject_plain, subject_gone, column_held, column_plain}
+use Rattle.regfile.proofs.Storing.{Next, subject_full, subject_other, subject_large, subject_beyond, added_held, subject_plain, subject_gone, column_held, column_plain, column_is, column_cases}
 use Rattle.regfile.proofs.read.put_subject.Goals as goal
 use Rattle.regfile.proofs.read.put_subject.Goals.{After-add_subject}
 
 -- ── the row is stored: what is known of its values ──
 module _ (d : After-add_subject) where
-  known : Next d.args.b.now d.args.row.now d.subjects-n.result d.unsigned-marks.result d.unsigned-retired.result
+  known : Next d.args.b.now d.args.row.now d.subjects-n.result d.in-Ok.marks d.unsigned-retired.result
   known =
       let row = d.args.row.now in
       let held = column_held row d.requires.2 in
       let n = d.subjects-n in
       let u = d.unsigned-subject in
+      let m = column_cases row d.requires.2 1 (omega (arith, d.requires.1)) {E = ℕ} 16 (Ok d.in-Ok.marks) d.in-Ok.ensures in
       record {
         size = d.requires.1;
-        number = ap pos (sym d.if-subject-n.false) ∙ u.ensures ∙ held 0 (omega (arith, d.requires.1));
-        marks = d.unsigned-marks.ensures ∙ held 1 (omega (arith, d.requires.1));
+        number = ap pos (sym (d.if-subject-from.false ∙ d.from.ensures)) ∙ u.ensures ∙ held 0 (omega (arith, d.requires.1));
+        marks = ap pos m.1 ∙ column_is row d.requires.2 1 (omega (arith, d.requires.1));
         retired = d.unsigned-retired.ensures ∙ held 2 (omega (arith, d.requires.1));
         next = n.ensures;
         room = omega (arith, d.if-n-ge-MOST_SUBJECTS.false, n.ensures);
-        small = omega (arith, d.if-marks-gt-TWO_BYTES_MOST.false);
+        small = omega (arith, m.0, m.1);
         few = omega (arith, d.if-retired-gt1.false);
       }
 
@@ -36,21 +40,18 @@ returns-then-n-ge-MOST_SUBJECTS c =
 pub unsigned-subject-requires : goal.unsigned-subject-requires
 unsigned-subject-requires c = column_plain c.args.row.now c.requires.2 0 (omega (arith, c.requires.1))
 
-pub returns-then-subject-n : goal.returns-then-subject-n
-returns-then-subject-n c =
+pub returns-then-subject-from : goal.returns-then-subject-from
+returns-then-subject-from c =
     let row = c.args.row.now in
     let u = c.unsigned-subject in
     let n = c.subjects-n in
-    subject_other c.args.b.now c.requires.0 row u.result (u.ensures ∙ column_held row c.requires.2 0 (omega (arith, c.requires.1))) (λ e. c.if-subject-n.true (e ∙ sym n.ensures))
+    subject_other c.args.b.now c.requires.0 row u.result (u.ensures ∙ column_held row c.requires.2 0 (omega (arith, c.requires.1))) (λ e. c.if-subject-from.true (e ∙ sym n.ensures ∙ sym c.from.ensures))
 
-pub unsigned-marks-requires : goal.unsigned-marks-requires
-unsigned-marks-requires c = column_plain c.args.row.now c.requires.2 1 (omega (arith, c.requires.1))
-
-pub returns-then-marks-gt-TWO_BYTES_MOST : goal.returns-then-marks-gt-TWO_BYTES_MOST
-returns-then-marks-gt-TWO_BYTES_MOST c =
+pub returns-in_default : goal.returns-in_default
+returns-in_default c =
     let row = c.args.row.now in
-    let u = c.unsigned-marks in
-    subject_large c.args.b.now c.requires.0 row u.result (u.ensures ∙ column_held row c.requires.2 1 (omega (arith, c.requires.1))) c.if-marks-gt-TWO_BYTES_MOST.true
+    let m = column_cases row c.requires.2 1 (omega (arith, c.requires.1)) {E = ℕ} 16 (Err 0) c.in_default.ensures in
+    subject_large c.args.b.now c.requires.0 row (value_at row 1) (column_is row c.requires.2 1 (omega (arith, c.requires.1))) (omega (arith, m))
 
 pub unsigned-retired-requires : goal.unsigned-retired-requires
 unsigned-retired-requires c = column_plain c.args.row.now c.requires.2 2 (omega (arith, c.requires.1))

@@ -12,16 +12,16 @@ pub write_bytes-subjects-requires : goal.write_bytes-subjects-requires
 unfolding subject_names
 write_bytes-subjects-requires c = names_room (decode c.args.b.now) c.args.buf.now c.requires.1
 
-pub subjects-enrolled-requires : goal.subjects-enrolled-requires
-subjects-enrolled-requires c =
-    omega (arith, has_head c.args.b.now (fits_bytes c.args.b.now c.shared_slice_known-1.given) c.requires.0)
+pub subjects-requires : goal.subjects-requires
+subjects-requires c =
+    omega (arith, has_head c.args.b.now (fits_bytes c.args.b.now c.type_inv.b) c.requires.0)
 
 pub write_rows-names-requires : goal.write_rows-names-requires
 unfolding subject_names
 write_rows-names-requires c =
     let a = c.write_bytes-subjects in (
       c.requires.0,
-      c.subjects-enrolled.ensures ∙ sym (subject_count c.args.b.now (fits_bytes c.args.b.now c.shared_slice_known-1.given) c.requires.0),
+      c.from-enrolled.ensures ∙ c.subjects.ensures ∙ sym (subject_count c.args.b.now (fits_bytes c.args.b.now c.type_inv.b) c.requires.0),
       subjects_room (decode c.args.b.now) c.args.buf.now c.requires.1 a.result a.new.buf a.ensures,
     )
 
@@ -34,7 +34,7 @@ write_bytes-delegations-requires c =
 
 pub count-requires : goal.count-requires
 count-requires c =
-    has_head c.args.b.now (fits_bytes c.args.b.now c.shared_slice_known-1.given) c.requires.0
+    has_head c.args.b.now (fits_bytes c.args.b.now c.type_inv.b) c.requires.0
 
 pub write_rows-requires : goal.write_rows-requires
 unfolding subject_names delegation_names
@@ -43,7 +43,7 @@ write_rows-requires c =
     let d = c.write_rows-names in
     let e = c.write_bytes-delegations in (
       c.requires.0,
-      c.count.ensures ∙ sym (delegation_count c.args.b.now (fits_bytes c.args.b.now c.shared_slice_known-1.given) c.requires.0),
+      c.count.ensures ∙ sym (delegation_count c.args.b.now (fits_bytes c.args.b.now c.type_inv.b) c.requires.0),
       delegations_room (decode c.args.b.now) c.args.buf.now c.requires.1 a.result a.new.buf a.ensures d.result d.new.buf d.ensures e.result e.new.buf e.ensures,
     )
 

@@ -32,5 +32,5 @@ pub returns : goal.returns
 returns c =
     let o = c.settled-o in
     let a = c.args in
-    rw (c.answered.ensures, to_z_pos w32 {n = o.result.dropped} (omega (arith, (few (goal.at.returns c).After-settled-o).0)), to_z_pos w32 {n = o.result.lowered} (omega (arith, (few (goal.at.returns c).After-settled-o).1)), to_z_pos w32 {n = o.result.rounds} (omega (arith, (few (goal.at.returns c).After-settled-o).2)))
+    rw (c.new.ensures, to_z_pos w32 {n = o.result.dropped} (omega (arith, (few (goal.at.returns c).After-settled-o).0)), to_z_pos w32 {n = o.result.lowered} (omega (arith, (few (goal.at.returns c).After-settled-o).1)), to_z_pos w32 {n = o.result.rounds} (omega (arith, (few (goal.at.returns c).After-settled-o).2)))
     (settled_cut a.table.now a.block.now (decode a.block.now) o.result o.new.block o.ensures)

@@ -1,5 +1,4 @@
 -- `rounds::counts` compares two registers as `dropped` and `lowered` do. Assumes nothing.
-use Prim.Native.Nat.{◌-◌}
 use Rattle.block.proofs.Held.{Holds}
 use Rattle.rounds.proofs.Counting.{Compared}
 use Rattle.rounds.proofs.counted.counts.Given as goal
@@ -7,6 +6,3 @@ use Rattle.rounds.proofs.counted.counts.Given as goal
 abbrev pub invariant-loop-k : goal.invariant-loop-k
 invariant-loop-k l =
     Holds l.before l.n × Holds l.after l.m × Compared l.before l.after l.j l.k l.dropped l.lowered
-
-abbrev pub decreases-loop-k : goal.decreases-loop-k
-decreases-loop-k l = l.n - l.k

@@ -12,6 +12,3 @@ records-requires c = has_records c.args.block.now (fits_bytes c.args.block.now c
 pub fill_starts-requires : goal.fill_starts-requires
 fill_starts-requires c =
     rw c.records.ensures (let lent = lent_held c.args.block.now (fits_bytes c.args.block.now c.type_inv.block) c.requires.0 steps steps_rule in (lent.few, lent.rising, c.requires.1))
-
-pub returns : goal.returns
-returns c = rw c.records.ensures at c.fill_starts.ensures

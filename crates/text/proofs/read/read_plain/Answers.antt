@@ -1,20 +1,12 @@
 -- `text::read_plain` reads a number without sign. Assumes nothing.
-use mathlib.Core.Path.{◌≡◌, ap}
-use mathlib.Core.Bool.{true}
-use borrow.Author.Tests.{not-true, not-false}
-use lib.IntN.{ℤ}
 use Rattle.text.proofs.Signed.{held}
-use Rattle.text.proofs.Values.{value_at, plain_none, plain_some}
+use Rattle.text.proofs.Values.{plain_none, plain_some}
 use Rattle.text.proofs.read.read_plain.Goals as goal
 
-pub returns-then-not-n : goal.returns-then-not-n
-returns-then-not-n c =
-    let a = c.args in
-    plain_none a.text.now a.at a.end c.read_number-n.result c.read_number-n.ensures _ (not-true _ c.if-not-n.true) c.no_value.ensures
+pub returns-in_err-n : goal.returns-in_err-n
+returns-in_err-n c = rw c.from_residual.ensures (plain_none c.args.text.now c.args.at c.args.end c.in_err-n.ensures)
 
 pub returns : goal.returns
 returns c =
-    let a = c.args in
-    let n = c.read_number-n in
-    let f : n.result.found ≡ true = not-false _ c.if-not-n.false in
-    plain_some a.text.now a.at a.end n.result n.ensures _ f (ap (λ (z : ℤ). value_at z n.result.next) (held c.plain.ensures (n.ensures.read f).0))
+    let m = c.in_ok-n.ensures in
+    rw (held c.from.ensures m.read.0) (plain_some c.args.text.now c.args.at c.args.end c.in_ok-n.n m)

@@ -1,0 +1,48 @@
+-- `register::revoke_lent` makes a cut. Assumes nothing.
+use Rattle.std.proofs.Common.{refl, sym, ap, subst, Ok, rules}
+use Rattle.rules.specs.Table.{TableRule}
+use Rattle.rules.specs.Refused.{refused_with}
+use Rattle.refusals.proofs.First.{number_some, told}
+use Rattle.register.specs.Answer.{answer_of}
+use native.Mathlib.Omega.{arith}
+use Rattle.rules.specs.Call.{Call, revoke}
+use Rattle.rules.specs.Cut.{cutting, removal}
+use Rattle.block.specs.Block.{decode}
+use Rattle.block.proofs.Bytes.{fits_bytes}
+use Rattle.steptable.specs.Lent.{given_by}
+use Rattle.refusals.proofs.CutHolding.{revoke_stands}
+use Rattle.register.proofs.CutWays.{cut_refused, CutThrough, cut_past, changed_block, cut_done}
+use Rattle.register.proofs.lent.revoke_lent.Goals as goal
+use Rattle.register.proofs.lent.revoke_lent.Goals.{In_ok-steps, Start}
+
+abbrev call : Start → Call
+call s = revoke s.args.by s.args.giver s.args.receiver
+
+past : (c : In_ok-steps) → let a = c.args in CutThrough (given_by a.table.now) a.block.now (revoke c.args.by c.args.giver c.args.receiver) (cutting (removal c.args.giver c.args.receiver))
+past c =
+    cut_past c.requires (fits_bytes c.args.block.now c.slice_known-1.given) refl (c.revoke_allowed.ensures.refusal (given_by c.args.table.now).steps) (ap refused_with c.in_ok-steps.was)
+
+pub returns-in_err-steps : goal.returns-in_err-steps
+returns-in_err-steps c =
+    let g = given_by c.args.table.now in
+    search (rules, cut_refused g (call (goal.at.returns-in_err-steps c).Start) c.args.block.now _ (told (c.revoke_allowed.ensures.refusal g.steps) c.in_err-steps.was) (number_some _))
+
+pub overflow_cast-giver : goal.overflow_cast-giver
+overflow_cast-giver c = omega (arith, (past (goal.at.overflow_cast-giver c).In_ok-steps).through.numbers.1.0)
+
+pub overflow_cast-receiver : goal.overflow_cast-receiver
+overflow_cast-receiver c = omega (arith, (past (goal.at.overflow_cast-receiver c).In_ok-steps).through.numbers.1.1.0)
+
+pub remove-requires : goal.remove-requires
+remove-requires c =
+    let a = c.args in
+    ((past (goal.at.remove-requires c).In_ok-steps).through.early.formed, revoke_stands (given_by a.table.now).steps (decode a.block.now) a.by a.giver a.receiver (past (goal.at.remove-requires c).In_ok-steps).through.held)
+
+pub settle-requires : goal.settle-requires
+settle-requires c =
+    (changed_block (past (goal.at.settle-requires c).In_ok-steps) c.remove.ensures, subst TableRule (sym c.in_ok-steps.ensures.steps) c.requires)
+
+pub returns : goal.returns
+returns c =
+    let o = c.settle in
+    cut_done (past (goal.at.returns c).In_ok-steps) c.remove.ensures (answer_of (Ok o.result)) o.new.block c.in_ok-steps.ensures.steps o.ensures
