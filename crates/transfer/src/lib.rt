@@ -1,7 +1,9 @@
 // The register as a file: written as text into a lent buffer, and read from text into a block of any content.
 #![tactic(auto)]
 
-ghost use Rattle.std.specs.Prelude.{◌≡◌, IfOk};
+ghost use Rattle.std.specs.Prelude.{◌≡◌, [], IfOk};
+ghost use Rattle.std.specs.Option.{unwrap_or, option_copied_mut};
+ghost use Rattle.std.specs.Result.{result_ok};
 ghost use Rattle.rules.specs.Refused.{refused_with};
 ghost use Rattle.register.specs.Answer.{answer_of};
 ghost use Rattle.transfer.specs.Filled.{filled_of};
@@ -35,6 +37,7 @@ pub fn write_file(block: &[u8], buf: &mut [u8]) -> Result<usize, Refusal>
 pub fn file<'a>(block: &[u8], buf: &'a mut [u8]) -> Result<&'a mut [u8], Refusal>
     ensures refusal { refused_with result ≡ write_refusal block.now buf.old }
     ensures front { IfOk result (λ part. WriteFront block.now buf.old 0 part.now × (part.ref_ptr ≡ buf.entry.ref_ptr)) }
+    ensures outcome { WriteFront block.now buf.old (refused_with result) (unwrap_or (option_copied_mut (result_ok result)) []) }
 {
     let length = write_file(block, buf)?;
     Ok(&mut buf[..length])
