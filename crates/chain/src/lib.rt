@@ -4,7 +4,9 @@
 mod held;
 mod links;
 
-ghost use Rattle.std.specs.Prelude.{◌≡◌, IfOk};
+ghost use Rattle.std.specs.Prelude.{◌≡◌, [], IfOk};
+ghost use Rattle.std.specs.Option.{unwrap_or, option_copied_mut};
+ghost use Rattle.std.specs.Result.{result_ok};
 ghost use Rattle.rules.specs.Refused.{refused_with};
 ghost use Rattle.steptable.specs.TableText.{ours, given};
 ghost use Rattle.steptable.specs.Lent.{given_by, KeepsRule};
@@ -73,6 +75,7 @@ pub fn chain<'a>(
 ) -> Result<&'a mut [u8], Refusal>
     ensures refusal { refused_with result ≡ chain_refusal_on ours block.now giver receiver buf.old }
     ensures front { IfOk result (λ part. ChainFront ours block.now giver receiver buf.old 0 part.now × (part.ref_ptr ≡ buf.entry.ref_ptr)) }
+    ensures outcome { ChainFront ours block.now giver receiver buf.old (refused_with result) (unwrap_or (option_copied_mut (result_ok result)) []) }
 {
     let links = write_chain(block, giver, receiver, buf)?;
     Ok(&mut buf[..LINK_SIZE * links])
@@ -87,6 +90,7 @@ pub fn chain_table<'a>(
 ) -> Result<&'a mut [u8], Refusal>
     ensures refusal { refused_with result ≡ chain_refusal_on (given table.now) block.now giver receiver buf.old }
     ensures front { IfOk result (λ part. ChainFront (given table.now) block.now giver receiver buf.old 0 part.now × (part.ref_ptr ≡ buf.entry.ref_ptr)) }
+    ensures outcome { ChainFront (given table.now) block.now giver receiver buf.old (refused_with result) (unwrap_or (option_copied_mut (result_ok result)) []) }
 {
     let links = write_chain_table(block, giver, receiver, table, buf)?;
     Ok(&mut buf[..LINK_SIZE * links])

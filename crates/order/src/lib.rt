@@ -1,7 +1,9 @@
 // Document 02's order call: from whom a right can come to a receiver, heaviest first, written into a lent buffer; by document 01's own step table, or by one that the host lends as text.
 #![tactic(auto)]
 
-ghost use Rattle.std.specs.Prelude.{◌≡◌, ◌++◌, ◌*◌, length, take, drop, IfOk};
+ghost use Rattle.std.specs.Prelude.{◌≡◌, [], ◌++◌, ◌*◌, length, take, drop, IfOk};
+ghost use Rattle.std.specs.Option.{unwrap_or, option_copied_mut};
+ghost use Rattle.std.specs.Result.{result_ok};
 ghost use Rattle.rules.specs.Table.{TableRule};
 ghost use Rattle.rules.specs.Refused.{refused_with};
 ghost use Rattle.block.specs.Block.{decode};
@@ -71,6 +73,7 @@ pub fn order<'a>(
 ) -> Result<&'a mut [u8], Refusal>
     ensures refusal { refused_with result ≡ order_refusal_on (given table.now) block.now receiver buf.old }
     ensures front { IfOk result (λ part. OrderFront (given table.now) block.now receiver buf.old 0 part.now × (part.ref_ptr ≡ buf.entry.ref_ptr)) }
+    ensures outcome { OrderFront (given table.now) block.now receiver buf.old (refused_with result) (unwrap_or (option_copied_mut (result_ok result)) []) }
 {
     let subjects = write_order(block, receiver, table, buf)?;
     Ok(&mut buf[..ITEM_SIZE * subjects])
