@@ -26,7 +26,7 @@ pub record ChainLeft (t : List ℤ) (R : Register) (g r : ℕ) (w : ℤ) (n : �
 abbrev pub ChainMade : Given → List ℕ → ℕ → ℕ → List ℕ → ChainAnswer → List ℕ → Type 0
 ChainMade k b g r before o after = ChainLeft k.steps (decode b) g r (weight_at (decode b).delegations g r) (chain_refusal_on k b g r before) before o after
 
--- what the chain call tells and hands back where it hands back the front: the refusal n; an empty part where refused, else the bytes of such a chain
+-- what the chain call tells and hands back where it hands back the front: the refusal n; no bytes where refused, else those of such a chain
 pub record ChainFront (k : Given) (b : List ℕ) (g r : ℕ) (before : List ℕ) (n : ℕ) (part : List ℕ) : Type 0 where
   pub refusal : n ≡ chain_refusal_on k b g r before
   pub refused : n ≢ 0 → part ≡ []

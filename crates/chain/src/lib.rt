@@ -66,7 +66,7 @@ pub fn write_chain_table(
     write_chain_by(block, &read_table(table), giver, receiver, buf)
 }
 
-// The same two: hand back the filled front of `buf`.
+// The same two: hand back the filled front of `buf`, nothing where refused.
 pub fn chain<'a>(
     block: &[u8],
     giver: u32,

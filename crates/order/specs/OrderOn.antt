@@ -30,7 +30,7 @@ pub record OrderMade (k : Given) (b : List ℕ) (v : ℕ) (before : List ℕ) (o
 abbrev pub IsOrderBytes : Given → List ℕ → ℕ → List ℕ → Type 0
 IsOrderBytes k b v s = (ws : List ℕ) × IsOrder k.steps (decode b) v ws × (s ≡ order_bytes k.steps (decode b) v ws)
 
--- what it tells and hands back where it hands back the front: the refusal n; an empty part where refused, else the bytes of the order
+-- what it tells and hands back where it hands back the front: the refusal n; no bytes where refused, else those of the order
 pub record OrderFront (k : Given) (b : List ℕ) (v : ℕ) (before : List ℕ) (n : ℕ) (part : List ℕ) : Type 0 where
   pub refusal : n ≡ order_refusal_on k b v before
   pub refused : n ≢ 0 → part ≡ []

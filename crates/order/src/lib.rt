@@ -64,7 +64,7 @@ pub fn write_order(
     Ok(write_found(block, steps, receiver as usize, buf))
 }
 
-// The same: hands back the filled front of `buf`.
+// The same: hands back the filled front of `buf`, nothing where refused.
 pub fn order<'a>(
     block: &[u8],
     receiver: u32,

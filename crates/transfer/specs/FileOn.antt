@@ -30,7 +30,7 @@ pub record WriteMade (b before : List ℕ) (o : Filled) (after : List ℕ) : Typ
   -- an accepted one writes the text of the register; the bytes past it don't change
   pub text : o.refusal ≡ 0 → (o.length ≡ length (file_text (decode b))) × (after ≡ file_text (decode b) ++ drop o.length before)
 
--- what it tells and hands back where it hands back the front: the refusal n; an empty part where refused, else the text
+-- what it tells and hands back where it hands back the front: the refusal n; no bytes where refused, else the text
 pub record WriteFront (b before : List ℕ) (n : ℕ) (part : List ℕ) : Type 0 where
   pub refusal : n ≡ write_refusal b before
   pub refused : n ≢ 0 → part ≡ []

@@ -33,7 +33,7 @@ pub fn write_file(block: &[u8], buf: &mut [u8]) -> Result<usize, Refusal>
     Ok(regfile::render(block, buf))
 }
 
-// The same: hands back the filled front of `buf`.
+// The same: hands back the filled front of `buf`, nothing where refused.
 pub fn file<'a>(block: &[u8], buf: &'a mut [u8]) -> Result<&'a mut [u8], Refusal>
     ensures refusal { refused_with result ≡ write_refusal block.now buf.old }
     ensures front { IfOk result (λ part. WriteFront block.now buf.old 0 part.now × (part.ref_ptr ≡ buf.entry.ref_ptr)) }

@@ -1,5 +1,5 @@
 -- `chain::chain_table` hands back the front of the buffer that it filled. Assumes nothing.
-use Rattle.std.proofs.Common.{◌≤◌, ◌*◌, length, sym, ap, subst, arith}
+use Rattle.std.proofs.Common.{◌≡◌, ◌≤◌, ◌*◌, length, sym, ap, subst, Ok, arith, rules}
 use lib.Seq.{length-take-le}
 use Rattle.steptable.specs.TableText.{given}
 use Rattle.chain.specs.Answer.{ChainAnswer, chain_answer}
@@ -11,11 +11,12 @@ use Rattle.chain.proofs.chain_table.Goals.{In_ok-links}
 fits : (c : In_ok-links) → 2 * c.in_ok-links.links ≤ length c.write_chain_table.new.buf
 fits c =
     let a = c.args in
-    let made = subst (λ (o : ChainAnswer). ChainMade (given a.table.now) a.block.now a.giver a.receiver a.buf.now o c.write_chain_table.new.buf) (ap chain_answer c.in_ok-links.was) c.write_chain_table.ensures in
+    let was : c.write_chain_table.result ≡ Ok c.in_ok-links.links = search rules in
+    let made = subst (λ (o : ChainAnswer). ChainMade (given a.table.now) a.block.now a.giver a.receiver a.buf.now o c.write_chain_table.new.buf) (ap chain_answer was) c.write_chain_table.ensures in
     front_fits (given a.table.now) a.block.now a.giver a.receiver a.buf.now _ c.write_chain_table.new.buf made
 
 pub overflow_mul-buf : goal.overflow_mul-buf
 overflow_mul-buf c = omega (arith, fits (goal.at.overflow_mul-buf c).In_ok-links)
 
 pub slice_bounds-result-end : goal.slice_bounds-result-end
-slice_bounds-result-end c = sym (length-take-le _ _ (fits (goal.at.slice_bounds-result-end c).In_ok-links))
+slice_bounds-result-end c = sym (length-take-le _ _ (omega (arith, fits (goal.at.slice_bounds-result-end c).In_ok-links)))
