@@ -54,12 +54,19 @@ pub struct Outcome {
 
 impl From<Result<Answers, Refusal>> for Outcome {
     fn from(returned: Result<Answers, Refusal>) -> Outcome {
-        let (refusal, answers) = register::told(returned);
-        Outcome {
-            refusal,
-            first: answers.first,
-            second: answers.second,
-            third: answers.third,
+        match returned {
+            Ok(answers) => Outcome {
+                refusal: 0,
+                first: answers.first,
+                second: answers.second,
+                third: answers.third,
+            },
+            Err(refusal) => Outcome {
+                refusal: refusal as u32,
+                first: 0,
+                second: 0,
+                third: 0,
+            },
         }
     }
 }
@@ -80,7 +87,7 @@ impl Counted {
                 length: n.saturating_mul(size),
             },
             Err(refusal) => Counted {
-                refusal: refusal.number(),
+                refusal: refusal as u32,
                 length: 0,
             },
         }
