@@ -1,5 +1,6 @@
 -- Rows read one after another, as many as there are. Assumes nothing.
 use mathlib.Core.Path.{◌≡◌, refl, sym, ap, subst, ◌∙◌}
+use mathlib.Core.Logic.{◌≢◌}
 use mathlib.Core.Bool.{Bool, true, false}
 use mathlib.Core.List.{List, [], ◌∷◌, ◌++◌, append_assoc, append-nil}
 use Prim.Native.Nat.{ℕ, ◌-◌, ◌≤◌, ◌<◌}
@@ -14,12 +15,12 @@ use Rattle.block.specs.Fits.{Fitting}
 use Rattle.block.proofs.Fitting.{encode_fitting, decode_encode}
 use Rattle.text.specs.Text.{line, AllAllowed}
 use Rattle.text.specs.Read.{LineRead}
-use Rattle.std.specs.Prelude.{Some}
+use Rattle.std.specs.Prelude.{None, Some}
 use Rattle.text.proofs.Sizes.{line_long}
 use Rattle.regfile.specs.FileText.{rows_of, AreRows}
 use Rattle.regfile.specs.declared.Part.{Part}
 use Rattle.regfile.specs.declared.Part.TheVariants.{Subjects, Delegations}
-use Rattle.regfile.specs.Parsed.{with_row, with_rows, RowsHeld, Unformed, columns, RowPut}
+use Rattle.regfile.specs.Parsed.{with_row, with_rows, RowsHeld, Unformed, columns, RowPut, RowsRead}
 
 -- ── lists of rows ──
 rows_last : (w : ℕ) (rs : List (List ℤ)) (r : List ℤ) → AreRows w rs → length r ≡ w → AllAllowed false r → AreRows w (rs ++ (r ∷ []))
@@ -50,6 +51,19 @@ columns_some Delegations = omega arith
 
 module _ (text : List ℕ) (w : ℕ) (some : 1 ≤ w) (R : Register) (fits : Bool) where
   module _ (next : ℕ) (kept : Bool) (b : List ℕ) (g : Reading text w R fits next kept b) where
+    -- no line begins here
+    pub rows_end : ((row : List ℤ) (rest : List ℕ) → length row ≡ w → AllAllowed false row → drop next text ≢ line row ++ rest) → RowsRead text w R fits (record { next = next; fits = kept }) b
+    rows_end last = record { rows = g.rows; formed = g.formed; front = g.front; within = g.within; last = last; held = g.held; out = g.out }
+
+    -- the text ends here
+    pub text_end : length text ≤ next → RowsRead text w R fits (record { next = next; fits = kept }) b
+    text_end l = rows_end (λ row rest k a e.
+        absurd (omega (arith, ap length e, length-append (line row) rest, line_long row, k, some, length-drop next text, l)))
+
+    -- what is here is read as no line
+    pub no_row : (before after : List ℤ) → length before ≡ w → LineRead text next false before None after → RowsRead text w R fits (record { next = next; fits = kept }) b
+    no_row before after size m = rows_end (λ row rest k a e. m.each row rest (k ∙ sym size) a e)
+
     module _ (end : ℕ) (before after : List ℤ) (m : LineRead text next false before (Some end) after) (long : length after ≡ w) where
       pub row_within : end ≤ length text
       row_within =

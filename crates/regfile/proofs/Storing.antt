@@ -251,17 +251,25 @@ plain_is : (z : ℤ) → Allowed false z → z ≡ pos (plain_of z)
 plain_is (pos n) l = refl
 plain_is (negsuc n) l = absurd l
 
--- a row of six numbers without sign is that of a delegation
-pub six_of : (row : List ℤ) → length row ≡ 6 → AllAllowed false row → row ≡ delegation_row (delegation_of row)
-six_of [] h a = absurd (omega arith)
-six_of (x ∷ []) h a = absurd (omega arith)
-six_of (x ∷ y ∷ []) h a = absurd (omega arith)
-six_of (x ∷ y ∷ z ∷ []) h a = absurd (omega arith)
-six_of (x ∷ y ∷ z ∷ u ∷ []) h a = absurd (omega arith)
-six_of (x ∷ y ∷ z ∷ u ∷ v ∷ []) h a = absurd (omega arith)
-six_of (x ∷ y ∷ z ∷ u ∷ v ∷ w ∷ []) h a =
-    λ i. plain_is x a.0 i ∷ plain_is y a.1.0 i ∷ plain_is z a.1.1.0 i ∷ plain_is u a.1.1.1.0 i ∷ plain_is v a.1.1.1.1.0 i ∷ plain_is w a.1.1.1.1.1.0 i ∷ []
-six_of (x ∷ y ∷ z ∷ u ∷ v ∷ w ∷ c ∷ cs) h a = absurd (omega arith)
+-- a row of six plain numbers is that of a delegation
+pub six_of : (row : List ℤ) (d : Delegation) → length row ≡ 6 → pos d.giver ≡ get_or row 0 (pos 0) → pos d.receiver ≡ get_or row 1 (pos 0) → pos d.weight ≡ get_or row 2 (pos 0) → pos d.need ≡ get_or row 3 (pos 0) → pos d.bar ≡ get_or row 4 (pos 0) → pos d.kind ≡ get_or row 5 (pos 0)
+    → row ≡ delegation_row d
+six_of [] d h p q r s t o = absurd (omega arith)
+six_of (x ∷ []) d h p q r s t o = absurd (omega arith)
+six_of (x ∷ y ∷ []) d h p q r s t o = absurd (omega arith)
+six_of (x ∷ y ∷ z ∷ []) d h p q r s t o = absurd (omega arith)
+six_of (x ∷ y ∷ z ∷ u ∷ []) d h p q r s t o = absurd (omega arith)
+six_of (x ∷ y ∷ z ∷ u ∷ v ∷ []) d h p q r s t o = absurd (omega arith)
+six_of (x ∷ y ∷ z ∷ u ∷ v ∷ w ∷ []) d h p q r s t o = λ i. sym p i ∷ sym q i ∷ sym r i ∷ sym s i ∷ sym t i ∷ sym o i ∷ []
+six_of (x ∷ y ∷ z ∷ u ∷ v ∷ w ∷ c ∷ cs) d h p q r s t o = absurd (omega arith)
+
+-- a row of six numbers without sign is that of its delegation
+pub six_plain : (row : List ℤ) → length row ≡ 6 → AllAllowed false row → row ≡ delegation_row (delegation_of row)
+six_plain row h a =
+    six_of row (delegation_of row) h (is 0 (omega arith)) (is 1 (omega arith)) (is 2 (omega arith)) (is 3 (omega arith)) (is 4 (omega arith)) (is 5 (omega arith))
+  where
+    is : (i : ℕ) → i < length row → pos (value_at row i) ≡ get_or row i (pos 0)
+    is i l = sym (plain_is (get_or row i (pos 0)) (allowed_at false row i l a))
 
 module _ (b : List ℕ) (h : Fitting b) (row : List ℤ) where
   standing : (S : Register) (more : List (List ℤ)) → rows_of delegation_columns S ≡ (rows_of delegation_columns (decode b) ++ (row ∷ [])) ++ more → Stands (rows_of delegation_columns (decode b)) row (rows_of delegation_columns S) more

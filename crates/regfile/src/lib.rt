@@ -44,6 +44,6 @@ enum Part {
 }
 
 // The columns of a subject's line and of a delegation's.
-const SUBJECT_COLUMNS: usize = 3;
+pub const SUBJECT_COLUMNS: usize = 3;
 
-const DELEGATION_COLUMNS: usize = 6;
+pub const DELEGATION_COLUMNS: usize = 6;

@@ -4,7 +4,7 @@ use Rattle.rules.specs.Register.{Delegation, with_delegations}
 use Rattle.block.specs.Block.{decode, encode}
 use Rattle.block.proofs.Fitting.{fitting_size}
 use Rattle.regfile.specs.FileText.{delegation_of}
-use Rattle.regfile.proofs.Storing.{six_of, delegations_full, delegation_large, delegation_put}
+use Rattle.regfile.proofs.Storing.{six_plain, delegations_full, delegation_large, delegation_put}
 use Rattle.regfile.proofs.read.put_delegation.Goals as goal
 
 pub count-requires : goal.count-requires
@@ -17,11 +17,11 @@ returns-then-count-ge-MOST_RECORDS c =
 pub returns-in_default : goal.returns-in_default
 returns-in_default c =
     let row = c.args.row.now in
-    delegation_large c.args.b.now c.requires.0 row (delegation_of row) (six_of row c.requires.1 c.requires.2) c.in_default.ensures
+    delegation_large c.args.b.now c.requires.0 row (delegation_of row) (six_plain row c.requires.1 c.requires.2) c.in_default.ensures
 
 pub returns : goal.returns
 returns c =
     let b = c.args.b.now in
     let row = c.args.row.now in
-    delegation_put b c.requires.0 row (delegation_of row) (six_of row c.requires.1 c.requires.2) (omega (arith, c.if-count-ge-MOST_RECORDS.false, c.count.ensures)) c.in-Some.ensures.0 c.append.new.b
+    delegation_put b c.requires.0 row (delegation_of row) (six_plain row c.requires.1 c.requires.2) (omega (arith, c.if-count-ge-MOST_RECORDS.false, c.count.ensures)) c.in-Some.ensures.0 c.append.new.b
     (c.append.ensures ∙ ap (λ (d : Delegation). encode (with_delegations (decode b) ((decode b).delegations ++ (d ∷ [])))) c.in-Some.ensures.1)
