@@ -1,12 +1,13 @@
 -- A line: its first value, and the rest of it. It is read exactly where the text is its rendering. Assumes nothing.
 use mathlib.Core.Path.{◌≡◌, refl, sym, ap, ◌∙◌}
-use mathlib.Core.Bool.{Bool}
+use mathlib.Core.Bool.{Bool, true, false}
 use mathlib.Core.List.{List, [], ◌∷◌, ◌++◌, append_assoc, append-nil}
 use Prim.Native.Nat.{ℕ, zero, suc, ◌+◌, ◌-◌, ◌≤◌, ◌<◌}
 use native.Mathlib.Nat.{not-suc-le-zero, le_of_suc-le-suc}
 use native.Mathlib.Omega.{arith}
 use borrow.Author.Tests.{lt-ltb, le-ltb}
 use borrow.Rule.Slice.PartMut.{mid_of, put_mid, mid_len, put_same}
+use lib.Dec.{ltb}
 use lib.IntN.{ℤ, pos}
 use lib.ListN.{length, get_or, drop, set, length-append, length-drop, drop_of_length-le}
 use Rattle.text.specs.Text.{number, after, line, Allowed, AllAllowed}
@@ -28,6 +29,13 @@ line_cons z zs rest = append_assoc (number z) (after zs ∷ line zs) rest
 pub after_is : (zs : List ℤ) (i n : ℕ) → suc i + length zs ≡ n → column_end i n ≡ after zs
 after_is [] i n e = let l : n ≤ i + 1 = omega arith in rw (le-ltb (i + 1) n l)
 after_is (z ∷ zs) i n e = let l : i + 1 < n = omega arith in rw (lt-ltb (i + 1) n l)
+
+pub end_low : (i n : ℕ) → column_end i n < 48
+end_low i n = go (ltb (i + 1) n) refl
+  where
+    go : (x : Bool) → ltb (i + 1) n ≡ x → column_end i n < 48
+    go true e = rw e (omega arith)
+    go false e = rw e (omega arith)
 
 -- ── the first value, and the rest of the line ──
 module _ (text : List ℕ) (at : ℕ) (signed : Bool) (before : List ℤ) (h : 0 < length before) where

@@ -175,7 +175,7 @@ module _ (end : ℕ) (e : end < 48) where
       (g.0, omega (arith, g.2), rw (drop-drop, w) at g.3)
 
   -- the whole contract
-  number_read : (text : List ℕ) (at : ℕ) (r : Option (Found ℕ)) → r ≡ read_from end (drop at text) at → NumberRead text at end r
+  pub number_read : (text : List ℕ) (at : ℕ) (r : Option (Found ℕ)) → r ≡ read_from end (drop at text) at → NumberRead text at end r
   number_read text at r q = record {
     read = sound_read text at r (rw q (sound_from end (drop at text) at));
     each = λ n rest l d.
