@@ -90,5 +90,8 @@ pub fn lower_all(block: &[u8], reaches: &[i16], n: usize, weights: &mut [i16]) -
         changed |= lower_run(block, reaches, RUN * run, RUN, weights);
     }
     let rest = n % RUN;
+    if rest == 0 {
+        return changed;
+    }
     changed | lower_run(block, reaches, n - rest, rest, weights)
 }

@@ -14,6 +14,12 @@ loop-run-preserved c =
     let r = c.lower_run-changed in
     (r.auto.weights ∙ l.invariant.0, then_run a.reaches.now (delegation_at a.block.now) (run_size * l.run) run_size a.weights.now l.weights _ l.changed _ _ (omega arith) l.invariant.1 r.ensures)
 
+pub returns-then-rest-eq0 : goal.returns-then-rest-eq0
+returns-then-rest-eq0 c =
+    let l = c.loop-run in
+    let e : run_size * l.run ≡ c.args.n = omega (arith, c.if-rest-eq0.true) in
+    rw (← e) l.invariant.1
+
 pub returns : goal.returns
 returns c =
     let a = c.args in
