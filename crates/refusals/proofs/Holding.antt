@@ -1,22 +1,26 @@
 -- Refusals by what the register holds, test by test as the code makes them. Assumes nothing.
 use mathlib.Core.Path.{◌≡◌, refl, sym, ap, subst, ◌∙◌}
 use mathlib.Core.Logic.{◌⊎◌, inl, inr}
-use mathlib.Core.Bool.{Bool, true, false, not, ◌&&◌, ◌||◌}
-use mathlib.Core.List.{List, [], ◌∷◌}
+use mathlib.Core.Bool.{Bool, true, false, not, cond, ◌&&◌, ◌||◌}
+use mathlib.Core.List.{List, [], ◌∷◌, ◌++◌}
 use Prim.Native.Nat.{ℕ, suc, ◌≤◌, ◌<◌}
 use native.Mathlib.Omega.{arith}
-use borrow.Author.Tests.{lt-ltb, le-ltb}
-use lib.Dec.{T, leb, ltb, eqb, nleb→lt, ltb→lt, nltb→le}
+use borrow.Author.Tests.{lt-ltb, le-ltb, lt-leb}
+use lib.Dec.{T, leb, ltb, eqb, nleb→lt, ltb→lt, nltb→le, not_T}
 use lib.ListN.{length}
 use lib.IntN.{ℤ, pos}
 use lib.Signed.{lt_z}
+use Rattle.rules.specs.List.{any}
+use Rattle.rules.specs.Bits.{is_set}
 use Rattle.rules.specs.Limit.{none, code}
-use Rattle.rules.specs.Register.{Delegation, Register, granted, no_delegation}
+use Rattle.rules.specs.Register.{Delegation, Register, is_retired, granted, no_delegation}
 use Rattle.rules.specs.Reach.{reach}
 use Rattle.rules.specs.Pair.{is_pair, weight_at, stands, is_raise, raises}
+use Rattle.rules.specs.WellFormed.{WellFormed}
 use Rattle.rules.specs.Call.{grant}
-use Rattle.rules.specs.Refusal.{first_of, pair_stands, all_stand, overweight, held}
-use Rattle.rules.proofs.Lists.{either, T_true, not_or_left, second_not, any_mem}
+use Rattle.rules.specs.Refusal.{first_of, subjects_held, pair_stands, all_stand, overweight, held}
+use Rattle.rules.proofs.Lists.{either, T_true, unset, not_or_left, second_not, any_mem}
+use Rattle.rules.proofs.Bits.{bit_zero}
 use Rattle.rules.proofs.Refusals.{passes_of}
 use Rattle.rules.proofs.Support.{allowed_reach}
 use Rattle.block.specs.Bytes.{IsBytes, leading}
@@ -29,10 +33,38 @@ use Rattle.rules.proofs.Signed.{below_weight}
 use Rattle.rules.proofs.Granting.{raises_test, one_raised}
 use Rattle.rules.proofs.Pairs.{pair_test, test_pair}
 use Rattle.refusals.specs.Checked.{BothEnrolled}
+use Rattle.refusals.proofs.Joining.{joined, joined_first, any_tests}
 
 pub or_false : (x : Bool) → (x || false) ≡ x
 or_false true = refl
 or_false false = refl
+
+-- neither 9 nor 19 applies to the owner
+pub owner_held : (R : Register) → WellFormed R → (xs : List ℕ) → subjects_held R xs ≡ subjects_held R (0 ∷ xs)
+owner_held R f xs =
+    let enrolled : false ≡ leb R.subjects 0 = sym (lt-leb R.subjects 0 f.some) in
+    let unretired : false ≡ is_retired R 0 = sym (unset (is_retired R 0) (not_T (is_retired R 0) (λ h. (f.retired 0 h).1 refl))) in
+    λ j. (9, enrolled j || any (λ x. leb R.subjects x) xs) ∷ (19, unretired j || any (is_retired R) xs) ∷ []
+
+-- where nobody is retired, 9 alone
+pub held_unretired : (R : Register) (xs : List ℕ) → R.retired ≡ 0 → first_of ((9, any (λ v. leb R.subjects v) xs) ∷ []) ≡ first_of (subjects_held R xs)
+held_unretired R xs e = ap (λ (b : Bool). cond (any (λ v. leb R.subjects v) xs) 9 (cond b 19 0)) (sym (unretired xs))
+  where
+    unset_all : (v : ℕ) → is_retired R v ≡ false
+    unset_all v = ap (λ (n : ℕ). is_set n v) e ∙ ap (λ (n : ℕ). eqb n 1) (bit_zero v)
+
+    unretired : (vs : List ℕ) → any (is_retired R) vs ≡ false
+    unretired [] = refl
+    unretired (v ∷ vs) = λ j. unset_all v j || unretired vs j
+
+-- 9 and 19 of three subjects, tested one after another
+abbrev three : ℕ → (ℕ → Bool) → ℕ → ℕ → ℕ → List (ℕ × Bool)
+three n f x y z = (n, f x || false) ∷ (n, f y || false) ∷ (n, f z || false) ∷ []
+
+pub held_joined : (R : Register) (x y z : ℕ) → joined 0 (three 9 (λ v. leb R.subjects v) x y z ++ three 19 (is_retired R) x y z) ≡ first_of (subjects_held R (x ∷ y ∷ z ∷ []))
+held_joined R x y z =
+    joined_first (three 9 (λ v. leb R.subjects v) x y z ++ three 19 (is_retired R) x y z) tt ∙ any_tests 9 (λ v. leb R.subjects v) (x ∷ y ∷ z ∷ []) (three 19 (is_retired R) x y z)
+    ∙ ap (λ (n : ℕ). cond (any (λ v. leb R.subjects v) (x ∷ y ∷ z ∷ [])) 9 n) (any_tests 19 (is_retired R) (x ∷ y ∷ z ∷ []) [])
 
 -- the pair stands, as the code tests it
 pub stands_test : (b : List ℕ) (bytes : IsBytes b) (formed : well_formed b ≡ true) (g r k : ℕ) → k ≡ leading (λ d. not (is_pair g r d)) (delegations_to b (count_in b)) → ltb k (count_in b) ≡ stands (decode b) g r

@@ -27,7 +27,7 @@ fn stands(block: &[u8], giver: u32, receiver: u32) -> bool
     block::find(block, n, giver as u8, receiver as u8) < n
 }
 
-// 9 and 19 of the subjects that a call names: one is not enrolled; one is retired.
+// 9 and 19 of the subjects that a call names: one is not enrolled; one is retired. Where nobody is retired, 9 alone is tested.
 pub fn subjects_held(block: &[u8], subjects: &[u32]) -> Result<(), Refusal>
     requires { well_formed block.now ≡ true }
     ensures { refused_with result ≡ first_of (subjects_held (decode block.now) subjects.now) }
@@ -38,6 +38,9 @@ pub fn subjects_held(block: &[u8], subjects: &[u32]) -> Result<(), Refusal>
         subjects.iter().any(|s| *s >= enrolled),
     )?;
     let retired = block::retired(block);
+    if retired == 0 {
+        return Ok(());
+    }
     tested(
         Refusal::Retired,
         subjects.iter().any(|s| block::is_retired(retired, *s)),

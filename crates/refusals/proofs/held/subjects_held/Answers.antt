@@ -6,11 +6,13 @@ use Rattle.rules.specs.Bits.{is_set}
 use Rattle.rules.specs.List.{any}
 use Rattle.rules.specs.Register.{Register}
 use Rattle.rules.specs.Refusal.{not_enrolled, gone}
+use Rattle.rules.specs.Refused.{refused_with}
 use Rattle.rules.proofs.Lists.{list_any_any}
 use Rattle.block.specs.Block.{decode}
 use Rattle.block.proofs.Bytes.{fits_bytes}
 use Rattle.block.proofs.Held.{size_held, subjects_held_lem, retired_held}
 use Rattle.refusals.proofs.First.{refused_first, passed_first}
+use Rattle.refusals.proofs.Holding.{held_unretired}
 use Rattle.refusals.proofs.held.subjects_held.Goals as goal
 use Rattle.refusals.proofs.held.subjects_held.Goals.{After-tested}
 
@@ -37,6 +39,13 @@ returns-in_err-tested c =
 
 pub retired-retired-requires : goal.retired-retired-requires
 retired-retired-requires c = omega (arith, size_held c.args.block.now (fits_bytes c.args.block.now c.shared_slice_known-1.given) c.requires)
+
+pub returns-then-retired-eq0 : goal.returns-then-retired-eq0
+returns-then-retired-eq0 c =
+    let a = (goal.at.returns-then-retired-eq0 c).After-tested in
+    let b = c.args.block.now in
+    let bits = c.retired-retired.ensures ∙ sym (retired_held b (fits_bytes b c.shared_slice_known-1.given) c.requires) in
+    sym (ap refused_with c.in_ok-tested.was) ∙ nine a ∙ held_unretired (R a) c.args.subjects.now (sym bits ∙ c.if-retired-eq0.true)
 
 pub returns : goal.returns
 returns c =
