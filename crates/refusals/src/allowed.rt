@@ -8,8 +8,8 @@ ghost use Rattle.steptable.specs.Lent.{given_by, KeepsRule};
 ghost use Rattle.refusals.specs.Early.{refusal_on, order_refusal};
 
 use crate::{
-    downgrade_refusal, early, held, marks_refusal, order_refusal, passed, reach_refusal,
-    retire_refusal, revoke_refusal, steps_of,
+    downgrade_refusal, grant_refusal, marks_refusal, order_refusal, reach_refusal, retire_refusal,
+    revoke_refusal, steps_of,
 };
 use rules::Refusal;
 use steptable::{Table, fault};
@@ -95,7 +95,7 @@ pub fn order_allowed<'a>(
     steps_of(table)
 }
 
-// A grant goes by no steps but those of its own search.
+// A grant goes by no steps but those of its own search. Refused by its table's text, it looks at none.
 pub fn grant_allowed(
     block: &[u8],
     table: &Table,
@@ -109,7 +109,18 @@ pub fn grant_allowed(
     requires { KeepsRule table.now }
     ensures { refused_with result ≡ refusal_on (given_by table.now) block.now (grant (granted giver receiver weight need bar kind)) }
 {
-    let passed = passed::grant_passed(giver, receiver, weight, need, bar, kind);
-    let steps = early(block, passed, table)?;
-    held::grant_held(block, steps, giver, receiver, weight, need, bar, kind)
+    match table {
+        Ok(steps) => grant_refusal(block, steps, 0, giver, receiver, weight, need, bar, kind),
+        Err(_) => grant_refusal(
+            block,
+            &rules::steps(),
+            fault(table),
+            giver,
+            receiver,
+            weight,
+            need,
+            bar,
+            kind,
+        ),
+    }
 }
