@@ -81,8 +81,8 @@ fn text_passes(fault: u32) -> Result<(), Refusal>
     tested(Refusal::BadTable, fault == Refusal::BadTable.number())
 }
 
-// So, where the step table's text is refused with the number `fault`, or passes where that is another.
-fn early_told(block: &[u8], passed: Result<(), Refusal>, fault: u32) -> Result<(), Refusal>
+// As `early`, where the step table's text is refused with the number `fault`, or passes where that is another.
+pub fn early_told(block: &[u8], passed: Result<(), Refusal>, fault: u32) -> Result<(), Refusal>
     ensures { refused_with result ≡ first_of (wrong_length block.now ∷ (refused_with passed, not (eqb (refused_with passed) 0)) ∷ (text_refused fault ++ (not_well_formed block.now ∷ []))) }
 {
     sized(block)?;
