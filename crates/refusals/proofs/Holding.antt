@@ -66,6 +66,10 @@ held_joined R x y z =
     joined_first (three 9 (λ v. leb R.subjects v) x y z ++ three 19 (is_retired R) x y z) tt ∙ any_tests 9 (λ v. leb R.subjects v) (x ∷ y ∷ z ∷ []) (three 19 (is_retired R) x y z)
     ∙ ap (λ (n : ℕ). cond (any (λ v. leb R.subjects v) (x ∷ y ∷ z ∷ [])) 9 n) (any_tests 19 (is_retired R) (x ∷ y ∷ z ∷ []) [])
 
+-- so where nobody is retired
+pub three_unretired : (R : Register) (x y z : ℕ) → R.retired ≡ 0 → joined 0 (three 9 (λ v. leb R.subjects v) x y z) ≡ first_of (subjects_held R (x ∷ y ∷ z ∷ []))
+three_unretired R x y z e = joined_first (three 9 (λ v. leb R.subjects v) x y z) tt ∙ any_tests 9 (λ v. leb R.subjects v) (x ∷ y ∷ z ∷ []) [] ∙ held_unretired R (x ∷ y ∷ z ∷ []) e
+
 -- the pair stands, as the code tests it
 pub stands_test : (b : List ℕ) (bytes : IsBytes b) (formed : well_formed b ≡ true) (g r k : ℕ) → k ≡ leading (λ d. not (is_pair g r d)) (delegations_to b (count_in b)) → ltb k (count_in b) ≡ stands (decode b) g r
 stands_test b bytes formed g r k place = go (either (ltb k (count_in b)))

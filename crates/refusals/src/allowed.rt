@@ -95,7 +95,7 @@ pub fn order_allowed<'a>(
     steps_of(table)
 }
 
-// A grant goes by no steps but those of its own search. Refused by its table's text, it looks at none.
+// A grant goes by no steps but those of its own search. Where its text gives no table, it is refused before the steps are looked at, and is lent document 01's.
 pub fn grant_allowed(
     block: &[u8],
     table: &Table,
