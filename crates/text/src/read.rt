@@ -5,6 +5,12 @@ ghost use Rattle.text.specs.Read.{is_digit, has_sign, NumberRead, ValueRead, Lin
 
 use crate::{Found, MINUS, MOST, column_end};
 
+fn is_digit(byte: u8) -> bool
+    ensures { result ≡ is_digit byte }
+{
+    matches!(byte, b'0'..=b'9')
+}
+
 // The value of a digit.
 fn digit(byte: u8) -> Option<u64>
     ensures { MatchOption result (is_digit byte ≡ false) (λ d. (is_digit byte ≡ true) × (d ≡ byte - 48) × (d ≤ 9)) }
@@ -38,13 +44,13 @@ pub fn read_number(text: &[u8], at: usize, end: u8) -> Option<Found<u32>>
     let mut value = digit(first)?;
     for i in at + 1..text.len() {
         let byte = text[i];
-        let Some(d) = digit(byte) else {
+        if !is_digit(byte) {
             return ended(value, byte, end, i);
-        };
+        }
         if value == 0 {
             return None;
         }
-        value = value * 10 + d;
+        value = value * 10 + u64::from(byte - b'0');
         if value > MOST {
             return None;
         }
