@@ -82,7 +82,8 @@ fn run_text(rt: &impl Print, kind: Kind, text: &[u8]) -> io::Result<bool> {
     }
 }
 
-// What the program prints for a call file.
+// What the program prints for a call file. The space for that is on the stack only while this runs.
+#[inline(never)]
 fn print_calls(rt: &impl Print, text: &[u8]) -> io::Result<()> {
     let mut space = zeros();
     let n = callfile::run(text, &mut space).unwrap_or(0);
