@@ -69,7 +69,8 @@ fn kind_of(name: &[u8]) -> Kind {
     }
 }
 
-// Runs a text; false where it cannot be read to its end.
+// Runs a text; false where it cannot be read to its end. What it takes of the stack is taken only where there is a text.
+#[inline(never)]
 fn run_text(rt: &impl Print, kind: Kind, text: &[u8]) -> io::Result<bool> {
     match kind {
         Kind::Calls => {
@@ -82,8 +83,7 @@ fn run_text(rt: &impl Print, kind: Kind, text: &[u8]) -> io::Result<bool> {
     }
 }
 
-// What the program prints for a call file. The space for that is on the stack only while this runs.
-#[inline(never)]
+// What the program prints for a call file.
 fn print_calls(rt: &impl Print, text: &[u8]) -> io::Result<()> {
     let mut space = zeros();
     let n = callfile::run(text, &mut space).unwrap_or(0);
